@@ -1,0 +1,5 @@
+pub mod Range
+pub mod Bytes
+pub mod Flows
+pub mod Lines
+pub mod Digits

@@ -1,0 +1,16 @@
+//! Numbers within their ranges, names, texts, lists and lines, of which all other crates speak.
+#![tactic(auto)]
+
+pub mod digits;
+pub mod flow;
+pub mod interval;
+pub mod line;
+pub mod list;
+pub mod number;
+pub mod text;
+
+pub use flow::Flow;
+pub use interval::Interval;
+pub use list::List;
+pub use number::{AgentNo, Mbps, RecordNo, Second, StpNo, Version};
+pub use text::{Name, NameFault, Text, TextFault, is_name};

@@ -1,0 +1,247 @@
+//! Numbers within their ranges.
+
+ghost use Rattle.std.specs.Prelude.{◌≡◌, ◌≤◌};
+ghost use Rattle.nsi_base.specs.Range.{within};
+
+use std::marker::Model;
+
+/// A second of the time line on which schedules stand (GFD.237, the startTime and endTime of criteria).
+#[derive(Clone, Copy, Debug, PartialEq, Eq, PartialOrd, Ord)]
+pub struct Second {
+    value: u64,
+}
+
+impl Model for Second {
+    ghost use Rattle.std.specs.Prelude.{ℕ, ◌≤◌};
+
+    ghost Value = { ℕ };
+
+    ghost view = { λ n. n.value };
+
+    ghost invariant = { λ n. n.value ≤ 253370764799 };
+
+    ghost inverse = { λ n. record { value = n } };
+}
+
+impl Second {
+    /// The last second. An interval ends here at the latest.
+    pub const MAX: u64 = 253_370_764_799;
+
+    pub fn new(n: u64) -> Option<Self>
+        ensures { result ≡ within 0 Self.MAX n }
+    {
+        if n <= Self::MAX {
+            Some(Second { value: n })
+        } else {
+            None
+        }
+    }
+
+    pub fn get(self) -> u64
+        ensures value { result ≡ self }
+        ensures in_range { self ≤ Self.MAX }
+    {
+        self.value
+    }
+}
+
+/// A bandwidth in megabits per second.
+#[derive(Clone, Copy, Debug, PartialEq, Eq, PartialOrd, Ord)]
+pub struct Mbps {
+    value: u64,
+}
+
+impl Model for Mbps {
+    ghost use Rattle.std.specs.Prelude.{ℕ, ◌≤◌};
+
+    ghost Value = { ℕ };
+
+    ghost view = { λ n. n.value };
+
+    ghost invariant = { λ n. (1 ≤ n.value) × (n.value ≤ 1099511627776) };
+
+    ghost inverse = { λ n. record { value = n } };
+}
+
+impl Mbps {
+    /// The greatest bandwidth.
+    pub const MAX: u64 = 1_099_511_627_776;
+
+    pub fn new(n: u64) -> Option<Self>
+        ensures { result ≡ within 1 Self.MAX n }
+    {
+        if 1 <= n && n <= Self::MAX {
+            Some(Mbps { value: n })
+        } else {
+            None
+        }
+    }
+
+    pub fn get(self) -> u64
+        ensures value { result ≡ self }
+        ensures positive { 1 ≤ self }
+        ensures in_range { self ≤ Self.MAX }
+    {
+        self.value
+    }
+}
+
+/// The version of criteria (GFD.237, the version attribute of a reservation).
+#[derive(Clone, Copy, Debug, PartialEq, Eq, PartialOrd, Ord)]
+pub struct Version {
+    value: u32,
+}
+
+impl Model for Version {
+    ghost use Rattle.std.specs.Prelude.{ℕ, ◌≤◌};
+
+    ghost Value = { ℕ };
+
+    ghost view = { λ n. n.value };
+
+    ghost invariant = { λ n. n.value ≤ 2147483647 };
+
+    ghost inverse = { λ n. record { value = n } };
+}
+
+impl Version {
+    /// The last version.
+    pub const MAX: u32 = 2_147_483_647;
+
+    pub fn new(n: u32) -> Option<Self>
+        ensures { result ≡ within 0 Self.MAX n }
+    {
+        if n <= Self::MAX {
+            Some(Version { value: n })
+        } else {
+            None
+        }
+    }
+
+    pub fn get(self) -> u32
+        ensures value { result ≡ self }
+        ensures in_range { self ≤ Self.MAX }
+    {
+        self.value
+    }
+}
+
+/// The place of an agent in the order of declaration.
+#[derive(Clone, Copy, Debug, PartialEq, Eq, PartialOrd, Ord)]
+pub struct AgentNo {
+    value: u16,
+}
+
+impl Model for AgentNo {
+    ghost use Rattle.std.specs.Prelude.{ℕ, ◌≤◌};
+
+    ghost Value = { ℕ };
+
+    ghost view = { λ n. n.value };
+
+    ghost invariant = { λ n. n.value ≤ 63 };
+
+    ghost inverse = { λ n. record { value = n } };
+}
+
+impl AgentNo {
+    /// The place of the last agent that a topology can have.
+    pub const MAX: u16 = 63;
+
+    pub fn new(n: u16) -> Option<Self>
+        ensures { result ≡ within 0 Self.MAX n }
+    {
+        if n <= Self::MAX {
+            Some(AgentNo { value: n })
+        } else {
+            None
+        }
+    }
+
+    pub fn get(self) -> u16
+        ensures value { result ≡ self }
+        ensures in_range { self ≤ Self.MAX }
+    {
+        self.value
+    }
+}
+
+/// The place of a service termination point in the order of declaration.
+#[derive(Clone, Copy, Debug, PartialEq, Eq, PartialOrd, Ord)]
+pub struct StpNo {
+    value: u16,
+}
+
+impl Model for StpNo {
+    ghost use Rattle.std.specs.Prelude.{ℕ, ◌≤◌};
+
+    ghost Value = { ℕ };
+
+    ghost view = { λ n. n.value };
+
+    ghost invariant = { λ n. n.value ≤ 4095 };
+
+    ghost inverse = { λ n. record { value = n } };
+}
+
+impl StpNo {
+    /// The place of the last point that a topology can have.
+    pub const MAX: u16 = 4_095;
+
+    pub fn new(n: u16) -> Option<Self>
+        ensures { result ≡ within 0 Self.MAX n }
+    {
+        if n <= Self::MAX {
+            Some(StpNo { value: n })
+        } else {
+            None
+        }
+    }
+
+    pub fn get(self) -> u16
+        ensures value { result ≡ self }
+        ensures in_range { self ≤ Self.MAX }
+    {
+        self.value
+    }
+}
+
+/// The number of a record, in the order in which an agent made them.
+#[derive(Clone, Copy, Debug, PartialEq, Eq, PartialOrd, Ord)]
+pub struct RecordNo {
+    value: u32,
+}
+
+impl Model for RecordNo {
+    ghost use Rattle.std.specs.Prelude.{ℕ, ◌≤◌};
+
+    ghost Value = { ℕ };
+
+    ghost view = { λ n. n.value };
+
+    ghost invariant = { λ n. n.value ≤ 4194303 };
+
+    ghost inverse = { λ n. record { value = n } };
+}
+
+impl RecordNo {
+    /// The number of the last record that an agent can make.
+    pub const MAX: u32 = 4_194_303;
+
+    pub fn new(n: u32) -> Option<Self>
+        ensures { result ≡ within 0 Self.MAX n }
+    {
+        if n <= Self::MAX {
+            Some(RecordNo { value: n })
+        } else {
+            None
+        }
+    }
+
+    pub fn get(self) -> u32
+        ensures value { result ≡ self }
+        ensures in_range { self ≤ Self.MAX }
+    {
+        self.value
+    }
+}
