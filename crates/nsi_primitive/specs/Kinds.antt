@@ -1,0 +1,76 @@
+-- The names of kinds, errors and directions.
+use Rattle.std.specs.Prelude.{ℕ, List, Bool, true, false, codes}
+use Rattle.nsi_primitive.specs.declared.kind.Kind.{Kind}
+use Rattle.nsi_primitive.specs.declared.kind.ErrorName.{ErrorName}
+use Rattle.nsi_primitive.specs.declared.kind.Directionality.{Directionality}
+
+-- the standard's name of a primitive
+unfoldable pub kind_name : Kind → List ℕ
+kind_name Kind.Reserve = codes "reserve"
+kind_name Kind.ReserveResponse = codes "reserveResponse"
+kind_name Kind.ReserveConfirmed = codes "reserveConfirmed"
+kind_name Kind.ReserveFailed = codes "reserveFailed"
+kind_name Kind.ReserveCommit = codes "reserveCommit"
+kind_name Kind.ReserveCommitConfirmed = codes "reserveCommitConfirmed"
+kind_name Kind.ReserveCommitFailed = codes "reserveCommitFailed"
+kind_name Kind.ReserveAbort = codes "reserveAbort"
+kind_name Kind.ReserveAbortConfirmed = codes "reserveAbortConfirmed"
+kind_name Kind.Provision = codes "provision"
+kind_name Kind.ProvisionConfirmed = codes "provisionConfirmed"
+kind_name Kind.Release = codes "release"
+kind_name Kind.ReleaseConfirmed = codes "releaseConfirmed"
+kind_name Kind.Terminate = codes "terminate"
+kind_name Kind.TerminateConfirmed = codes "terminateConfirmed"
+kind_name Kind.Error = codes "error"
+kind_name Kind.ReserveTimeout = codes "reserveTimeout"
+kind_name Kind.ErrorEvent = codes "errorEvent"
+kind_name Kind.DataPlaneStateChange = codes "dataPlaneStateChange"
+kind_name Kind.MessageDeliveryTimeout = codes "messageDeliveryTimeout"
+kind_name Kind.QuerySummary = codes "querySummary"
+kind_name Kind.QuerySummaryConfirmed = codes "querySummaryConfirmed"
+kind_name Kind.QueryNotification = codes "queryNotification"
+kind_name Kind.QueryNotificationConfirmed = codes "queryNotificationConfirmed"
+kind_name Kind.QueryResult = codes "queryResult"
+kind_name Kind.QueryResultConfirmed = codes "queryResultConfirmed"
+kind_name Kind.QueryRecursive = codes "queryRecursive"
+kind_name Kind.QueryRecursiveConfirmed = codes "queryRecursiveConfirmed"
+
+-- the requests of the standard
+abbrev pub is_request_kind : Kind → Bool
+is_request_kind Kind.Reserve = true
+is_request_kind Kind.ReserveCommit = true
+is_request_kind Kind.ReserveAbort = true
+is_request_kind Kind.Provision = true
+is_request_kind Kind.Release = true
+is_request_kind Kind.Terminate = true
+is_request_kind Kind.QuerySummary = true
+is_request_kind Kind.QueryNotification = true
+is_request_kind Kind.QueryResult = true
+is_request_kind Kind.QueryRecursive = true
+is_request_kind _ = false
+
+-- an error's name in a line
+unfoldable pub error_text : ErrorName → List ℕ
+error_text ErrorName.Payload = codes "PAYLOAD"
+error_text ErrorName.Version = codes "VERSION"
+error_text ErrorName.WrongProvider = codes "WRONG_PROVIDER"
+error_text ErrorName.Nonexistent = codes "NONEXISTENT"
+error_text ErrorName.Gone = codes "GONE"
+error_text ErrorName.InvalidTransition = codes "INVALID_TRANSITION"
+error_text ErrorName.VersionLow = codes "VERSION_LOW"
+error_text ErrorName.UnknownStp = codes "UNKNOWN_STP"
+error_text ErrorName.Schedule = codes "SCHEDULE"
+error_text ErrorName.Bandwidth = codes "BANDWIDTH"
+error_text ErrorName.Passed = codes "PASSED"
+error_text ErrorName.NoPath = codes "NO_PATH"
+error_text ErrorName.Child = codes "CHILD"
+error_text ErrorName.Timeout = codes "TIMEOUT"
+
+-- a directionality's name in a line
+unfoldable pub direction_text : Directionality → List ℕ
+direction_text Directionality.Bidirectional = codes "Bidirectional"
+direction_text Directionality.Unidirectional = codes "Unidirectional"
+
+abbrev pub is_both_ways : Directionality → Bool
+is_both_ways Directionality.Bidirectional = true
+is_both_ways Directionality.Unidirectional = false

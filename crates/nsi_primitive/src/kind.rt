@@ -1,0 +1,170 @@
+//! The kinds of primitives, the names of errors, and directions.
+
+ghost use Rattle.std.specs.Prelude.{◌≡◌};
+
+/// A primitive of the Connection Service (GFD.237, section 8). Each kind is written by the standard's name.
+#[derive(Clone, Copy, Debug, PartialEq, Eq)]
+pub enum Kind {
+    Reserve,
+    ReserveResponse,
+    ReserveConfirmed,
+    ReserveFailed,
+    ReserveCommit,
+    ReserveCommitConfirmed,
+    ReserveCommitFailed,
+    ReserveAbort,
+    ReserveAbortConfirmed,
+    Provision,
+    ProvisionConfirmed,
+    Release,
+    ReleaseConfirmed,
+    Terminate,
+    TerminateConfirmed,
+    Error,
+    ReserveTimeout,
+    ErrorEvent,
+    DataPlaneStateChange,
+    MessageDeliveryTimeout,
+    QuerySummary,
+    QuerySummaryConfirmed,
+    QueryNotification,
+    QueryNotificationConfirmed,
+    QueryResult,
+    QueryResultConfirmed,
+    QueryRecursive,
+    QueryRecursiveConfirmed,
+}
+
+impl Kind {
+    ghost use Rattle.nsi_primitive.specs.Kinds.{kind_name, is_request_kind};
+
+    /// The name by which the kind is written.
+    #[tactic(auto, unfolding(crate::specs::Kinds::kind_name))]
+    pub fn name(self) -> &'static str
+        ensures { result.now ≡ kind_name self }
+    {
+        match self {
+            Kind::Reserve => "reserve",
+            Kind::ReserveResponse => "reserveResponse",
+            Kind::ReserveConfirmed => "reserveConfirmed",
+            Kind::ReserveFailed => "reserveFailed",
+            Kind::ReserveCommit => "reserveCommit",
+            Kind::ReserveCommitConfirmed => "reserveCommitConfirmed",
+            Kind::ReserveCommitFailed => "reserveCommitFailed",
+            Kind::ReserveAbort => "reserveAbort",
+            Kind::ReserveAbortConfirmed => "reserveAbortConfirmed",
+            Kind::Provision => "provision",
+            Kind::ProvisionConfirmed => "provisionConfirmed",
+            Kind::Release => "release",
+            Kind::ReleaseConfirmed => "releaseConfirmed",
+            Kind::Terminate => "terminate",
+            Kind::TerminateConfirmed => "terminateConfirmed",
+            Kind::Error => "error",
+            Kind::ReserveTimeout => "reserveTimeout",
+            Kind::ErrorEvent => "errorEvent",
+            Kind::DataPlaneStateChange => "dataPlaneStateChange",
+            Kind::MessageDeliveryTimeout => "messageDeliveryTimeout",
+            Kind::QuerySummary => "querySummary",
+            Kind::QuerySummaryConfirmed => "querySummaryConfirmed",
+            Kind::QueryNotification => "queryNotification",
+            Kind::QueryNotificationConfirmed => "queryNotificationConfirmed",
+            Kind::QueryResult => "queryResult",
+            Kind::QueryResultConfirmed => "queryResultConfirmed",
+            Kind::QueryRecursive => "queryRecursive",
+            Kind::QueryRecursiveConfirmed => "queryRecursiveConfirmed",
+        }
+    }
+
+    /// Whether an agent asks for something by it. Every other kind goes from the provider to the requester.
+    pub fn is_request(self) -> bool
+        ensures { result ≡ is_request_kind self }
+    {
+        matches!(
+            self,
+            Kind::Reserve
+                | Kind::ReserveCommit
+                | Kind::ReserveAbort
+                | Kind::Provision
+                | Kind::Release
+                | Kind::Terminate
+                | Kind::QuerySummary
+                | Kind::QueryNotification
+                | Kind::QueryResult
+                | Kind::QueryRecursive
+        )
+    }
+}
+
+/// Why a request was refused. The names are this project's own; the standard gives numbers.
+#[derive(Clone, Copy, Debug, PartialEq, Eq)]
+pub enum ErrorName {
+    Payload,
+    Version,
+    WrongProvider,
+    Nonexistent,
+    Gone,
+    InvalidTransition,
+    VersionLow,
+    UnknownStp,
+    Schedule,
+    Bandwidth,
+    Passed,
+    NoPath,
+    Child,
+    Timeout,
+}
+
+impl ErrorName {
+    ghost use Rattle.nsi_primitive.specs.Kinds.{error_text};
+
+    /// The name by which the error is written.
+    #[tactic(auto, unfolding(crate::specs::Kinds::error_text))]
+    pub fn text(self) -> &'static str
+        ensures { result.now ≡ error_text self }
+    {
+        match self {
+            ErrorName::Payload => "PAYLOAD",
+            ErrorName::Version => "VERSION",
+            ErrorName::WrongProvider => "WRONG_PROVIDER",
+            ErrorName::Nonexistent => "NONEXISTENT",
+            ErrorName::Gone => "GONE",
+            ErrorName::InvalidTransition => "INVALID_TRANSITION",
+            ErrorName::VersionLow => "VERSION_LOW",
+            ErrorName::UnknownStp => "UNKNOWN_STP",
+            ErrorName::Schedule => "SCHEDULE",
+            ErrorName::Bandwidth => "BANDWIDTH",
+            ErrorName::Passed => "PASSED",
+            ErrorName::NoPath => "NO_PATH",
+            ErrorName::Child => "CHILD",
+            ErrorName::Timeout => "TIMEOUT",
+        }
+    }
+}
+
+/// Whether a connection carries traffic both ways (GFD.237, directionality).
+#[derive(Clone, Copy, Debug, PartialEq, Eq)]
+pub enum Directionality {
+    Bidirectional,
+    Unidirectional,
+}
+
+impl Directionality {
+    ghost use Rattle.nsi_primitive.specs.Kinds.{direction_text, is_both_ways};
+
+    /// The name by which the directionality is written.
+    #[tactic(auto, unfolding(crate::specs::Kinds::direction_text))]
+    pub fn text(self) -> &'static str
+        ensures { result.now ≡ direction_text self }
+    {
+        match self {
+            Directionality::Bidirectional => "Bidirectional",
+            Directionality::Unidirectional => "Unidirectional",
+        }
+    }
+
+    pub fn is_both_ways(self) -> bool
+        ensures { result ≡ is_both_ways self }
+    {
+        matches!(self, Directionality::Bidirectional)
+    }
+}

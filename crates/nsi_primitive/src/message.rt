@@ -1,0 +1,166 @@
+//! Messages: a header and a body (GFD.237, section 8).
+
+ghost use Rattle.std.specs.Prelude.{◌≡◌, IfOk};
+ghost use Rattle.nsi_primitive.specs.Messages.{kind_of, identity};
+
+use crate::id::Id;
+use crate::kind::{Directionality, ErrorName, Kind};
+use nsi_base::{Flow, Interval, Mbps, Name, Second, Text, Version};
+use std::alloc::AllocError;
+
+/// Who asks whom, and under which correlationId. An answer has the header of its request.
+#[derive(Debug, Drop)]
+pub struct Header {
+    pub correlation: Id,
+    pub requester: Name,
+    pub provider: Name,
+}
+
+impl Header {
+    pub fn copy(&self) -> Result<Header, AllocError>
+        ensures { IfOk result (λ h. h ≡ self.now) }
+    {
+        Ok(Header {
+            correlation: self.correlation,
+            requester: self.requester.copy()?,
+            provider: self.provider.copy()?,
+        })
+    }
+}
+
+/// When, and how much, under which version.
+#[derive(Clone, Copy, Debug, PartialEq, Eq)]
+pub struct Criteria {
+    pub version: Version,
+    pub interval: Interval,
+    pub capacity: Mbps,
+}
+
+/// Between which points, and how (GFD.237, the point-to-point service).
+#[derive(Debug, Drop)]
+pub struct Service {
+    pub source: Name,
+    pub dest: Name,
+    pub directionality: Directionality,
+    pub symmetric: Option<bool>,
+    pub global: Option<Text>,
+    pub description: Option<Text>,
+}
+
+/// Why a request failed. `Plain` has a name without further keys, so neither `Bandwidth` nor `Child`.
+#[derive(Debug, Drop)]
+pub enum Cause {
+    Plain(ErrorName),
+    /// The first second at which a point lacks bandwidth in a direction, with the load of the others there, in Mbps.
+    Bandwidth {
+        stp: Name,
+        flow: Flow,
+        second: Second,
+        load: u64,
+        capacity: Mbps,
+    },
+    /// A child refused, and why.
+    Child {
+        child: Name,
+        error: ErrorName,
+    },
+}
+
+/// The agent that refused, and why (GFD.237, serviceException).
+#[derive(Debug, Drop)]
+pub struct Exception {
+    pub nsa: Name,
+    pub cause: Cause,
+}
+
+/// What a requester asks. Without a connection it is a first reserve, which names both points; with one it is a
+/// modification.
+#[derive(Debug, Drop)]
+pub struct ReserveRequest {
+    pub capacity: Mbps,
+    pub connection: Option<Id>,
+    pub description: Option<Text>,
+    pub dest: Option<Name>,
+    pub directionality: Option<Directionality>,
+    pub end: Second,
+    pub global: Option<Text>,
+    pub source: Option<Name>,
+    pub start: Second,
+    pub symmetric: Option<bool>,
+    pub version: Option<Version>,
+}
+
+/// What a provider holds for its requester until it is committed.
+#[derive(Debug, Drop)]
+pub struct ReserveConfirmation {
+    pub capacity: Mbps,
+    pub connection: Id,
+    pub description: Option<Text>,
+    pub dest: Name,
+    pub directionality: Directionality,
+    pub end: Second,
+    pub global: Option<Text>,
+    pub source: Name,
+    pub start: Second,
+    pub symmetric: Option<bool>,
+    pub version: Version,
+}
+
+/// What a message says, by its kind.
+#[derive(Debug, Drop)]
+pub enum Body {
+    Reserve(ReserveRequest),
+    ReserveResponse {
+        connection: Id,
+    },
+    ReserveConfirmed(ReserveConfirmation),
+    ReserveFailed {
+        connection: Id,
+        exception: Exception,
+    },
+    Error {
+        connection: Option<Id>,
+        exception: Exception,
+    },
+}
+
+/// A primitive on its way from one agent to another.
+#[derive(Debug, Drop)]
+pub struct Message {
+    pub header: Header,
+    pub body: Body,
+}
+
+/// By which a message is known: two of one identity are the same message.
+#[derive(Debug, Drop)]
+pub struct Identity {
+    pub requester: Name,
+    pub provider: Name,
+    pub correlation: Id,
+    pub kind: Kind,
+}
+
+impl Message {
+    pub fn kind(&self) -> Kind
+        ensures { result ≡ kind_of self.now.body }
+    {
+        match &self.body {
+            Body::Reserve(_) => Kind::Reserve,
+            Body::ReserveResponse { .. } => Kind::ReserveResponse,
+            Body::ReserveConfirmed(_) => Kind::ReserveConfirmed,
+            Body::ReserveFailed { .. } => Kind::ReserveFailed,
+            Body::Error { .. } => Kind::Error,
+        }
+    }
+
+    pub fn identity(&self) -> Result<Identity, AllocError>
+        ensures { IfOk result (λ i. i ≡ identity self.now) }
+    {
+        Ok(Identity {
+            requester: self.header.requester.copy()?,
+            provider: self.header.provider.copy()?,
+            correlation: self.header.correlation,
+            kind: self.kind(),
+        })
+    }
+}
