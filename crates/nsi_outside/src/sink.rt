@@ -1,0 +1,109 @@
+//! Where bytes go.
+
+ghost use Rattle.std.specs.Prelude.{◌≡◌, ◌<◌, ◌≤◌, ◌++◌, ℕ, length, IfOk, OnErr, OnOk, IfSome, IsErrOf, List, Option, Some, take, []};
+
+use std::alloc::Global;
+use std::marker::Model;
+
+/// Why a write was not made. It appended nothing.
+#[derive(Clone, Copy, Debug, PartialEq, Eq)]
+pub enum SinkError {
+    Failed,
+    NoMemory,
+}
+
+/// Where bytes go.
+pub trait Sink {
+    ghost use Rattle.nsi_outside.specs.Stream.{Writes};
+
+    /// What was written, where it is told. A sink that tells goes on telling.
+    ghost content: { Self → Option (List ℕ) };
+
+    /// How often it has failed.
+    ghost faults: { Self → ℕ };
+
+    /// Appends a front of the piece, and says how long it was.
+    fn write(&mut self, piece: &[u8]) -> Result<usize, SinkError>
+        requires { 0 < length piece.now }
+        ensures positive { IfOk result (λ n. 0 < n) }
+        ensures within { IfOk result (λ n. n ≤ length piece.now) }
+        ensures bytes { Writes (content self.old) (content self.new) piece.now result }
+        ensures failed { IsErrOf result SinkError.Failed → faults self.old < faults self.new }
+        ensures counted { faults self.old ≤ faults self.new };
+}
+
+/// Bytes in memory. The listed calls fail, once each.
+#[derive(Debug, Drop)]
+pub struct MemorySink {
+    bytes: Vec<u8>,
+    calls: u64,
+    failing: Vec<u64>,
+    faults: u64,
+}
+
+impl Model for MemorySink {
+    ghost use Rattle.std.specs.Prelude.{◌≤◌, ℕ, List};
+    ghost use Rattle.nsi_outside.specs.Stream.{Told};
+
+    ghost Value = { Told };
+
+    ghost view = { λ s. record { bytes = s.bytes.items; faults = s.faults } };
+
+    ghost invariant = { λ s. s.faults ≤ s.calls };
+}
+
+impl MemorySink {
+    /// Nothing yet. The calls with these numbers, counted from 1, fail.
+    pub fn new(alloc: Global, failing: Vec<u64>) -> MemorySink
+        ensures bytes { result.bytes ≡ [] }
+        ensures faults { result.faults ≡ 0 }
+    {
+        MemorySink {
+            bytes: Vec::new(alloc),
+            calls: 0,
+            failing,
+            faults: 0,
+        }
+    }
+
+    pub fn bytes(&self) -> &[u8]
+        ensures { result.now ≡ self.now.bytes }
+    {
+        &self.bytes
+    }
+}
+
+impl Sink for MemorySink {
+    ghost content = { λ s. Some s.bytes };
+
+    ghost faults = { λ s. s.faults };
+
+    fn write(&mut self, piece: &[u8]) -> Result<usize, SinkError> {
+        if self.calls < u64::MAX {
+            self.calls += 1;
+            if self.failing.contains(&self.calls) {
+                self.faults += 1;
+                return Err(SinkError::Failed);
+            }
+        }
+        if self.bytes.extend_from_slice(piece).is_err() {
+            return Err(SinkError::NoMemory);
+        }
+        Ok(piece.len())
+    }
+}
+
+/// Writes all of the bytes, or after an error some front of them.
+pub fn write_all<K: Sink>(out: &mut K, bytes: &[u8]) -> Result<(), SinkError>
+    ensures all { OnOk result (IfSome (K.content out.old) (λ old. K.content out.new ≡ Some (old ++ bytes.now))) }
+    ensures front { OnErr result (IfSome (K.content out.old) (λ old. (k : ℕ) × (K.content out.new ≡ Some (old ++ take k bytes.now)))) }
+    ensures failed { IsErrOf result SinkError.Failed → K.faults out.old < K.faults out.new }
+    ensures counted { K.faults out.old ≤ K.faults out.new }
+{
+    let mut written = 0;
+    while written < bytes.len() {
+        let (_, rest) = bytes.split_at(written);
+        written += out.write(rest)?;
+    }
+    Ok(())
+}

@@ -1,0 +1,94 @@
+//! Where bytes come from.
+
+ghost use Rattle.std.specs.Prelude.{◌≡◌, ◌<◌, ◌≤◌, ℕ, length, IfOk, OnErr, List, Option, Some, drop, take, min};
+
+use std::marker::Model;
+
+/// A read failed. It took nothing, and the source is as before but for its count of faults.
+#[derive(Clone, Copy, Debug, PartialEq, Eq)]
+pub struct ReadFailed;
+
+/// Where bytes come from.
+pub trait Source {
+    ghost use Rattle.nsi_outside.specs.Stream.{Reads};
+
+    /// The bytes that are left, where they are told. A source that tells goes on telling.
+    ghost left: { Self → Option (List ℕ) };
+
+    /// How often it has failed.
+    ghost faults: { Self → ℕ };
+
+    /// Hands out the next bytes, into the front of the buffer, and says how many. None come only at the end.
+    fn read(&mut self, buffer: &mut [u8]) -> Result<usize, ReadFailed>
+        requires { 0 < length buffer.old }
+        ensures within { IfOk result (λ n. n ≤ length buffer.old) }
+        ensures bytes { Reads (left self.old) (left self.new) buffer.new result }
+        ensures failed { OnErr result (faults self.old < faults self.new) }
+        ensures counted { faults self.old ≤ faults self.new };
+}
+
+/// Bytes in memory. The listed calls fail, once each.
+#[derive(Debug, Drop)]
+pub struct MemorySource {
+    bytes: Vec<u8>,
+    place: usize,
+    calls: u64,
+    failing: Vec<u64>,
+    faults: u64,
+}
+
+impl Model for MemorySource {
+    ghost use Rattle.std.specs.Prelude.{◌≤◌, ℕ, List, drop, vec_len};
+    ghost use Rattle.nsi_outside.specs.Stream.{Told};
+
+    ghost Value = { Told };
+
+    ghost view = { λ s. record { bytes = drop s.place s.bytes.items; faults = s.faults } };
+
+    ghost invariant = { λ s. (s.place ≤ vec_len s.bytes) × (s.faults ≤ s.calls) };
+}
+
+impl MemorySource {
+    /// The bytes, of which the calls with these numbers, counted from 1, fail.
+    pub fn new(bytes: Vec<u8>, failing: Vec<u64>) -> MemorySource
+        ensures bytes { result.bytes ≡ bytes.items }
+        ensures faults { result.faults ≡ 0 }
+    {
+        MemorySource {
+            bytes,
+            place: 0,
+            calls: 0,
+            failing,
+            faults: 0,
+        }
+    }
+}
+
+impl Source for MemorySource {
+    ghost left = { λ s. Some s.bytes };
+
+    ghost faults = { λ s. s.faults };
+
+    fn read(&mut self, buffer: &mut [u8]) -> Result<usize, ReadFailed> {
+        if self.calls < u64::MAX {
+            self.calls += 1;
+            if self.failing.contains(&self.calls) {
+                self.faults += 1;
+                return Err(ReadFailed);
+            }
+        }
+        let n = copy_front(&self.bytes[self.place..], buffer);
+        self.place += n;
+        Ok(n)
+    }
+}
+
+/// Copies as many bytes as there are and as fit, and says how many.
+fn copy_front(left: &[u8], buffer: &mut [u8]) -> usize
+    ensures within { result ≡ min (length left.now) (length buffer.old) }
+    ensures bytes { take result buffer.new ≡ take result left.now }
+{
+    let n = left.len().min(buffer.len());
+    buffer[..n].copy_from_slice(&left[..n]);
+    n
+}
