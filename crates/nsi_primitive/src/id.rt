@@ -24,6 +24,15 @@ impl Model for Id {
     ghost inverse = { λ n. record { value = n } };
 }
 
+impl Id {
+    /// The id as a number, of which the first byte of the UUID is the highest.
+    pub fn number(self) -> u128
+        ensures { result ≡ self }
+    {
+        self.value
+    }
+}
+
 /// Why a text was not taken as an id.
 #[derive(Clone, Copy, Debug, PartialEq, Eq)]
 pub enum IdFault {
