@@ -1,0 +1,4 @@
+pub mod Given
+pub mod Held
+pub mod Kept
+pub mod Next
