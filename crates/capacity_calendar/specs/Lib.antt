@@ -1,0 +1,4 @@
+pub mod Load
+pub mod Lack
+pub mod Plan
+pub mod Search

@@ -1,0 +1,117 @@
+-- What a calendar stands for.
+use Rattle.std.specs.Prelude.{◌≡◌, ◌≤◌, ◌<◌, ℕ, ◌+◌, ◌==◌, ◌&&◌, Bool, true, false, List, [], ◌∷◌, ◌++◌, map, find, is_some, if◌then◌else◌, Option, Some, None, option_and_then}
+use Rattle.nsi_base.specs.Range.{Span, is_covered}
+use Rattle.nsi_base.specs.Flows.{books}
+use Rattle.nsi_base.specs.declared.flow.Flow.{Flow}
+use Rattle.nsi_base.specs.declared.flow.Flow.TheVariants.{Both, In, Out}
+use Rattle.capacity_calendar.specs.declared.booking.Booking.{Booking}
+use Rattle.capacity_calendar.specs.declared.booking.Capacity.{Capacity}
+use Rattle.capacity_calendar.specs.declared.booking.Lack.{Lack}
+use Rattle.capacity_calendar.specs.declared.booking.Place.{Place}
+use Rattle.capacity_calendar.specs.declared.booking.Slot.{Slot}
+use Rattle.capacity_calendar.specs.Load.{load, others}
+use Rattle.capacity_calendar.specs.Lack.{first_lack_among}
+
+-- the capacities of termination points, and what each record has booked of them
+pub record Plan : Type 0 where
+  pub capacities : List Capacity
+  pub bookings : List Booking
+
+-- whether the two are the same flow
+abbrev pub is_same_flow : Flow → Flow → Bool
+is_same_flow Both Both = true
+is_same_flow In In = true
+is_same_flow Out Out = true
+is_same_flow _ _ = false
+
+-- the capacity of a flow of a termination point, where the point has the flow
+abbrev pub capacity_at : List Capacity → ℕ → Flow → Option ℕ
+capacity_at [] stp flow = None
+capacity_at (c ∷ cs) stp flow = if (c.stp == stp) && is_same_flow c.flow flow then Some c.mbps else capacity_at cs stp flow
+
+-- the place of a flow, where the point has the flow and it is booked
+abbrev pub place_if : Option ℕ → ℕ → Flow → Bool → List Place
+place_if None stp flow booked = []
+place_if (Some capacity) stp flow booked = if booked then record { stp = stp; flow = flow; capacity = capacity } ∷ [] else []
+
+-- the place that a connection books of a flow of a termination point, if it books it
+abbrev pub booked_place : List Capacity → (source dest : ℕ) → (both_ways : Bool) → ℕ → Flow → List Place
+booked_place capacities source dest both_ways stp flow = place_if (capacity_at capacities stp flow) stp flow (books flow both_ways (source == stp) (dest == stp))
+
+-- the places that a connection books at a termination point: the shared flow, then in, then out
+abbrev pub places_at : List Capacity → (source dest : ℕ) → (both_ways : Bool) → ℕ → List Place
+places_at capacities source dest both_ways stp =
+    booked_place capacities source dest both_ways stp Both ++ (booked_place capacities source dest both_ways stp In ++ booked_place capacities source dest both_ways stp Out)
+
+-- the places that a connection books, those of the source first
+unfoldable pub places : List Capacity → (source dest : ℕ) → (both_ways : Bool) → List Place
+places capacities source dest both_ways = places_at capacities source dest both_ways source ++ places_at capacities source dest both_ways dest
+
+-- the first lack of what a record asks between two points: the least second, there the source before the destination, and in before out
+abbrev pub first_lack : Plan → (number source dest : ℕ) → (both_ways : Bool) → Span → (mbps : ℕ) → Option Lack
+first_lack plan number source dest both_ways span mbps = first_lack_among (places plan.capacities source dest both_ways) (others number plan.bookings) span mbps
+
+-- the first lack of what a record asks of one flow of a termination point
+abbrev pub first_lack_at : Plan → (number stp : ℕ) → Flow → Span → (mbps : ℕ) → Option Lack
+first_lack_at plan number stp flow span mbps = first_lack_among (place_if (capacity_at plan.capacities stp flow) stp flow true) (others number plan.bookings) span mbps
+
+-- At each second of the span there is room beside the other records.
+abbrev pub Fits : Plan → (number stp : ℕ) → Flow → Span → (mbps : ℕ) → Type 0
+Fits plan number stp flow span mbps =
+    (t capacity : ℕ) → is_covered span t ≡ true → capacity_at plan.capacities stp flow ≡ Some capacity → load flow stp t (others number plan.bookings) + mbps ≤ capacity
+
+-- the first second of the span without room, and the others' load there
+pub record IsFirstLack (plan : Plan) (number stp : ℕ) (flow : Flow) (span : Span) (mbps : ℕ) (lack : Lack) : Type 0 where
+  pub stp_is : lack.stp ≡ stp
+  pub flow_is : lack.flow ≡ flow
+  pub capacity_is : capacity_at plan.capacities stp flow ≡ Some lack.capacity
+  pub covered : is_covered span lack.second ≡ true
+  pub load_is : lack.load ≡ load flow stp lack.second (others number plan.bookings)
+  pub lacking : lack.capacity < lack.load + mbps
+  pub before : (t : ℕ) → span.start ≤ t → t < lack.second → load flow stp t (others number plan.bookings) + mbps ≤ lack.capacity
+
+-- No load passes a capacity.
+abbrev pub IsWithin : Plan → Type 0
+IsWithin plan = (flow : Flow) (stp t capacity : ℕ) → capacity_at plan.capacities stp flow ≡ Some capacity → load flow stp t plan.bookings ≤ capacity
+
+-- the booking of a record, where it has one
+abbrev pub booking_of : ℕ → List Booking → Option Booking
+booking_of number bookings = find (λ b. b.number == number) bookings
+
+-- Each record has one booking at most.
+abbrev pub HasOneEach : List Booking → Type 0
+HasOneEach [] = Unit {0}
+HasOneEach (b ∷ bs) = (booking_of b.number bs ≡ None) × HasOneEach bs
+
+-- what holds of each calendar
+pub record IsSound (plan : Plan) : Type 0 where
+  pub within : IsWithin plan
+  pub one_each : HasOneEach plan.bookings
+
+-- the slot that a record has pending, where it has one
+abbrev pub pending_of : ℕ → List Booking → Option Slot
+pending_of number bookings = option_and_then (λ b. b.pending) (booking_of number bookings)
+
+-- a booking between these points, with this direction
+pub record IsBetween (source dest : ℕ) (both_ways : Bool) (b : Booking) : Type 0 where
+  pub source_is : b.source ≡ source
+  pub dest_is : b.dest ≡ dest
+  pub both_ways_is : b.both_ways ≡ both_ways
+
+-- the bookings, of which the record's is changed
+abbrev pub changed : ℕ → (Booking → Booking) → List Booking → List Booking
+changed number f bookings = map (λ b. if b.number == number then f b else b) bookings
+
+-- the bookings with this slot pending for the record, or with none
+abbrev pub pending_set : ℕ → Option Slot → List Booking → List Booking
+pending_set number slot bookings = changed number (λ b. record b { pending = slot }) bookings
+
+-- the bookings with a slot more, pending for the record: in its booking, or in a new one behind the others
+abbrev pub with_pending : (number source dest : ℕ) → (both_ways : Bool) → Slot → List Booking → List Booking
+with_pending number source dest both_ways slot bookings =
+    if is_some (booking_of number bookings) then pending_set number (Some slot) bookings
+    else bookings ++ record { number = number; source = source; dest = dest; both_ways = both_ways; committed = None; pending = Some slot } ∷ []
+
+-- the bookings, of which the record's pending slot is committed in place of the former
+abbrev pub settled : ℕ → List Booking → List Booking
+settled number bookings = changed number (λ b. record b { committed = b.pending; pending = None }) bookings

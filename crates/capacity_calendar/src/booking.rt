@@ -1,0 +1,58 @@
+//! What is booked between two service termination points.
+
+use nsi_base::{Flow, Interval, Mbps, RecordNo, Second, StpNo};
+
+/// What a flow of a service termination point can carry.
+#[derive(Clone, Copy, Debug, PartialEq, Eq)]
+pub struct Capacity {
+    pub stp: StpNo,
+    pub flow: Flow,
+    pub mbps: Mbps,
+}
+
+/// A bandwidth over an interval.
+#[derive(Clone, Copy, Debug, PartialEq, Eq)]
+pub struct Slot {
+    pub interval: Interval,
+    pub mbps: Mbps,
+}
+
+/// All that one record books: at most one committed and one pending slot, both between the same points.
+#[derive(Clone, Copy, Debug, PartialEq, Eq)]
+pub struct Booking {
+    pub number: RecordNo,
+    pub source: StpNo,
+    pub dest: StpNo,
+    pub both_ways: bool,
+    pub committed: Option<Slot>,
+    pub pending: Option<Slot>,
+}
+
+/// Where and when bandwidth is lacking, with what the other records have booked there.
+#[derive(Clone, Copy, Debug, PartialEq, Eq)]
+pub struct Lack {
+    pub stp: StpNo,
+    pub flow: Flow,
+    pub second: Second,
+    pub load: u64,
+    pub capacity: Mbps,
+}
+
+/// A flow of a service termination point, with its capacity.
+#[derive(Clone, Copy, Debug, PartialEq, Eq)]
+pub(crate) struct Place {
+    pub(crate) stp: StpNo,
+    pub(crate) flow: Flow,
+    pub(crate) capacity: Mbps,
+}
+
+/// What a record asks for.
+#[derive(Clone, Copy, Debug, PartialEq, Eq)]
+pub(crate) struct Wish {
+    pub(crate) number: RecordNo,
+    pub(crate) source: StpNo,
+    pub(crate) dest: StpNo,
+    pub(crate) both_ways: bool,
+    pub(crate) interval: Interval,
+    pub(crate) mbps: Mbps,
+}

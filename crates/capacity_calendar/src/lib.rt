@@ -1,0 +1,10 @@
+//! Which bandwidth is booked where and when.
+#![tactic(auto)]
+
+pub mod booking;
+mod calendar;
+mod lack;
+mod load;
+
+pub use booking::{Booking, Capacity, Lack, Slot};
+pub use calendar::Calendar;
