@@ -1,2 +1,4 @@
 pub mod Down
 pub mod WordLemmas
+pub mod SoundLemmas
+pub mod LineSound
