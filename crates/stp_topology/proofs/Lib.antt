@@ -2,3 +2,4 @@ pub mod Down
 pub mod WordLemmas
 pub mod SoundLemmas
 pub mod LineSound
+pub mod TextLemmas

@@ -7,13 +7,13 @@ pub mod fault;
 mod names;
 mod network;
 mod partners;
-// pub mod text;
+pub mod text;
 pub mod topology;
 pub mod words;
 
 pub use fault::{LineRefusal, TopologyFault, TopologyRefusal};
 pub use network::AgentKind;
-// pub use text::read_topology;
+pub use text::read_topology;
 pub use topology::{Taken, Topology};
 
 #[cfg(test)]
