@@ -1,0 +1,5 @@
+pub mod Down
+pub mod WordLemmas
+pub mod SoundLemmas
+pub mod LineSound
+pub mod TextLemmas

@@ -1,0 +1,7 @@
+pub mod Faults
+pub mod Names
+pub mod Words
+pub mod Network
+pub mod Sound
+pub mod Lines
+pub mod Text

@@ -1,0 +1,58 @@
+-- What a topology declares, and what can be asked of it.
+pub use Rattle.stp_topology.specs.declared.network.Network.{Network}
+pub use Rattle.stp_topology.specs.declared.network.AgentKind.{AgentKind}
+use Rattle.stp_topology.specs.declared.network.AgentKind.TheVariants.{Provider, Aggregator, Requester}
+use Rattle.std.specs.Prelude.{ℕ, ◌/◌, List, [], Bool, true, false, ◌||◌, Option, Some, None, is_some, slice_get, get_or, count_by}
+use Rattle.std.specs.List.{position_from}
+use Rattle.nsi_base.specs.declared.flow.Flow.{Flow}
+use Rattle.nsi_base.specs.declared.flow.Flow.TheVariants as flows
+use Rattle.stp_topology.specs.Names.{place_of}
+
+-- no agent, no point, no child
+abbrev pub nothing : Network
+nothing = record { agents = []; kinds = []; stps = []; owners = []; capacities = []; partners = []; children = [] }
+
+-- the agent of that name
+abbrev pub agent_of : Network → List ℕ → Option ℕ
+agent_of t name = place_of t.agents name
+
+-- the point of that name
+abbrev pub stp_of : Network → List ℕ → Option ℕ
+stp_of t name = place_of t.stps name
+
+-- the name of an agent
+abbrev pub name_of : Network → ℕ → List ℕ
+name_of t a = get_or t.agents a []
+
+-- the name of a point
+abbrev pub stp_name_of : Network → ℕ → List ℕ
+stp_name_of t s = get_or t.stps s []
+
+-- what an agent is, where there is such an agent
+abbrev pub kind_of : Network → ℕ → Option AgentKind
+kind_of t a = slice_get t.kinds a
+
+-- the provider that has the point
+abbrev pub owner_of : Network → ℕ → ℕ
+owner_of t s = get_or t.owners s 0
+
+-- the capacity of a point: one for both directions, and none for either alone
+abbrev pub capacity_of : Network → ℕ → Flow → Option ℕ
+capacity_of t s flows.Both = slice_get t.capacities s
+capacity_of t s flow = None
+
+-- the point that a point is joined with
+abbrev pub partner_of : Network → ℕ → Option ℕ
+partner_of t s = get_or t.partners s None
+
+-- how many pairs of points are joined
+abbrev pub sdps_of : Network → ℕ
+sdps_of t = count_by is_some t.partners / 2
+
+abbrev pub is_provider : AgentKind → Bool
+is_provider (Provider hold) = true
+is_provider kind = false
+
+-- the first agent that is a provider
+abbrev pub first_provider : Network → Option ℕ
+first_provider t = position_from is_provider 0 t.kinds

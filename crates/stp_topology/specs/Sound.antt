@@ -1,0 +1,30 @@
+-- What is true of every topology.
+use Rattle.std.specs.Prelude.{◌≡◌, ℕ, ◌<◌, ◌≤◌, Option, Some, length, slice_get, true}
+use Rattle.stp_topology.specs.declared.network.AgentKind.TheVariants.{Provider, Aggregator, Requester}
+use Rattle.stp_topology.specs.Network.{Network}
+
+-- how many there are of each
+pub record IsFit (t : Network) : Type 0 where
+  pub few_agents : length t.agents ≤ 64
+  pub few_stps : length t.stps ≤ 4096
+  pub kinds : length t.kinds ≡ length t.agents
+  pub owners : length t.owners ≡ length t.stps
+  pub capacities : length t.capacities ≡ length t.stps
+  pub partners : length t.partners ≡ length t.stps
+
+-- the agent is a provider
+abbrev pub IsProvider : Network → ℕ → Type 0
+IsProvider t a = (hold : ℕ) × (slice_get t.kinds a ≡ Some (Provider hold))
+
+-- the agent is an aggregator
+abbrev pub IsAggregator : Network → ℕ → Type 0
+IsAggregator t a = slice_get t.kinds a ≡ Some Aggregator
+
+-- each number leads to an agent or point of its sort, and points are joined both ways
+pub record IsSound (t : Network) : Type 0 where
+  pub fit : IsFit t
+  pub owned : (s a : ℕ) → slice_get t.owners s ≡ Some a → IsProvider t a
+  pub asked : (a provider : ℕ) → slice_get t.kinds a ≡ Some (Requester provider) → provider < length t.agents
+  pub joined : (s p : ℕ) → slice_get t.partners s ≡ Some (Some p) → slice_get t.partners p ≡ Some (Some s)
+  pub parents : (k : ℕ) (e : ℕ × ℕ) → slice_get t.children k ≡ Some e → IsAggregator t e.0
+  pub children : (k : ℕ) (e : ℕ × ℕ) → slice_get t.children k ≡ Some e → e.1 < length t.agents

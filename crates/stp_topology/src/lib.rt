@@ -1,0 +1,20 @@
+//! The topology of a network: its agents, their service termination points (STPs) and how these are joined.
+#![tactic(auto)]
+
+mod child_lines;
+mod declare;
+pub mod fault;
+mod names;
+mod network;
+mod partners;
+pub mod text;
+pub mod topology;
+pub mod words;
+
+pub use fault::{LineRefusal, TopologyFault, TopologyRefusal};
+pub use network::AgentKind;
+pub use text::read_topology;
+pub use topology::{Taken, Topology};
+
+#[cfg(test)]
+mod tests;
