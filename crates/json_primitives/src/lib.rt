@@ -9,3 +9,6 @@ pub use json_fields::{Key, LineFault};
 pub use payload::print_payload;
 pub use printing::print_line;
 pub use reading::{read_line, read_object};
+
+#[cfg(test)]
+mod tests;
