@@ -1,5 +1,6 @@
 -- The names of kinds, errors and directions.
-use Rattle.std.specs.Prelude.{ℕ, List, Bool, true, false, codes}
+use Rattle.std.specs.Prelude.{ℕ, List, [], ◌∷◌, Bool, true, false, codes, if◌then◌else◌, Option, Some, None}
+use Rattle.std.specs.Str.{bytes_eq}
 use Rattle.nsi_primitive.specs.declared.kind.Kind.{Kind}
 use Rattle.nsi_primitive.specs.declared.kind.ErrorName.{ErrorName}
 use Rattle.nsi_primitive.specs.declared.kind.Directionality.{Directionality}
@@ -34,6 +35,23 @@ kind_name Kind.QueryResult = codes "queryResult"
 kind_name Kind.QueryResultConfirmed = codes "queryResultConfirmed"
 kind_name Kind.QueryRecursive = codes "queryRecursive"
 kind_name Kind.QueryRecursiveConfirmed = codes "queryRecursiveConfirmed"
+
+-- every kind
+abbrev pub kinds : List Kind
+kinds =
+    Kind.Reserve ∷ Kind.ReserveResponse ∷ Kind.ReserveConfirmed ∷ Kind.ReserveFailed ∷ Kind.ReserveCommit ∷ Kind.ReserveCommitConfirmed ∷ Kind.ReserveCommitFailed ∷
+    Kind.ReserveAbort ∷ Kind.ReserveAbortConfirmed ∷ Kind.Provision ∷ Kind.ProvisionConfirmed ∷ Kind.Release ∷ Kind.ReleaseConfirmed ∷ Kind.Terminate ∷
+    Kind.TerminateConfirmed ∷ Kind.Error ∷ Kind.ReserveTimeout ∷ Kind.ErrorEvent ∷ Kind.DataPlaneStateChange ∷ Kind.MessageDeliveryTimeout ∷ Kind.QuerySummary ∷
+    Kind.QuerySummaryConfirmed ∷ Kind.QueryNotification ∷ Kind.QueryNotificationConfirmed ∷ Kind.QueryResult ∷ Kind.QueryResultConfirmed ∷ Kind.QueryRecursive ∷ Kind.QueryRecursiveConfirmed ∷ []
+
+-- the first of the kinds that has the name
+unfoldable pub first_named : List ℕ → List Kind → Option Kind
+first_named name [] = None
+first_named name (kind ∷ others) = if bytes_eq name (kind_name kind) then Some kind else first_named name others
+
+-- the kind that has the name
+unfoldable pub kind_named : List ℕ → Option Kind
+kind_named name = first_named name kinds
 
 -- the requests of the standard
 abbrev pub is_request_kind : Kind → Bool
@@ -70,6 +88,13 @@ error_text ErrorName.Timeout = codes "TIMEOUT"
 unfoldable pub direction_text : Directionality → List ℕ
 direction_text Directionality.Bidirectional = codes "Bidirectional"
 direction_text Directionality.Unidirectional = codes "Unidirectional"
+
+-- the directionality that has the name
+abbrev pub direction_named : List ℕ → Option Directionality
+direction_named name =
+    if bytes_eq name (direction_text Directionality.Bidirectional) then Some Directionality.Bidirectional
+    else if bytes_eq name (direction_text Directionality.Unidirectional) then Some Directionality.Unidirectional
+    else None
 
 abbrev pub is_both_ways : Directionality → Bool
 is_both_ways Directionality.Bidirectional = true

@@ -1,6 +1,38 @@
 //! The kinds of primitives, the names of errors, and directions.
 
 ghost use Rattle.std.specs.Prelude.{◌≡◌};
+ghost use Rattle.nsi_primitive.specs.Kinds.{first_named};
+
+const KINDS: [Kind; 28] = [
+    Kind::Reserve,
+    Kind::ReserveResponse,
+    Kind::ReserveConfirmed,
+    Kind::ReserveFailed,
+    Kind::ReserveCommit,
+    Kind::ReserveCommitConfirmed,
+    Kind::ReserveCommitFailed,
+    Kind::ReserveAbort,
+    Kind::ReserveAbortConfirmed,
+    Kind::Provision,
+    Kind::ProvisionConfirmed,
+    Kind::Release,
+    Kind::ReleaseConfirmed,
+    Kind::Terminate,
+    Kind::TerminateConfirmed,
+    Kind::Error,
+    Kind::ReserveTimeout,
+    Kind::ErrorEvent,
+    Kind::DataPlaneStateChange,
+    Kind::MessageDeliveryTimeout,
+    Kind::QuerySummary,
+    Kind::QuerySummaryConfirmed,
+    Kind::QueryNotification,
+    Kind::QueryNotificationConfirmed,
+    Kind::QueryResult,
+    Kind::QueryResultConfirmed,
+    Kind::QueryRecursive,
+    Kind::QueryRecursiveConfirmed,
+];
 
 /// A primitive of the Connection Service (GFD.237, section 8). Each kind is written by the standard's name.
 #[derive(Clone, Copy, Debug, PartialEq, Eq)]
@@ -36,7 +68,7 @@ pub enum Kind {
 }
 
 impl Kind {
-    ghost use Rattle.nsi_primitive.specs.Kinds.{kind_name, is_request_kind};
+    ghost use Rattle.nsi_primitive.specs.Kinds.{kind_name, kind_named, is_request_kind};
 
     /// The name by which the kind is written.
     #[tactic(auto, unfolding(crate::specs::Kinds::kind_name))]
@@ -75,6 +107,14 @@ impl Kind {
         }
     }
 
+    /// The kind that is written so.
+    #[tactic(auto, unfolding(crate::specs::Kinds::kind_named))]
+    pub fn named(name: &[u8]) -> Option<Kind>
+        ensures { result ≡ kind_named name.now }
+    {
+        first_named(name, &KINDS)
+    }
+
     /// Whether an agent asks for something by it. Every other kind goes from the provider to the requester.
     pub fn is_request(self) -> bool
         ensures { result ≡ is_request_kind self }
@@ -93,6 +133,18 @@ impl Kind {
                 | Kind::QueryRecursive
         )
     }
+}
+
+#[tactic(auto, unfolding(crate::specs::Kinds::first_named))]
+fn first_named(name: &[u8], kinds: &[Kind]) -> Option<Kind>
+    ensures { result ≡ first_named name.now kinds.now }
+{
+    for kind in kinds {
+        if name == kind.name().as_bytes() {
+            return Some(*kind);
+        }
+    }
+    None
 }
 
 /// Why a request was refused. The names are this project's own; the standard gives numbers.
@@ -149,7 +201,7 @@ pub enum Directionality {
 }
 
 impl Directionality {
-    ghost use Rattle.nsi_primitive.specs.Kinds.{direction_text, is_both_ways};
+    ghost use Rattle.nsi_primitive.specs.Kinds.{direction_text, direction_named, is_both_ways};
 
     /// The name by which the directionality is written.
     #[tactic(auto, unfolding(crate::specs::Kinds::direction_text))]
@@ -159,6 +211,19 @@ impl Directionality {
         match self {
             Directionality::Bidirectional => "Bidirectional",
             Directionality::Unidirectional => "Unidirectional",
+        }
+    }
+
+    /// The directionality that is written so.
+    pub fn named(name: &[u8]) -> Option<Directionality>
+        ensures { result ≡ direction_named name.now }
+    {
+        if name == Directionality::Bidirectional.text().as_bytes() {
+            Some(Directionality::Bidirectional)
+        } else if name == Directionality::Unidirectional.text().as_bytes() {
+            Some(Directionality::Unidirectional)
+        } else {
+            None
         }
     }
 

@@ -1,0 +1,5 @@
+pub mod Keys
+pub mod Faults
+pub mod Fields
+pub mod Objects
+pub mod Written

@@ -1,0 +1,50 @@
+-- Objects that are written key by key.
+use Rattle.std.specs.Prelude.{◌≡◌, ℕ, List, [], ◌∷◌, Bool, false, Option, Some, None, option_map}
+use Rattle.serde_json.specs.Data.{Data, Members, put, string, number, boolean, unsigned, members_depth}
+use Rattle.serde_json.specs.Written.{members_have_float}
+use Rattle.nsi_primitive.specs.Ids.{id_text}
+use Rattle.nsi_primitive.specs.Kinds.{direction_text}
+use Rattle.nsi_primitive.specs.declared.kind.Directionality.{Directionality}
+use Rattle.json_fields.specs.Keys.{name_of}
+use Rattle.json_fields.specs.declared.key.Key.{Key}
+
+-- what stands at a key: a number in digits, a text, or true or false
+pub data Scalar : Type 0 where
+  digits : ℕ → Scalar
+  words : List ℕ → Scalar
+  flag : Bool → Scalar
+
+abbrev pub scalar_data : Scalar → Data
+scalar_data (digits n) = number (unsigned n)
+scalar_data (words text) = string text
+scalar_data (flag b) = boolean b
+
+-- an id in the spelling that is written
+abbrev pub id_scalar : ℕ → Scalar
+id_scalar id = words (id_text id)
+
+abbrev pub directionality_scalar : Directionality → Scalar
+directionality_scalar d = words (direction_text d)
+
+-- a key, and what stands there, if anything
+abbrev pub Field : Type 0
+Field = Key × Option Scalar
+
+-- the members with a key more, which stands in byte order; without a value they stay as they are
+abbrev pub with_value : Key → Option Scalar → Members → Members
+with_value key None ms = ms
+with_value key (Some s) ms = put (name_of key) (scalar_data s) ms
+
+-- the members with one key after the other put to them
+unfoldable pub with_fields : Members → List Field → Members
+with_fields ms [] = ms
+with_fields ms (f ∷ fs) = with_fields (with_value f.0 f.1 ms) fs
+
+-- what is written for a value reads as it
+abbrev pub IsReadBack : {A : Type 0} → (Data → Option A) → Scalar → A → Type 0
+IsReadBack form s x = form (scalar_data s) ≡ Some x
+
+-- members without lists, objects and floats in them
+pub record IsFlat (ms : Members) : Type 0 where
+  pub flat : members_depth ms ≡ 0
+  pub exact : members_have_float ms ≡ false

@@ -1,0 +1,11 @@
+//! The keys of a line's JSON object, the forms of their values, and how both are read and written.
+#![tactic(auto)]
+
+pub mod fault;
+pub mod key;
+pub mod object;
+pub mod reading;
+
+pub use fault::LineFault;
+pub use key::Key;
+pub use object::JsonObject;

@@ -1,0 +1,238 @@
+//! What stands at a key of an object.
+
+ghost use Rattle.std.specs.Prelude.{◌≡◌, ◌≤◌, length, option_map, is_some, Some, None, IfOk, IfErr, IfSome, IsTrue, ◌≢◌};
+ghost use Rattle.serde_json.specs.Data.{Data};
+ghost use Rattle.serde_json.specs.Find.{get};
+ghost use Rattle.serde_json.specs.View.{view};
+ghost use Rattle.nsi_primitive.specs.Ids.{id_from_text};
+ghost use Rattle.json_fields.specs.Keys.{name_of};
+ghost use Rattle.json_fields.specs.Faults.{Gives};
+ghost use Rattle.json_fields.specs.Fields.{json_of, formed, required, optional, id_from, name_from, text_from, capacity_from, second_from, version_from, flag_from, directionality_from, empty_list_from};
+
+use crate::fault::LineFault;
+use crate::key::Key;
+use nsi_base::{Mbps, Name, NameFault, Second, Text, Version};
+use nsi_primitive::{Directionality, Id, read_id};
+use serde_json::Value;
+use std::alloc::Global;
+
+/// Reads JSON (RFC 8259). Of equal keys the last one counts. Nesting over 127, a lone surrogate and a number that no
+/// float holds are not JSON here.
+pub fn read_json(alloc: Global, bytes: &[u8]) -> Result<Value, LineFault>
+    ensures read { IfOk result (λ v. json_of bytes.now ≡ Some (view v)) }
+    ensures refused { IfErr result (λ e. e ≢ LineFault.NoMemory → (e ≡ LineFault.NotJson) × (json_of bytes.now ≡ None)) }
+{
+    match Value::from_slice(alloc, bytes) {
+        Ok(value) => Ok(value),
+        Err(error) => {
+            if error.is_memory() {
+                Err(LineFault::NoMemory)
+            } else {
+                Err(LineFault::NotJson)
+            }
+        }
+    }
+}
+
+/// What stands at a key, where the value is an object that has it.
+pub fn at(value: &Value, key: Key) -> Option<&Value>
+    ensures { option_map (λ v. view v.now) result ≡ get (name_of key) (view value.now) }
+{
+    value.get(key.text())
+}
+
+fn parse_id(text: &[u8]) -> Option<Id>
+    ensures { result ≡ id_from_text text.now }
+{
+    match read_id(text) {
+        Ok(id) => Some(id),
+        Err(_) => None,
+    }
+}
+
+fn id_from(value: &Value) -> Option<Id>
+    ensures { result ≡ id_from (view value.now) }
+{
+    parse_id(value.as_str()?.as_bytes())
+}
+
+fn capacity_from(value: &Value) -> Option<Mbps>
+    ensures { result ≡ capacity_from (view value.now) }
+{
+    Mbps::new(value.as_u64()?)
+}
+
+fn second_from(value: &Value) -> Option<Second>
+    ensures { result ≡ second_from (view value.now) }
+{
+    Second::new(value.as_u64()?)
+}
+
+fn version_from(value: &Value) -> Option<Version>
+    ensures { result ≡ version_from (view value.now) }
+{
+    let n = value.as_u64()?;
+    if n <= u64::from(Version::MAX) {
+        Version::new(n as u32)
+    } else {
+        None
+    }
+}
+
+fn directionality_from(value: &Value) -> Option<Directionality>
+    ensures { result ≡ directionality_from (view value.now) }
+{
+    Directionality::named(value.as_str()?.as_bytes())
+}
+
+fn is_empty_list(value: &Value) -> bool
+    ensures { result ≡ is_some (empty_list_from (view value.now)) }
+{
+    match value.as_array() {
+        Some(items) => items.as_slice().is_empty(),
+        None => false,
+    }
+}
+
+fn name_from(alloc: Global, value: &Value, key: Key) -> Result<Name, LineFault>
+    ensures { Gives result (formed key (name_from (view value.now))) }
+{
+    let Some(text) = value.as_str() else {
+        return Err(LineFault::Bad(key));
+    };
+    match Name::of(alloc, text.as_bytes()) {
+        Ok(name) => Ok(name),
+        Err(NameFault::NotAName) => Err(LineFault::Bad(key)),
+        Err(NameFault::NoMemory) => Err(LineFault::NoMemory),
+    }
+}
+
+fn text_from(alloc: Global, value: &Value, key: Key, most: usize) -> Result<Text, LineFault>
+    ensures gives { Gives result (formed key (text_from most (view value.now))) }
+    ensures short { IfOk result (λ t. length t ≤ most) }
+{
+    let Some(text) = value.as_str() else {
+        return Err(LineFault::Bad(key));
+    };
+    if text.len() > most {
+        return Err(LineFault::Bad(key));
+    }
+    match Text::of(alloc, text.as_bytes()) {
+        Ok(text) => Ok(text),
+        Err(_) => Err(LineFault::NoMemory),
+    }
+}
+
+#[tactic(auto, unfolding(crate::specs::Fields::required))]
+pub fn required_id(value: &Value, key: Key) -> Result<Id, LineFault>
+    ensures { Gives result (required id_from key (view value.now)) }
+{
+    let Some(found) = at(value, key) else {
+        return Err(LineFault::Missing(key));
+    };
+    id_from(found).ok_or(LineFault::Bad(key))
+}
+
+#[tactic(auto, unfolding(crate::specs::Fields::required))]
+pub fn required_capacity(value: &Value, key: Key) -> Result<Mbps, LineFault>
+    ensures { Gives result (required capacity_from key (view value.now)) }
+{
+    let Some(found) = at(value, key) else {
+        return Err(LineFault::Missing(key));
+    };
+    capacity_from(found).ok_or(LineFault::Bad(key))
+}
+
+#[tactic(auto, unfolding(crate::specs::Fields::required))]
+pub fn required_second(value: &Value, key: Key) -> Result<Second, LineFault>
+    ensures { Gives result (required second_from key (view value.now)) }
+{
+    let Some(found) = at(value, key) else {
+        return Err(LineFault::Missing(key));
+    };
+    second_from(found).ok_or(LineFault::Bad(key))
+}
+
+#[tactic(auto, unfolding(crate::specs::Fields::required))]
+pub fn required_name(alloc: Global, value: &Value, key: Key) -> Result<Name, LineFault>
+    ensures { Gives result (required name_from key (view value.now)) }
+{
+    match at(value, key) {
+        Some(found) => name_from(alloc, found, key),
+        None => Err(LineFault::Missing(key)),
+    }
+}
+
+#[tactic(auto, unfolding(crate::specs::Fields::optional))]
+pub fn optional_version(value: &Value, key: Key) -> Result<Option<Version>, LineFault>
+    ensures { Gives result (optional version_from key (view value.now)) }
+{
+    match at(value, key) {
+        None => Ok(None),
+        Some(found) => match version_from(found) {
+            Some(version) => Ok(Some(version)),
+            None => Err(LineFault::Bad(key)),
+        },
+    }
+}
+
+#[tactic(auto, unfolding(crate::specs::Fields::optional))]
+pub fn optional_flag(value: &Value, key: Key) -> Result<Option<bool>, LineFault>
+    ensures { Gives result (optional flag_from key (view value.now)) }
+{
+    match at(value, key) {
+        None => Ok(None),
+        Some(found) => match found.as_bool() {
+            Some(flag) => Ok(Some(flag)),
+            None => Err(LineFault::Bad(key)),
+        },
+    }
+}
+
+#[tactic(auto, unfolding(crate::specs::Fields::optional))]
+pub fn optional_directionality(value: &Value, key: Key) -> Result<Option<Directionality>, LineFault>
+    ensures { Gives result (optional directionality_from key (view value.now)) }
+{
+    match at(value, key) {
+        None => Ok(None),
+        Some(found) => match directionality_from(found) {
+            Some(directionality) => Ok(Some(directionality)),
+            None => Err(LineFault::Bad(key)),
+        },
+    }
+}
+
+/// The empty list, where the key is there: it has nothing in it to give back.
+#[tactic(auto, unfolding(crate::specs::Fields::optional))]
+pub fn optional_empty_list(value: &Value, key: Key) -> Result<Option<()>, LineFault>
+    ensures { Gives result (optional empty_list_from key (view value.now)) }
+{
+    match at(value, key) {
+        None => Ok(None),
+        Some(found) => {
+            if is_empty_list(found) {
+                Ok(Some(()))
+            } else {
+                Err(LineFault::Bad(key))
+            }
+        }
+    }
+}
+
+/// A text of at most so many bytes.
+#[tactic(auto, unfolding(crate::specs::Fields::optional))]
+pub fn optional_text(
+    alloc: Global,
+    value: &Value,
+    key: Key,
+    most: usize,
+) -> Result<Option<Text>, LineFault>
+    ensures gives { Gives result (optional (text_from most) key (view value.now)) }
+    ensures short { IfOk result (λ o. IfSome o (λ t. length t ≤ most)) }
+{
+    let Some(found) = at(value, key) else {
+        return Ok(None);
+    };
+    let text = text_from(alloc, found, key, most)?;
+    Ok(Some(text))
+}

@@ -1,0 +1,4 @@
+pub mod Lines
+pub mod Spelling
+pub mod Payload
+pub mod Valid

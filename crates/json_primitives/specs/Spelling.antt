@@ -1,0 +1,109 @@
+-- The printed spelling of a message.
+use Rattle.std.specs.Prelude.{ℕ, List, [], ◌∷◌, ◌++◌, codes, Option, Some, None, option_map}
+use Rattle.serde_json.specs.Data.{Data, no_members, object}
+use Rattle.serde_json.specs.Written.{compact_text}
+use Rattle.nsi_base.specs.declared.flow.Flow.{Flow}
+use Rattle.nsi_primitive.specs.Kinds.{kind_name, error_text}
+use Rattle.nsi_primitive.specs.Messages.{kind_of}
+use Rattle.nsi_primitive.specs.declared.kind.Kind.{Kind}
+use Rattle.nsi_primitive.specs.declared.kind.ErrorName.{ErrorName}
+use Rattle.nsi_primitive.specs.declared.message.Header.{Header}
+use Rattle.nsi_primitive.specs.declared.message.ReserveRequest.{ReserveRequest}
+use Rattle.nsi_primitive.specs.declared.message.ReserveConfirmation.{ReserveConfirmation}
+use Rattle.nsi_primitive.specs.declared.message.Cause.{Cause}
+use Rattle.nsi_primitive.specs.declared.message.Exception.{Exception}
+use Rattle.nsi_primitive.specs.declared.message.Body.{Body}
+use Rattle.nsi_primitive.specs.declared.message.Message.{Message}
+use Rattle.json_fields.specs.Objects.{Field, Scalar, digits, words, flag, id_scalar, directionality_scalar, with_fields}
+use Rattle.json_fields.specs.declared.key.Key.{Key}
+
+-- what every line has
+abbrev pub header_fields : Kind → Header → List Field
+header_fields kind h =
+    (Key.CorrelationId, Some (id_scalar h.correlation))
+    ∷ (Key.Kind, Some (words (kind_name kind)))
+    ∷ (Key.ProviderNsa, Some (words h.provider))
+    ∷ (Key.RequesterNsa, Some (words h.requester))
+    ∷ []
+
+-- what a reserve has besides
+abbrev pub reserve_fields : ReserveRequest → List Field
+reserve_fields r =
+    (Key.Capacity, Some (digits r.capacity))
+    ∷ (Key.ConnectionId, option_map id_scalar r.connection)
+    ∷ (Key.Description, option_map words r.description)
+    ∷ (Key.DestStp, option_map words r.dest)
+    ∷ (Key.Directionality, option_map directionality_scalar r.directionality)
+    ∷ (Key.EndTime, Some (digits r.end))
+    ∷ (Key.GlobalReservationId, option_map words r.global)
+    ∷ (Key.SourceStp, option_map words r.source)
+    ∷ (Key.StartTime, Some (digits r.start))
+    ∷ (Key.SymmetricPath, option_map flag r.symmetric)
+    ∷ (Key.Version, option_map digits r.version)
+    ∷ []
+
+abbrev pub connection_fields : ℕ → List Field
+connection_fields connection = (Key.ConnectionId, Some (id_scalar connection)) ∷ []
+
+-- what a reserveConfirmed has besides
+abbrev pub confirmation_fields : ReserveConfirmation → List Field
+confirmation_fields r =
+    (Key.Capacity, Some (digits r.capacity))
+    ∷ (Key.ConnectionId, Some (id_scalar r.connection))
+    ∷ (Key.Description, option_map words r.description)
+    ∷ (Key.DestStp, Some (words r.dest))
+    ∷ (Key.Directionality, Some (directionality_scalar r.directionality))
+    ∷ (Key.EndTime, Some (digits r.end))
+    ∷ (Key.GlobalReservationId, option_map words r.global)
+    ∷ (Key.SourceStp, Some (words r.source))
+    ∷ (Key.StartTime, Some (digits r.start))
+    ∷ (Key.SymmetricPath, option_map flag r.symmetric)
+    ∷ (Key.Version, Some (digits r.version))
+    ∷ []
+
+-- the direction that lacks bandwidth, where a point has one capacity for each
+abbrev pub flow_text : Flow → Option (List ℕ)
+flow_text Flow.Both = None
+flow_text Flow.In = Some (codes "in")
+flow_text Flow.Out = Some (codes "out")
+
+-- why, which says more of a lack of bandwidth and of a child's refusal
+abbrev pub cause_fields : Cause → List Field
+cause_fields (Cause.Plain error) = (Key.ErrorId, Some (words (error_text error))) ∷ []
+cause_fields (Cause.Bandwidth stp flow second load capacity) =
+    (Key.Capacity, Some (digits capacity))
+    ∷ (Key.Direction, option_map words (flow_text flow))
+    ∷ (Key.ErrorId, Some (words (error_text ErrorName.Bandwidth)))
+    ∷ (Key.Load, Some (digits load))
+    ∷ (Key.Second, Some (digits second))
+    ∷ (Key.Stp, Some (words stp))
+    ∷ []
+cause_fields (Cause.Child child error) =
+    (Key.Child, Some (words child))
+    ∷ (Key.ChildErrorId, Some (words (error_text error)))
+    ∷ (Key.ErrorId, Some (words (error_text ErrorName.Child)))
+    ∷ []
+
+-- who refused, and why
+abbrev pub exception_fields : Exception → List Field
+exception_fields e = (Key.NsaId, Some (words e.nsa)) ∷ cause_fields e.cause
+
+-- what a line of its kind has besides the header
+abbrev pub body_fields : Body → List Field
+body_fields (Body.Reserve r) = reserve_fields r
+body_fields (Body.ReserveResponse connection) = connection_fields connection
+body_fields (Body.ReserveConfirmed r) = confirmation_fields r
+body_fields (Body.ReserveFailed connection e) = connection_fields connection ++ exception_fields e
+body_fields (Body.Error connection e) = (Key.ConnectionId, option_map id_scalar connection) ∷ exception_fields e
+
+-- all keys of a message's line, each with what stands there, if anything
+abbrev pub fields_of : Message → List Field
+fields_of m = header_fields (kind_of m.body) m.header ++ body_fields m.body
+
+-- the object that a message is written as; its keys stand in byte order
+unfoldable pub data_of : Message → Data
+data_of m = object (with_fields no_members (fields_of m))
+
+-- the bytes of a message's line, without the end of a line
+abbrev pub spelling : Message → List ℕ
+spelling m = compact_text (data_of m)

@@ -1,0 +1,14 @@
+//! Messages as lines of JSON: one object a line, its keys in byte order.
+#![tactic(auto)]
+
+pub mod payload;
+pub mod printing;
+pub mod reading;
+
+pub use json_fields::{Key, LineFault};
+pub use payload::print_payload;
+pub use printing::print_line;
+pub use reading::{read_line, read_object};
+
+#[cfg(test)]
+mod tests;

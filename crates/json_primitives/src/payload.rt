@@ -1,0 +1,28 @@
+//! The answer to a line that can't be read.
+
+ghost use Rattle.std.specs.Prelude.{◌≡◌, IfOk};
+ghost use Rattle.json_primitives.specs.Payload.{payload_spelling};
+
+use json_fields::{JsonObject, Key};
+use nsi_primitive::{ErrorName, Kind};
+use std::alloc::{AllocError, Global};
+
+/// Writes the fault's name, the key that it is about, and the number of the line, counted from 1.
+pub fn print_payload(
+    alloc: Global,
+    fault: &str,
+    key: Option<Key>,
+    line: u64,
+) -> Result<Vec<u8>, AllocError>
+    ensures { IfOk result (λ b. b.items ≡ payload_spelling fault.now key line) }
+{
+    let mut object = JsonObject::new(alloc);
+    object.put_text_at(alloc, "errorId", ErrorName::Payload.text())?;
+    object.put_text_at(alloc, "fault", fault)?;
+    if let Some(key) = key {
+        object.put_text_at(alloc, "key", key.text())?;
+    }
+    object.put_text_at(alloc, "kind", Kind::Error.name())?;
+    object.put_number_at(alloc, "line", line)?;
+    object.print(alloc)
+}

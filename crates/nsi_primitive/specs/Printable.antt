@@ -1,0 +1,59 @@
+-- Which messages have a spelling as a line.
+use Rattle.std.specs.Prelude.{◌≡◌, ◌≤◌, ℕ, List, Bool, true, false, length, Option, Some, None, IfSome, IfNone, IsSome}
+use Rattle.std.specs.Str.{bytes_eq}
+use Rattle.nsi_primitive.specs.declared.kind.ErrorName.{ErrorName}
+use Rattle.nsi_primitive.specs.declared.message.Cause.{Cause}
+use Rattle.nsi_primitive.specs.declared.message.ReserveRequest.{ReserveRequest}
+use Rattle.nsi_primitive.specs.declared.message.ReserveConfirmation.{ReserveConfirmation}
+use Rattle.nsi_primitive.specs.declared.message.Body.{Body}
+use Rattle.nsi_primitive.specs.declared.message.Message.{Message}
+
+-- a text of at most so many bytes, where it is given
+abbrev pub IsShort : ℕ → Option (List ℕ) → Type 0
+IsShort most text = IfSome text (λ t. length t ≤ most)
+
+-- two points that differ, where both are given
+abbrev pub AreApart : Option (List ℕ) → Option (List ℕ) → Type 0
+AreApart source dest = IfSome source (λ a. IfSome dest (λ b. bytes_eq a b ≡ false))
+
+-- short texts, points that differ, and both points where no connection is named
+pub record IsPrintableReserve (r : ReserveRequest) : Type 0 where
+  pub description : IsShort 256 r.description
+  pub global : IsShort 128 r.global
+  pub apart : AreApart r.source r.dest
+  pub complete : IfNone r.connection (IsSome r.source × IsSome r.dest)
+
+-- an error that says more than its name
+abbrev pub has_further_keys : ErrorName → Bool
+has_further_keys ErrorName.Bandwidth = true
+has_further_keys ErrorName.Child = true
+has_further_keys _ = false
+
+-- an error that is given by its name alone has nothing else to say
+abbrev pub IsPrintableCause : Cause → Type 0
+IsPrintableCause (Cause.Plain error) = has_further_keys error ≡ false
+IsPrintableCause (Cause.Bandwidth stp flow second load capacity) = Unit {0}
+IsPrintableCause (Cause.Child child error) = Unit {0}
+
+abbrev pub IsPrintableBody : Body → Type 0
+IsPrintableBody (Body.Reserve r) = IsPrintableReserve r
+IsPrintableBody (Body.ReserveResponse connection) = Unit {0}
+IsPrintableBody (Body.ReserveConfirmed r) = IsShort 256 r.description × IsShort 128 r.global
+IsPrintableBody (Body.ReserveFailed connection exception) = IsPrintableCause exception.cause
+IsPrintableBody (Body.Error connection exception) = IsPrintableCause exception.cause
+
+-- what the types of a message leave open, so that it can be written and read again
+abbrev pub IsPrintable : Message → Type 0
+IsPrintable m = IsPrintableBody m.body
+
+-- a reserve that names both points and no connection
+abbrev pub IsFirstRequest : ReserveRequest → Type 0
+IsFirstRequest r = (r.connection ≡ None) × IsSome r.source × IsSome r.dest
+
+abbrev pub IsFirstReserveBody : Body → Type 0
+IsFirstReserveBody (Body.Reserve r) = IsFirstRequest r
+IsFirstReserveBody _ = ⊥
+
+-- a request for a new connection
+abbrev pub IsFirstReserve : Message → Type 0
+IsFirstReserve m = IsFirstReserveBody m.body
