@@ -3,3 +3,4 @@ pub mod WordLemmas
 pub mod SoundLemmas
 pub mod LineSound
 pub mod TextLemmas
+mod Rows
