@@ -105,6 +105,13 @@ impl Model for Version {
 }
 
 impl Version {
+    /// The version that a first reservation has where none is given.
+    pub fn first() -> Self
+        ensures { result ≡ 0 }
+    {
+        Version { value: 0 }
+    }
+
     /// The last version.
     pub const MAX: u32 = 2_147_483_647;
 

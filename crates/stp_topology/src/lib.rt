@@ -12,7 +12,9 @@ pub mod topology;
 pub mod words;
 
 pub use fault::{LineRefusal, TopologyFault, TopologyRefusal};
-pub use network::AgentKind;
+pub use names::Names;
+pub use network::{AgentKind, Network};
+pub use partners::Partners;
 pub use text::read_topology;
 pub use topology::{Taken, Topology};
 
