@@ -1,6 +1,6 @@
 -- The answer to a line that can't be read.
 use Rattle.std.specs.Prelude.{ℕ, List, codes, Option, Some, None}
-use Rattle.serde_json.specs.Data.{Data, Members, no_members, member, string, number, unsigned, object}
+use Rattle.serde_json.specs.Data.{Data, Members, no_members, member, put, string, number, unsigned, object}
 use Rattle.serde_json.specs.Written.{compact_text}
 use Rattle.nsi_primitive.specs.Kinds.{kind_name, error_text}
 use Rattle.nsi_primitive.specs.declared.kind.Kind.{Kind}
@@ -25,3 +25,8 @@ payload_data fault key line = object (
 -- the bytes of the answer to a line that can't be read
 abbrev pub payload_spelling : List ℕ → Option Key → ℕ → List ℕ
 payload_spelling fault key line = compact_text (payload_data fault key line)
+
+-- the members with the key that a fault is about put to them
+abbrev pub put_key : Option Key → Members → Members
+put_key None ms = ms
+put_key (Some key) ms = put (codes "key") (string (name_of key)) ms

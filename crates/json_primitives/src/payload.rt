@@ -1,7 +1,8 @@
 //! The answer to a line that can't be read.
 
-ghost use Rattle.std.specs.Prelude.{◌≡◌, IfOk};
-ghost use Rattle.json_primitives.specs.Payload.{payload_spelling};
+ghost use Rattle.std.specs.Prelude.{◌≡◌, IfOk, OnOk};
+ghost use Rattle.json_fields.specs.Written.{members_of};
+ghost use Rattle.json_primitives.specs.Payload.{payload_spelling, put_key};
 
 use json_fields::{JsonObject, Key};
 use nsi_primitive::{ErrorName, Kind};
@@ -19,10 +20,17 @@ pub fn print_payload(
     let mut object = JsonObject::new(alloc);
     object.put_text_at(alloc, "errorId", ErrorName::Payload.text())?;
     object.put_text_at(alloc, "fault", fault)?;
-    if let Some(key) = key {
-        object.put_text_at(alloc, "key", key.text())?;
-    }
+    put_key(alloc, &mut object, key)?;
     object.put_text_at(alloc, "kind", Kind::Error.name())?;
     object.put_number_at(alloc, "line", line)?;
     object.print(alloc)
+}
+
+fn put_key(alloc: Global, object: &mut JsonObject, key: Option<Key>) -> Result<(), AllocError>
+    ensures { OnOk result (members_of object.new ≡ put_key key (members_of object.old)) }
+{
+    match key {
+        None => Ok(()),
+        Some(key) => object.put_text_at(alloc, "key", key.text()),
+    }
 }

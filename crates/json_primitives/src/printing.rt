@@ -53,6 +53,7 @@ fn put_header(
     object.put_name(alloc, Key::RequesterNsa, &header.requester)
 }
 
+#[tactic(auto, unfolding(json_fields::specs::Objects::with_fields))]
 fn put_body(alloc: Global, object: &mut JsonObject, body: &Body) -> Result<(), AllocError>
     ensures put { OnOk result (members_of object.new ≡ with_fields (members_of object.old) (body_fields body.now)) }
     ensures valid { OnOk result (IsValidBody body.now) }

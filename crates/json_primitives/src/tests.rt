@@ -1,3 +1,6 @@
+ghost use Rattle.std.specs.Prelude.{◌≡◌, IfOk, None};
+ghost use Rattle.nsi_primitive.specs.Printable.{IsPrintable, IsPrintableBody, IsPrintableCause};
+
 use crate::{Key, LineFault, print_line, print_payload, read_line, read_object};
 use nsi_base::{Flow, Mbps, Name, Second, Version};
 use nsi_primitive::{
@@ -106,6 +109,26 @@ const CHANGED: [(&str, &str, LineFault); 33] = [
     ("{", "[{", LineFault::NotJson),
 ];
 
+const RESPONSE: &str =
+    r#"{"connectionId":"urn:uuid:00000000-0000-8000-8000-000000000001","correlationId":"urn:uuid:00000000-0001-8000-8000-000000000001","kind":"reserveResponse","providerNSA":"p1","requesterNSA":"r1"}"#;
+
+const CONFIRMED: &str =
+    r#"{"capacity":600,"connectionId":"urn:uuid:00000000-0000-8000-8000-000000000001","correlationId":"urn:uuid:00000000-0001-8000-8000-000000000001","destSTP":"B","directionality":"Bidirectional","endTime":200,"kind":"reserveConfirmed","providerNSA":"p1","requesterNSA":"r1","sourceSTP":"A","startTime":100,"version":0}"#;
+
+const FAILED: &str =
+    r#"{"capacity":1000,"connectionId":"urn:uuid:00000000-0000-8000-8000-000000000002","correlationId":"urn:uuid:00000000-0001-8000-8000-000000000002","errorId":"BANDWIDTH","kind":"reserveFailed","load":600,"nsaId":"p1","providerNSA":"p1","requesterNSA":"r1","second":150,"stp":"A"}"#;
+
+const FAILED_IN: &str =
+    r#"{"capacity":1000,"connectionId":"urn:uuid:00000000-0000-8000-8000-000000000002","correlationId":"urn:uuid:00000000-0001-8000-8000-000000000002","direction":"in","errorId":"BANDWIDTH","kind":"reserveFailed","load":600,"nsaId":"p1","providerNSA":"p1","requesterNSA":"r1","second":150,"stp":"A"}"#;
+
+const ERROR: &str =
+    r#"{"correlationId":"urn:uuid:00000000-0001-8000-8000-000000000001","errorId":"WRONG_PROVIDER","kind":"error","nsaId":"p1","providerNSA":"p1","requesterNSA":"r1"}"#;
+
+const PAYLOAD_WITH_KEY: &str =
+    r#"{"errorId":"PAYLOAD","fault":"Bad","key":"capacity","kind":"error","line":6}"#;
+
+const PAYLOAD: &str = r#"{"errorId":"PAYLOAD","fault":"NotJson","kind":"error","line":7}"#;
+
 fn fault_of(alloc: Global, line: &[u8]) -> Option<LineFault> {
     match read_line(alloc, line) {
         Ok(_) => None,
@@ -163,76 +186,110 @@ fn header(alloc: Global, correlation: &[u8]) -> Result<Header, Fail> {
     })
 }
 
-#[test]
-fn answers_are_written(rt: HostRuntime) -> Result<(), Fail> {
-    let first = read_id(b"urn:uuid:00000000-0000-8000-8000-000000000001")?;
-    let asked = b"urn:uuid:00000000-0001-8000-8000-000000000001";
-    let response = Message {
-        header: header(rt.alloc(), asked)?,
-        body: Body::ReserveResponse { connection: first },
-    };
-    let written = print_line(rt.alloc(), &response)?;
-    assert_eq!(rt;
-        written.as_slice(),
-        r#"{"connectionId":"urn:uuid:00000000-0000-8000-8000-000000000001","correlationId":"urn:uuid:00000000-0001-8000-8000-000000000001","kind":"reserveResponse","providerNSA":"p1","requesterNSA":"r1"}"#.as_bytes()
-    );
-    let confirmed = Message {
-        header: header(rt.alloc(), asked)?,
-        body: Body::ReserveConfirmed(ReserveConfirmation {
-            capacity: Mbps::new(600).unwrap(),
-            connection: first,
-            description: None,
-            dest: Name::of(rt.alloc(), b"B")?,
-            directionality: Directionality::Bidirectional,
-            end: Second::new(200).unwrap(),
-            global: None,
-            source: Name::of(rt.alloc(), b"A")?,
-            start: Second::new(100).unwrap(),
-            symmetric: None,
-            version: Version::new(0).unwrap(),
-        }),
-    };
-    let written = print_line(rt.alloc(), &confirmed)?;
-    assert_eq!(rt;
-        written.as_slice(),
-        r#"{"capacity":600,"connectionId":"urn:uuid:00000000-0000-8000-8000-000000000001","correlationId":"urn:uuid:00000000-0001-8000-8000-000000000001","destSTP":"B","directionality":"Bidirectional","endTime":200,"kind":"reserveConfirmed","providerNSA":"p1","requesterNSA":"r1","sourceSTP":"A","startTime":100,"version":0}"#.as_bytes()
-    );
-    Ok(())
+fn first(alloc: Global, body: Body) -> Result<Message, Fail>
+    requires { IsPrintableBody body }
+    ensures { IfOk result IsPrintable }
+{
+    let header = header(alloc, b"urn:uuid:00000000-0001-8000-8000-000000000001")?;
+    Ok(Message { header, body })
 }
 
-fn refused(alloc: Global, connection: Id, cause: Cause) -> Result<Message, Fail> {
-    let exception = Exception {
-        nsa: Name::of(alloc, b"p1")?,
-        cause,
-    };
-    Ok(Message {
-        header: header(alloc, b"urn:uuid:00000000-0001-8000-8000-000000000002")?,
-        body: Body::ReserveFailed {
-            connection,
-            exception,
-        },
+fn second(alloc: Global, body: Body) -> Result<Message, Fail>
+    requires { IsPrintableBody body }
+    ensures { IfOk result IsPrintable }
+{
+    let header = header(alloc, b"urn:uuid:00000000-0001-8000-8000-000000000002")?;
+    Ok(Message { header, body })
+}
+
+fn is_written(alloc: Global, message: &Message, line: &str) -> Result<bool, Fail>
+    requires { IsPrintable message.now }
+{
+    let written = print_line(alloc, message)?;
+    Ok(written.as_slice() == line.as_bytes())
+}
+
+fn confirmation(alloc: Global, connection: Id) -> Result<ReserveConfirmation, Fail>
+    ensures { IfOk result (λ r. (r.description ≡ None) × (r.global ≡ None)) }
+{
+    Ok(ReserveConfirmation {
+        capacity: Mbps::new(600).unwrap(),
+        connection,
+        description: None,
+        dest: Name::of(alloc, b"B")?,
+        directionality: Directionality::Bidirectional,
+        end: Second::new(200).unwrap(),
+        global: None,
+        source: Name::of(alloc, b"A")?,
+        start: Second::new(100).unwrap(),
+        symmetric: None,
+        version: Version::new(0).unwrap(),
     })
 }
 
-fn lack(alloc: Global, flow: Flow) -> Result<Cause, Fail> {
-    Ok(Cause::Bandwidth {
+#[test]
+fn answers_are_written(rt: HostRuntime) -> Result<(), Fail> {
+    let connection = read_id(b"urn:uuid:00000000-0000-8000-8000-000000000001")?;
+    let response = first(rt.alloc(), Body::ReserveResponse { connection })?;
+    assert!(rt; is_written(rt.alloc(), &response, RESPONSE)?);
+    let body = Body::ReserveConfirmed(confirmation(rt.alloc(), connection)?);
+    let confirmed = first(rt.alloc(), body)?;
+    assert!(rt; is_written(rt.alloc(), &confirmed, CONFIRMED)?);
+    Ok(())
+}
+
+fn lack(alloc: Global, flow: Flow) -> Result<Exception, Fail>
+    ensures { IfOk result (λ e. IsPrintableCause e.cause) }
+{
+    let cause = Cause::Bandwidth {
         stp: Name::of(alloc, b"A")?,
         flow,
         second: Second::new(150).unwrap(),
         load: 600,
         capacity: Mbps::new(1000).unwrap(),
-    })
+    };
+    let nsa = Name::of(alloc, b"p1")?;
+    Ok(Exception { nsa, cause })
 }
 
 #[test]
 fn refusals_are_written(rt: HostRuntime) -> Result<(), Fail> {
-    let second = read_id(b"urn:uuid:00000000-0000-8000-8000-000000000002")?;
-    let message = refused(rt.alloc(), second, lack(rt.alloc(), Flow::Both)?)?;
-    let written = print_line(rt.alloc(), &message)?;
-    assert_eq!(rt;
-        written.as_slice(),
-        r#"{"capacity":1000,"connectionId":"urn:uuid:00000000-0000-8000-8000-000000000002","correlationId":"urn:uuid:00000000-0001-8000-8000-000000000002","errorId":"BANDWIDTH","kind":"reserveFailed","load":600,"nsaId":"p1","providerNSA":"p1","requesterNSA":"r1","second":150,"stp":"A"}"#.as_bytes()
-    );
+    let connection = read_id(b"urn:uuid:00000000-0000-8000-8000-000000000002")?;
+    let exception = lack(rt.alloc(), Flow::Both)?;
+    let failed = second(
+        rt.alloc(),
+        Body::ReserveFailed {
+            connection,
+            exception,
+        },
+    )?;
+    assert!(rt; is_written(rt.alloc(), &failed, FAILED)?);
+    let exception = lack(rt.alloc(), Flow::In)?;
+    let failed = second(
+        rt.alloc(),
+        Body::ReserveFailed {
+            connection,
+            exception,
+        },
+    )?;
+    assert!(rt; is_written(rt.alloc(), &failed, FAILED_IN)?);
+    Ok(())
+}
+
+#[test]
+fn errors_are_written(rt: HostRuntime) -> Result<(), Fail> {
+    let exception = Exception {
+        nsa: Name::of(rt.alloc(), b"p1")?,
+        cause: Cause::Plain(ErrorName::WrongProvider),
+    };
+    let error = first(
+        rt.alloc(),
+        Body::Error {
+            connection: None,
+            exception,
+        },
+    )?;
+    assert!(rt; is_written(rt.alloc(), &error, ERROR)?);
     Ok(())
 }
 
@@ -240,14 +297,8 @@ fn refusals_are_written(rt: HostRuntime) -> Result<(), Fail> {
 fn unread_lines_are_answered(rt: HostRuntime) -> Result<(), Fail> {
     let fault = LineFault::Bad(Key::Capacity);
     let written = print_payload(rt.alloc(), fault.name(), fault.key(), 6)?;
-    assert_eq!(rt;
-        written.as_slice(),
-        r#"{"errorId":"PAYLOAD","fault":"Bad","key":"capacity","kind":"error","line":6}"#.as_bytes()
-    );
+    assert_eq!(rt; written.as_slice(), PAYLOAD_WITH_KEY.as_bytes());
     let written = print_payload(rt.alloc(), "NotJson", None, 7)?;
-    assert_eq!(rt;
-        written.as_slice(),
-        r#"{"errorId":"PAYLOAD","fault":"NotJson","kind":"error","line":7}"#.as_bytes()
-    );
+    assert_eq!(rt; written.as_slice(), PAYLOAD.as_bytes());
     Ok(())
 }
