@@ -1,0 +1,5 @@
+pub mod Serving
+pub mod Service
+pub mod Lines
+pub mod Outcome
+pub mod Promise

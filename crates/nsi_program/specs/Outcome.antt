@@ -1,0 +1,62 @@
+-- How the command `provide` ends, and all that it has written then.
+use Rattle.std.specs.Prelude.{ℕ, ◌+◌, List, [], ◌∷◌, ◌++◌, Bool, true, false, codes, decimal, Option, Some, None, Result, Ok, Err}
+use Rattle.stp_topology.specs.declared.network.Network.{Network}
+use Rattle.stp_topology.specs.Network.{first_provider}
+use Rattle.stp_topology.specs.Faults.{fault_name}
+use Rattle.stp_topology.specs.Text.{of_line}
+use Rattle.stp_topology.specs.declared.fault.TopologyFault.{TopologyFault}
+use Rattle.stp_topology.specs.declared.topology.Taken.{Taken}
+use Rattle.nsi_program.specs.Lines.{Served, serve, as_line}
+use Rattle.nsi_program.specs.Service.{serving_of}
+use Rattle.nsi_program.specs.declared.status.Ending.{Ending}
+use Rattle.nsi_program.specs.declared.provide.Phase.{Phase}
+use Rattle.nsi_program.specs.declared.provide.Step.{Step}
+
+-- what is written for a line, and what comes after it
+pub record Move : Type 0 where
+  pub text : List ℕ
+  pub step : Step
+
+abbrev pub topology_fault : ℕ → TopologyFault → List ℕ
+topology_fault number fault = as_line (codes "fault topology " ++ decimal number ++ codes " " ++ fault_name fault)
+
+-- a topology without a provider serves nobody
+abbrev pub opened : ℕ → Network → Option ℕ → Move
+opened number t None = record { text = topology_fault number TopologyFault.Empty; step = Step.End Ending.BadTopology }
+opened number t (Some provider) = record { text = []; step = Step.More (Phase.Serving (serving_of t provider)) }
+
+abbrev pub declared : ℕ → Result Taken TopologyFault → Move
+declared number (Err fault) = record { text = topology_fault number fault; step = Step.End Ending.BadTopology }
+declared number (Ok (Taken.More t)) = record { text = []; step = Step.More (Phase.Declaring t) }
+declared number (Ok (Taken.Whole t)) = opened number t (first_provider t)
+
+abbrev pub served : Served → Move
+served s = record { text = s.text; step = Step.More (Phase.Serving s.serving) }
+
+-- what a line does: the topology's lines come first
+unfoldable pub move_of : ℕ → Phase → List ℕ → Move
+move_of number (Phase.Declaring t) line = declared number (of_line t line)
+move_of number (Phase.Serving s) line = served (serve s number line)
+
+-- at the end of the lines; a topology without an end is faulty at the line after the last
+abbrev pub end_of : ℕ → Phase → Ending × List ℕ
+end_of number (Phase.Declaring t) = (Ending.BadTopology, topology_fault number TopologyFault.Word)
+end_of number (Phase.Serving s) = (Ending.Done, [])
+
+abbrev pub last_of : Bool → ℕ → Phase → Ending × List ℕ
+last_of true number phase = (Ending.Long, as_line (codes "fault long"))
+last_of false number phase = end_of number phase
+
+-- a line's text, and what follows
+abbrev pub behind : List ℕ → Step → (Phase → Ending × List ℕ) → Ending × List ℕ
+behind text (Step.End ending) next = (ending, text)
+behind text (Step.More phase) next = ((next phase).0, text ++ (next phase).1)
+
+-- the texts of the lines from a number on, one after another, up to the first that ends the command, and how it ends
+unfoldable pub outcome : Bool → ℕ → Phase → List (List ℕ) → Ending × List ℕ
+outcome long number phase [] = last_of long number phase
+outcome long number phase (line ∷ lines) = behind (move_of number phase line).text (move_of number phase line).step (λ p. outcome long (number + 1) p lines)
+
+abbrev pub is_more : Step → Bool
+is_more (Step.More phase) = true
+is_more (Step.End ending) = false

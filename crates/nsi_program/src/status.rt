@@ -1,0 +1,47 @@
+//! How a command ends.
+
+ghost use Rattle.std.specs.Prelude.{◌≡◌};
+ghost use Rattle.nsi_program.specs.Promise.{status_of, code_of};
+
+/// How a command ends. The numbers are the exit statuses of the program.
+#[derive(Clone, Copy, Debug, PartialEq, Eq)]
+pub enum Status {
+    Done = 0,
+    NoMemory = 1,
+    ReadFault = 2,
+    WriteFault = 3,
+    Usage = 4,
+    BadTopology = 5,
+    Long = 8,
+}
+
+impl Status {
+    /// The exit status of the program.
+    pub fn code(self) -> u8
+        ensures { result ≡ code_of self }
+    {
+        self as u8
+    }
+}
+
+/// An end that the words and the bytes determine.
+#[derive(Clone, Copy, Debug, PartialEq, Eq)]
+pub enum Ending {
+    Done,
+    Usage,
+    BadTopology,
+    Long,
+}
+
+impl Ending {
+    pub(crate) fn status(self) -> Status
+        ensures { result ≡ status_of self }
+    {
+        match self {
+            Ending::Done => Status::Done,
+            Ending::Usage => Status::Usage,
+            Ending::BadTopology => Status::BadTopology,
+            Ending::Long => Status::Long,
+        }
+    }
+}

@@ -1,0 +1,224 @@
+//! The top call.
+
+ghost use Rattle.std.specs.Prelude.{◌≡◌, ◌<◌, ◌≤◌, ◌+◌, ◌↔◌, Err, ◌⊎◌, IfOk, IsErrOf, OnOk, OnErr, codes, map, string_bytes, true, false};
+ghost use Rattle.line_reader.specs.Held.{budget, to_come};
+ghost use Rattle.nsi_program.specs.Lines.{as_line};
+ghost use Rattle.nsi_program.specs.Outcome.{is_more, move_of, end_of};
+ghost use Rattle.nsi_program.specs.Promise.{is_provide, is_told, promised, promised_after, promise_of, promise, read_fault_line, Writes, WritesFront, IsSameEnd, IsKept, IsFrontOf, IsCutByFault, IsUnfinished};
+
+use crate::provide::{Move, Phase, Step};
+use crate::status::{Ending, Status};
+use line_reader::{LineReader, Next, ReadError};
+use nsi_outside::{Sink, SinkError, Source, write_all};
+use std::alloc::Global;
+use stp_topology::Topology;
+
+/// The greatest input, in bytes.
+const GREATEST_INPUT: usize = 67_108_864;
+
+/// Why a line was not answered.
+#[derive(Clone, Copy, Debug, PartialEq, Eq)]
+enum Fault {
+    Read,
+    Write,
+    NoMemory,
+}
+
+/// Runs the command that the words name, on the bytes of the input. The words are those behind the program's name.
+///
+/// `provide` reads as it goes: a line is answered before the next one is read. A line of more than 65,536 bytes is
+/// refused; an input of more than 67,108,864 bytes is answered up to there.
+pub fn top_plain<S: Source, K: Sink>(
+    alloc: Global,
+    words: &[String],
+    input: &mut S,
+    out: &mut K,
+) -> Status
+    // The words and the bytes determine how it ends and all that is written.
+    ensures ends { is_told result ≡ true → IsKept (promise (map string_bytes words.now) (K.content out.old) (S.left input.old)) result (K.content out.new) }
+    ensures usage { is_told result ≡ true → ((result ≡ Status.Usage) ↔ (is_provide (map string_bytes words.now) ≡ false)) }
+
+    // A fault comes only from outside, and leaves whole lines or a front of them.
+    ensures read_fault { result ≡ Status.ReadFault → S.faults input.old < S.faults input.new }
+    ensures cut { result ≡ Status.ReadFault → IsCutByFault (promise (map string_bytes words.now) (K.content out.old) (S.left input.old)) (K.content out.new) }
+    ensures write_fault { result ≡ Status.WriteFault → K.faults out.old < K.faults out.new }
+    ensures unfinished { (result ≡ Status.WriteFault) ⊎ (result ≡ Status.NoMemory)
+        → IsUnfinished (promise (map string_bytes words.now) (K.content out.old) (S.left input.old)) (S.faults input.old < S.faults input.new) (K.content out.new) }
+{
+    if is_provide(words) {
+        provide(alloc, input, out)
+    } else {
+        usage(out)
+    }
+}
+
+/// Whether the words are the one word `provide`.
+fn is_provide(words: &[String]) -> bool
+    ensures { result ≡ is_provide (map string_bytes words.now) }
+{
+    words.len() == 1 && words[0].as_str() == "provide"
+}
+
+/// Appends a text.
+fn write_text<K: Sink>(out: &mut K, text: &[u8]) -> Result<(), Fault>
+    ensures all { OnOk result (Writes (K.content out.old) (K.content out.new) text.now) }
+    ensures front { OnErr result (WritesFront (K.content out.old) (K.content out.new) text.now) }
+    ensures write { IsErrOf result Fault.Write → K.faults out.old < K.faults out.new }
+    ensures not_read { IsErrOf result Fault.Read → ⊥ }
+    ensures writes { K.faults out.old ≤ K.faults out.new }
+{
+    match write_all(out, text) {
+        Ok(()) => Ok(()),
+        Err(SinkError::Failed) => Err(Fault::Write),
+        Err(SinkError::NoMemory) => Err(Fault::NoMemory),
+    }
+}
+
+/// Takes the next line, or the end.
+fn step<S: Source, K: Sink>(
+    alloc: Global,
+    input: &mut S,
+    reader: &mut LineReader,
+    out: &mut K,
+    number: u64,
+    phase: Phase,
+) -> Result<Step, Fault>
+    ensures step { IfOk result (λ step. IsSameEnd (promised number phase (K.content out.old) (to_come reader.old (S.left input.old)))
+        (promised_after (number + 1) step (K.content out.new) (to_come reader.new (S.left input.new)))) }
+    ensures shrinks { IfOk result (λ step. is_more step ≡ true → budget reader.new < budget reader.old) }
+    ensures front { OnErr result (IsFrontOf (promised number phase (K.content out.old) (to_come reader.old (S.left input.old))) (K.content out.new)) }
+    ensures read { IsErrOf result Fault.Read → S.faults input.old < S.faults input.new }
+    ensures write { IsErrOf result Fault.Write → K.faults out.old < K.faults out.new }
+    ensures reads { S.faults input.old ≤ S.faults input.new }
+    ensures writes { K.faults out.old ≤ K.faults out.new }
+{
+    match reader.next(alloc, input) {
+        Err(ReadError::Failed) => give_up(phase, Fault::Read),
+        Err(ReadError::NoMemory) => give_up(phase, Fault::NoMemory),
+        Ok(Next::Line(line)) => take_line(alloc, out, number, phase, &line),
+        Ok(Next::End) => end(alloc, out, number, phase),
+        Ok(Next::Long) => long(out, phase),
+    }
+}
+
+/// Lets go of a phase, and hands on the fault.
+fn give_up(phase: Phase, fault: Fault) -> Result<Step, Fault>
+    ensures { result ≡ Err fault }
+{
+    drop(phase);
+    Err(fault)
+}
+
+/// Writes what a line is answered.
+fn take_line<K: Sink>(
+    alloc: Global,
+    out: &mut K,
+    number: u64,
+    phase: Phase,
+    line: &[u8],
+) -> Result<Step, Fault>
+    ensures step { IfOk result (λ step. step ≡ (move_of number phase line.now).step) }
+    ensures all { OnOk result (Writes (K.content out.old) (K.content out.new) (move_of number phase line.now).text) }
+    ensures front { OnErr result (WritesFront (K.content out.old) (K.content out.new) (move_of number phase line.now).text) }
+    ensures write { IsErrOf result Fault.Write → K.faults out.old < K.faults out.new }
+    ensures not_read { IsErrOf result Fault.Read → ⊥ }
+    ensures writes { K.faults out.old ≤ K.faults out.new }
+{
+    let Ok(Move { text, step }) = phase.take(alloc, number, line) else {
+        return Err(Fault::NoMemory);
+    };
+    match write_text(out, &text) {
+        Ok(()) => Ok(step),
+        Err(fault) => {
+            drop(step);
+            Err(fault)
+        }
+    }
+}
+
+/// Writes what the end of the lines is answered.
+fn end<K: Sink>(alloc: Global, out: &mut K, number: u64, phase: Phase) -> Result<Step, Fault>
+    ensures step { IfOk result (λ step. step ≡ Step.End (end_of number phase).0) }
+    ensures all { OnOk result (Writes (K.content out.old) (K.content out.new) (end_of number phase).1) }
+    ensures front { OnErr result (WritesFront (K.content out.old) (K.content out.new) (end_of number phase).1) }
+    ensures write { IsErrOf result Fault.Write → K.faults out.old < K.faults out.new }
+    ensures not_read { IsErrOf result Fault.Read → ⊥ }
+    ensures writes { K.faults out.old ≤ K.faults out.new }
+{
+    let last = phase.end(alloc, number);
+    drop(phase);
+    let Ok((ending, text)) = last else {
+        return Err(Fault::NoMemory);
+    };
+    write_text(out, &text)?;
+    Ok(Step::End(ending))
+}
+
+/// Writes that there were more bytes than are taken.
+fn long<K: Sink>(out: &mut K, phase: Phase) -> Result<Step, Fault>
+    ensures step { IfOk result (λ step. step ≡ Step.End Ending.Long) }
+    ensures all { OnOk result (Writes (K.content out.old) (K.content out.new) (as_line (codes "fault long"))) }
+    ensures front { OnErr result (WritesFront (K.content out.old) (K.content out.new) (as_line (codes "fault long"))) }
+    ensures write { IsErrOf result Fault.Write → K.faults out.old < K.faults out.new }
+    ensures not_read { IsErrOf result Fault.Read → ⊥ }
+    ensures writes { K.faults out.old ≤ K.faults out.new }
+{
+    drop(phase);
+    write_text(out, b"fault long\n")?;
+    Ok(Step::End(Ending::Long))
+}
+
+/// Writes that the words are of no form.
+fn usage<K: Sink>(out: &mut K) -> Status
+    ensures told { is_told result ≡ true → (result ≡ Status.Usage) × Writes (K.content out.old) (K.content out.new) (as_line (codes "fault usage")) }
+    ensures front { is_told result ≡ false → WritesFront (K.content out.old) (K.content out.new) (as_line (codes "fault usage")) }
+    ensures write { result ≡ Status.WriteFault → K.faults out.old < K.faults out.new }
+    ensures not_read { result ≡ Status.ReadFault → ⊥ }
+{
+    match write_text(out, b"fault usage\n") {
+        Ok(()) => Ending::Usage.status(),
+        Err(Fault::Write) => Status::WriteFault,
+        Err(_) => Status::NoMemory,
+    }
+}
+
+/// Writes that reading failed.
+fn read_fault<K: Sink>(out: &mut K) -> Status
+    ensures told { result ≡ Status.ReadFault → Writes (K.content out.old) (K.content out.new) read_fault_line }
+    ensures front { (result ≡ Status.ReadFault → ⊥) → WritesFront (K.content out.old) (K.content out.new) read_fault_line }
+    ensures write { result ≡ Status.WriteFault → K.faults out.old < K.faults out.new }
+    ensures not_told { is_told result ≡ false }
+{
+    match write_text(out, b"fault read\n") {
+        Ok(()) => Status::ReadFault,
+        Err(Fault::Write) => Status::WriteFault,
+        Err(_) => Status::NoMemory,
+    }
+}
+
+/// The command `provide`.
+fn provide<S: Source, K: Sink>(alloc: Global, input: &mut S, out: &mut K) -> Status
+    ensures ends { is_told result ≡ true → IsKept (promise_of (K.content out.old) (S.left input.old)) result (K.content out.new) }
+    ensures not_usage { result ≡ Status.Usage → ⊥ }
+    ensures read_fault { result ≡ Status.ReadFault → S.faults input.old < S.faults input.new }
+    ensures cut { result ≡ Status.ReadFault → IsCutByFault (promise_of (K.content out.old) (S.left input.old)) (K.content out.new) }
+    ensures write_fault { result ≡ Status.WriteFault → K.faults out.old < K.faults out.new }
+    ensures unfinished { (result ≡ Status.WriteFault) ⊎ (result ≡ Status.NoMemory)
+        → IsUnfinished (promise_of (K.content out.old) (S.left input.old)) (S.faults input.old < S.faults input.new) (K.content out.new) }
+{
+    let mut reader = LineReader::new(alloc, GREATEST_INPUT);
+    let mut phase = Phase::Declaring(Topology::new(alloc));
+    let mut number = 1;
+    'lines: loop {
+        match step(alloc, input, &mut reader, out, number, phase) {
+            Ok(Step::More(next)) => {
+                phase = next;
+                number += 1;
+            }
+            Ok(Step::End(ending)) => return ending.status(),
+            Err(Fault::Read) => return read_fault(out),
+            Err(Fault::Write) => return Status::WriteFault,
+            Err(Fault::NoMemory) => return Status::NoMemory,
+        }
+    }
+}
