@@ -43,6 +43,13 @@ impl Calendar {
         })
     }
 
+    /// The capacity of a flow of a service termination point, where the point has the flow.
+    pub fn capacity(&self, stp: StpNo, flow: Flow) -> Option<Mbps>
+        ensures { result ≡ capacity_at self.now.capacities stp flow }
+    {
+        capacity_of(self.capacities.items(), stp, flow)
+    }
+
     /// What a record has booked.
     pub fn booking(&self, number: RecordNo) -> Option<&Booking>
         ensures { option_copied result ≡ booking_of number self.now.bookings }
