@@ -61,7 +61,8 @@ fn may_put(
     both_ways: bool,
 ) -> bool
     ensures free { IsTrue result → pending_of number calendar.now.bookings ≡ None }
-    ensures same_ends { IsTrue result → ForSome (booking_of number calendar.now.bookings) (IsBetween source dest both_ways) }
+    ensures same_ends { IsTrue result
+        → ForSome (booking_of number calendar.now.bookings) (IsBetween source dest both_ways) }
 {
     match calendar.booking(number) {
         None => true,
