@@ -1,5 +1,5 @@
 -- The first lack as a function.
-use Rattle.std.proofs.Common.{◌≡◌, ◌≢◌, ◌⊎◌, inl, inr, ◌≤◌, ◌<◌, ◌+◌, ◌-◌, ℕ, zero, suc, Bool, true, false, cond, List, [], ◌∷◌, Option, Some, None, arith, refl, sym, ap, ◌∙◌, subst}
+use Rattle.std.proofs.Common.{◌≡◌, ◌≢◌, ◌⊎◌, inl, inr, ◌≤◌, ◌<◌, ◌+◌, ◌-◌, ℕ, zero, suc, Bool, true, false, cond, List, [], ◌∷◌, Option, Some, None, nat_lt, arith, refl, sym, ap, ◌∙◌, subst}
 use Rattle.std.proofs.lemmas.Bool.Decides.{nat_tests, eqb_tells}
 use Rattle.nsi_base.specs.Range.{Span, is_covered}
 use Rattle.nsi_base.specs.declared.flow.Flow.{Flow}
@@ -84,3 +84,21 @@ not_booked (Some c) stp flow booked os span mbps h = ap (λ b. first_lack_among 
 
 pub no_such_flow : (o : Option ℕ) (stp : ℕ) (flow : Flow) (booked : Bool) (os : List Booking) (span : Span) (mbps : ℕ) → o ≡ None → first_lack_among (place_if o stp flow booked) os span mbps ≡ None
 no_such_flow o stp flow booked os span mbps h = ap (λ x. first_lack_among (place_if x stp flow booked) os span mbps) h ∙ none_among os span mbps
+
+lack_at-same : (ps : List Place) (os qs : List Booking) (mbps t : ℕ) → ((flow : Flow) (stp : ℕ) → load flow stp t os ≡ load flow stp t qs) → lack_at ps os mbps t ≡ lack_at ps qs mbps t
+unfolding lack_at
+lack_at-same [] os qs mbps t h = refl
+lack_at-same (p ∷ ps) os qs mbps t h =
+    ap (λ l. cond (nat_lt p.capacity (l + mbps)) (Some (lack_of p l t)) (lack_at ps os mbps t)) (h p.flow p.stp)
+    ∙ ap (cond (is_lacking p qs mbps t) (Some (lack_of p (load p.flow p.stp t qs) t))) (lack_at-same ps os qs mbps t h)
+
+first_from-same : {X : Type 0} (f g : ℕ → Option X) (n t : ℕ) → ((s : ℕ) → f s ≡ g s) → first_from f n t ≡ first_from g n t
+unfolding first_from
+first_from-same f g zero t h = refl
+first_from-same f g (suc n) t h = ap (λ o. or_else o (first_from f n (suc t))) (h t) ∙ ap (or_else (g t)) (first_from-same f g n (suc t) h)
+
+-- The first lack depends on the loads alone, not on how the bookings stand.
+pub first_lack_among-same : (ps : List Place) (os qs : List Booking) (span : Span) (mbps : ℕ) → ((flow : Flow) (stp t : ℕ) → load flow stp t os ≡ load flow stp t qs) → first_lack_among ps os span mbps ≡ first_lack_among ps qs span mbps
+unfolding first_lack_among
+first_lack_among-same ps os qs span mbps h =
+    first_from-same (lack_at ps os mbps) (lack_at ps qs mbps) (span.end - span.start) span.start (λ t. lack_at-same ps os qs mbps t (λ flow stp. h flow stp t))

@@ -5,4 +5,5 @@ pub mod Sooner
 pub mod Within
 pub mod Fits
 pub mod Sound
+pub mod ByNumber
 pub mod Rows

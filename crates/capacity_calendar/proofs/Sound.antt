@@ -35,7 +35,7 @@ still_none_of_others n number (b ∷ bs) h = by_tests (eqb b.number n) (eqb b.nu
     by_tests false true e h next = next h
     by_tests false false e h next = ap (λ c. cond c (Some b) (booking_of n (others number bs))) e ∙ next h
 
-one_each_of_others : (number : ℕ) (bs : List Booking) → HasOneEach bs → HasOneEach (others number bs)
+pub one_each_of_others : (number : ℕ) (bs : List Booking) → HasOneEach bs → HasOneEach (others number bs)
 one_each_of_others number [] h = tt
 one_each_of_others number (b ∷ bs) h = either (eqb b.number number) (one_each_of_others number bs h.1)
   where
@@ -44,11 +44,10 @@ one_each_of_others number (b ∷ bs) h = either (eqb b.number number) (one_each_
     either false q = (still_none_of_others b.number number bs h.0, q)
 
 -- a change that keeps the number
-KeepsNumber : (Booking → Booking) → Type 0
+abbrev pub KeepsNumber : (Booking → Booking) → Type 0
 KeepsNumber g = (b : Booking) → (g b).number ≡ b.number
 
 change_keeps : (number : ℕ) (g : Booking → Booking) → KeepsNumber g → (b : Booking) → (cond (eqb b.number number) (g b) b).number ≡ b.number
-unfolding KeepsNumber
 change_keeps number g k b = either (eqb b.number number)
   where
     either : (c : Bool) → (cond c (g b) b).number ≡ b.number
@@ -111,14 +110,14 @@ larger_of_fewer false m n = (omega arith, omega arith)
 
 -- settling
 pub sound_settled : (capacities : List Capacity) (number : ℕ) (bs : List Booking) → IsSound (record { capacities = capacities; bookings = bs }) → IsSound (record { capacities = capacities; bookings = settled number bs })
-unfolding claim KeepsNumber
+unfolding claim
 sound_settled capacities number bs s =
     sound_changed capacities number (λ b. record b { committed = b.pending; pending = None }) bs (λ b. refl)
     (λ flow stp t b. (larger_of_fewer (books flow b.both_ways (eqb b.source stp) (eqb b.dest stp)) (taken b.committed t) (taken b.pending t)).0) s
 
 -- taking the pending slot away
 pub sound_unset : (capacities : List Capacity) (number : ℕ) (bs : List Booking) → IsSound (record { capacities = capacities; bookings = bs }) → IsSound (record { capacities = capacities; bookings = pending_set number None bs })
-unfolding claim KeepsNumber
+unfolding claim
 sound_unset capacities number bs s =
     sound_changed capacities number (λ b. record b { pending = None }) bs (λ b. refl)
     (λ flow stp t b. (larger_of_fewer (books flow b.both_ways (eqb b.source stp) (eqb b.dest stp)) (taken b.committed t) (taken b.pending t)).1) s
@@ -138,7 +137,6 @@ claim_fits flow stp t b slot rest capacity = either (books flow b.both_ways (eqb
 sound_set : (capacities : List Capacity) (number : ℕ) (b : Booking) (slot : Slot) (bs : List Booking) → booking_of number bs ≡ Some b
     → first_lack (record { capacities = capacities; bookings = bs }) number b.source b.dest b.both_ways slot.interval slot.mbps ≡ None
     → IsSound (record { capacities = capacities; bookings = bs }) → IsSound (record { capacities = capacities; bookings = pending_set number (Some slot) bs })
-unfolding KeepsNumber
 sound_set capacities number b slot bs h free s = record {
   within = λ flow stp t capacity e.
       let f = claim flow stp t in

@@ -3,7 +3,13 @@ use Rattle.std.specs.Prelude.{◌≡◌, ◌≤◌, ◌<◌, ℕ, ◌&&◌, List
 use Rattle.nsi_base.specs.Range.{Span, is_covered}
 use Rattle.capacity_calendar.specs.declared.booking.Booking.{Booking}
 use Rattle.capacity_calendar.specs.declared.booking.Lack.{Lack}
+use Rattle.capacity_calendar.specs.declared.booking.Place.{Place}
 use Rattle.capacity_calendar.specs.declared.booking.Slot.{Slot}
+use Rattle.capacity_calendar.specs.Load.{load}
+
+-- At no second do these bookings pass the capacity of the place.
+abbrev pub StaysWithin : Place → List Booking → Type 0
+StaysWithin place bookings = (t : ℕ) → load place.flow place.stp t bookings ≤ place.capacity
 
 -- a second that lacks, and none before it in the span does
 pub record IsFirst (lacks : ℕ → Bool) (span : Span) (t : ℕ) : Type 0 where

@@ -43,6 +43,13 @@ impl Calendar {
         })
     }
 
+    /// The capacity of a flow of a service termination point, where the point has the flow.
+    pub fn capacity(&self, stp: StpNo, flow: Flow) -> Option<Mbps>
+        ensures { result ≡ capacity_at self.now.capacities stp flow }
+    {
+        capacity_of(self.capacities.items(), stp, flow)
+    }
+
     /// What a record has booked.
     pub fn booking(&self, number: RecordNo) -> Option<&Booking>
         ensures { option_copied result ≡ booking_of number self.now.bookings }
@@ -54,7 +61,7 @@ impl Calendar {
     pub fn load_at(&self, stp: StpNo, flow: Flow, t: Second) -> u64
         requires { IsSome (capacity_at self.now.capacities stp flow) }
         ensures sum { result ≡ load flow stp t self.now.bookings }
-        ensures within { IfSome (capacity_at self.now.capacities stp flow) (λ capacity. result ≤ capacity) }
+        ensures within { IfSome (capacity_at self.now.capacities stp flow) (λ c. result ≤ c) }
     {
         let Some(capacity) = capacity_of(self.capacities.items(), stp, flow) else {
             unreachable!()
@@ -78,7 +85,7 @@ impl Calendar {
     ) -> Option<Lack>
         requires { IsSome (capacity_at self.now.capacities stp flow) }
         ensures none { IfNone result (Fits self.now number stp flow interval mbps) }
-        ensures first { IfSome result (λ lack. IsFirstLack self.now number stp flow interval mbps lack) }
+        ensures first { IfSome result (IsFirstLack self.now number stp flow interval mbps) }
         ensures function { result ≡ first_lack_at self.now number stp flow interval mbps }
     {
         let capacity = capacity_of(self.capacities.items(), stp, flow)?;
@@ -125,8 +132,9 @@ impl Calendar {
     }
 
     fn lack_at_point(&self, wish: &Wish, stp: StpNo) -> Option<Lack>
-        ensures { result ≡ first_lack_among (places_at self.now.capacities wish.now.source wish.now.dest wish.now.both_ways stp)
-            (others wish.now.number self.now.bookings) wish.now.interval wish.now.mbps }
+        ensures { let w = wish.now in
+            let places = places_at self.now.capacities w.source w.dest w.both_ways stp in
+            result ≡ first_lack_among places (others w.number self.now.bookings) w.interval w.mbps }
     {
         let both = self.lack_in_flow(wish, stp, Flow::Both);
         let inward = self.lack_in_flow(wish, stp, Flow::In);
@@ -135,8 +143,9 @@ impl Calendar {
     }
 
     fn lack_in_flow(&self, wish: &Wish, stp: StpNo, flow: Flow) -> Option<Lack>
-        ensures { result ≡ first_lack_among (booked_place self.now.capacities wish.now.source wish.now.dest wish.now.both_ways stp flow)
-            (others wish.now.number self.now.bookings) wish.now.interval wish.now.mbps }
+        ensures { let w = wish.now in
+            let place = booked_place self.now.capacities w.source w.dest w.both_ways stp flow in
+            result ≡ first_lack_among place (others w.number self.now.bookings) w.interval w.mbps }
     {
         if !flow.is_booked(wish.both_ways, wish.source == stp, wish.dest == stp) {
             return None;
@@ -157,10 +166,11 @@ impl Calendar {
     ) -> Result<(), AllocError>
         requires fits { first_lack self.old number source dest both_ways interval mbps ≡ None }
         requires free { pending_of number self.old.bookings ≡ None }
-        requires same_ends { ForSome (booking_of number self.old.bookings) (IsBetween source dest both_ways) }
-        ensures ok { OnOk result (self.new ≡ record self.old {
-          bookings = with_pending number source dest both_ways (record { interval = interval; mbps = mbps }) self.old.bookings;
-        }) }
+        requires same_ends { let booking = booking_of number self.old.bookings in
+            ForSome booking (IsBetween source dest both_ways) }
+        ensures ok { let bookings = with_pending number source dest both_ways
+            (record { interval = interval; mbps = mbps }) self.old.bookings in
+            OnOk result (self.new ≡ record self.old { bookings = bookings }) }
         ensures err { OnErr result (self.new ≡ self.old) }
         ensures sound { IsSound self.new }
     {
@@ -209,8 +219,10 @@ fn booking_of(bookings: &[Booking], number: RecordNo) -> Option<&Booking>
 }
 
 fn add_pending(bookings: &mut Vec<Booking>, wish: &Wish) -> Result<(), AllocError>
-    ensures ok { OnOk result (bookings.new.items ≡ with_pending wish.now.number wish.now.source wish.now.dest wish.now.both_ways
-        (record { interval = wish.now.interval; mbps = wish.now.mbps }) bookings.old.items) }
+    ensures ok { let w = wish.now in
+        let new = with_pending w.number w.source w.dest w.both_ways
+        (record { interval = w.interval; mbps = w.mbps }) bookings.old.items in
+        OnOk result (bookings.new.items ≡ new) }
     ensures err { OnErr result (bookings.new.items ≡ bookings.old.items) }
 {
     let pending = Some(Slot {

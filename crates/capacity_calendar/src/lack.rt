@@ -3,7 +3,7 @@
 ghost use Rattle.std.specs.Prelude.{◌≡◌, ℕ, ◌≤◌, ◌<◌, MatchOption};
 ghost use Rattle.capacity_calendar.specs.Load.{load, others};
 ghost use Rattle.capacity_calendar.specs.Lack.{is_lacking};
-ghost use Rattle.capacity_calendar.specs.Search.{IsFirst, HasRoom, earlier, start_if, booking_start, first_start, sooner};
+ghost use Rattle.capacity_calendar.specs.Search.{StaysWithin, IsFirst, HasRoom, earlier, start_if, first_start, sooner};
 
 use crate::booking::{Booking, Lack, Place, Slot};
 use crate::load::load_of_others;
@@ -36,8 +36,9 @@ fn start_if(
     interval: Interval,
     slot: &Option<Slot>,
 ) -> Option<Second>
-    requires { (t : ℕ) → load place.now.flow place.now.stp t (others number bookings.now) ≤ place.now.capacity }
-    ensures { result ≡ start_if (is_lacking place.now (others number bookings.now) mbps) interval slot.now }
+    requires { StaysWithin place.now (others number bookings.now) }
+    ensures { result
+        ≡ start_if (is_lacking place.now (others number bookings.now) mbps) interval slot.now }
 {
     match slot {
         None => None,
@@ -60,8 +61,9 @@ fn first_start(
     mbps: Mbps,
     interval: Interval,
 ) -> Option<Second>
-    requires { (t : ℕ) → load place.now.flow place.now.stp t (others number bookings.now) ≤ place.now.capacity }
-    ensures { result ≡ first_start (is_lacking place.now (others number bookings.now) mbps) interval bookings.now }
+    requires { StaysWithin place.now (others number bookings.now) }
+    ensures { let lacks = is_lacking place.now (others number bookings.now) mbps in
+        result ≡ first_start lacks interval bookings.now }
 {
     let mut first = None;
     for b in bookings {
@@ -80,10 +82,10 @@ pub(crate) fn first_second(
     mbps: Mbps,
     interval: Interval,
 ) -> Option<Second>
-    requires { (t : ℕ) → load place.now.flow place.now.stp t (others number bookings.now) ≤ place.now.capacity }
+    requires { StaysWithin place.now (others number bookings.now) }
     ensures ordered { interval.start < interval.end }
-    ensures first { MatchOption result (HasRoom (is_lacking place.now (others number bookings.now) mbps) interval)
-        (λ t. IsFirst (is_lacking place.now (others number bookings.now) mbps) interval t) }
+    ensures first { let lacks = is_lacking place.now (others number bookings.now) mbps in
+        MatchOption result (HasRoom lacks interval) (λ t. IsFirst lacks interval t) }
 {
     let start = interval.start();
     if is_lacking(bookings, number, place, mbps, start) {

@@ -5,6 +5,8 @@ pub mod booking;
 mod calendar;
 mod lack;
 mod load;
+#[cfg(test)]
+mod tests;
 
 pub use booking::{Booking, Capacity, Lack, Slot};
 pub use calendar::Calendar;
