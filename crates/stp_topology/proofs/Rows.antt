@@ -27,13 +27,13 @@ unfolding lines_to feed_at value_from number_of words_of known_agent with_agent 
 five_lines = refl
 
 -- comments and empty lines are skipped, and a carriage return belongs to a line's end
-skips : topology_of (codes "# agent\r\n\r\nagent p provider 86400\r\n---\r\n") ≡ Ok (record nothing { agents = codes "p" ∷ []; kinds = Provider 86400 ∷ []; }, 40)
+skips : topology_of (codes "# agent\r\n\r\nagent p provider 86400\r\n---\r\n") ≡ Ok (record nothing { agents = codes "p" ∷ []; kinds = Provider 86400 ∷ [] }, 40)
 unfolding lines_to feed_at value_from number_of words_of known_agent with_agent add_provider add_aggregator add_requester with_stp add_stp with_sdp add_sdp leads_down stands_over with_child add_child line_of of_line read_lines behind_lines
 skips = refl
 
 -- the first fault of a text, and on a line the first in the order of the faults
 faults :
-      (topology_of [] ≡ Err (1, Word))
+    (topology_of [] ≡ Err (1, Word))
     × (topology_of (codes "---") ≡ Err (1, Empty))
     × (topology_of (codes "agent p1 provider 60") ≡ Err (2, Word))
     × (topology_of (codes "agent p1  provider 60") ≡ Err (1, Word))

@@ -55,7 +55,7 @@ first_step (Err e) f new h = cc
 -- nothing is declared twice, so nothing is out of range
 pub nothing_sound : IsSound nothing
 nothing_sound = record {
-  fit = record { few_agents = omega arith; few_stps = omega arith; kinds = refl; owners = refl; capacities = refl; partners = refl; };
+  fit = record { few_agents = omega arith; few_stps = omega arith; kinds = refl; owners = refl; capacities = refl; partners = refl };
   owned = λ s a h. cc;
   asked = λ a p h. cc;
   joined = λ s p h. cc;
@@ -78,8 +78,9 @@ agent_made t name kind i asks few = record {
   };
   owned = λ s a h. let p = i.owned s a h in (p.0, stays_at t.kinds (kind ∷ []) (Provider p.0) a p.1);
   asked = λ a p h. elim (at_push t.kinds kind (Requester p) a h) [
-      inl e ↦ omega (arith, pushed t.agents name, i.asked a p e)
-    | inr e ↦ omega (arith, pushed t.agents name, asks p e.1) ];
+    | inl e ↦ omega (arith, pushed t.agents name, i.asked a p e)
+    | inr e ↦ omega (arith, pushed t.agents name, asks p e.1)
+  ];
   joined = i.joined;
   parents = λ k e h. stays_at t.kinds (kind ∷ []) Aggregator e.0 (i.parents k e h);
   children = λ k e h. omega (arith, pushed t.agents name, i.children k e h);

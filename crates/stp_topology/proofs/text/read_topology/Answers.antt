@@ -8,7 +8,7 @@ use Rattle.stp_topology.proofs.text.read_topology.Goals as goal
 
 pub lines-init : goal.lines-init
 unfolding behind_lines
-lines-init c = record { same = ap (λ (t : Network). read_lines t 0 (lines_of c.args.text.now)) c.new-topology.ensures; place = refl; few = omega arith; }
+lines-init c = record { same = ap (λ (t : Network). read_lines t 0 (lines_of c.args.text.now)) c.new-topology.ensures; place = refl; few = omega arith }
 
 pub returns-in-Ok-Whole : goal.returns-in-Ok-Whole
 returns-in-Ok-Whole c =
