@@ -1,8 +1,8 @@
-use Rattle.std.proofs.Common.{◌≡◌, ◌+◌, ◌-◌, length, arith, refl, sym, ap, ◌∙◌, Ok, Err}
+use Rattle.std.proofs.Common.{◌+◌, ◌-◌, length, arith, refl, ap, ◌∙◌, Ok}
 use Rattle.nsi_base.specs.Lines.{lines_of}
 use Rattle.stp_topology.specs.declared.topology.Taken.{Taken}
 use Rattle.stp_topology.specs.Network.{Network}
-use Rattle.stp_topology.specs.Text.{behind_lines, read_lines, placed, topology_of}
+use Rattle.stp_topology.specs.Text.{behind_lines, read_lines, placed}
 use Rattle.stp_topology.proofs.TextLemmas.{goes_on, is_whole, fails, without_end, behind_next}
 use Rattle.stp_topology.proofs.text.read_topology.Goals as goal
 
