@@ -6,7 +6,7 @@ use Rattle.stp_topology.specs.declared.fault.TopologyFault.TheVariants.{Word, Un
 use Rattle.stp_topology.specs.declared.network.AgentKind.TheVariants.{Provider, Aggregator, Requester}
 use Rattle.stp_topology.specs.declared.declare.Sort.TheVariants as sorts
 use Rattle.stp_topology.specs.Faults.{◌>>=◌, value_or}
-use Rattle.stp_topology.specs.Network.{Network, AgentKind, stp_of}
+use Rattle.stp_topology.specs.Network.{Network, stp_of}
 use Rattle.stp_topology.specs.Sound.{IsSound}
 use Rattle.stp_topology.specs.Words.{name_form, number_form}
 use Rattle.stp_topology.specs.Lines.{known_agent, with_agent, add_provider, add_aggregator, add_requester, with_stp, add_stp, with_sdp, add_sdp, with_child, add_child, word, is_form, line_of}

@@ -1,10 +1,9 @@
 -- Texts and what they declare, computed by the definitions.
-use Rattle.std.proofs.Common.{◌≡◌, ℕ, List, [], ◌∷◌, ◌++◌, Some, None, Result, Ok, Err, refl, codes}
+use Rattle.std.proofs.Common.{◌≡◌, [], ◌∷◌, None, Ok, Err, refl, codes}
 use Rattle.nsi_base.specs.Lines.{lines_to, feed_at}
 use Rattle.nsi_base.specs.Digits.{value_from, number_of}
 use Rattle.stp_topology.specs.declared.fault.TopologyFault.TheVariants.{Word, Unknown, Twice, Cycle, TooDeep, Empty}
-use Rattle.stp_topology.specs.declared.network.AgentKind.TheVariants.{Provider, Aggregator, Requester}
-use Rattle.stp_topology.specs.declared.topology.Taken.TheVariants.{More, Whole}
+use Rattle.stp_topology.specs.declared.network.AgentKind.TheVariants.{Provider, Requester}
 use Rattle.stp_topology.specs.Network.{Network, nothing}
 use Rattle.stp_topology.specs.Words.{words_of}
 use Rattle.stp_topology.specs.Lines.{known_agent, with_agent, add_provider, add_aggregator, add_requester, with_stp, add_stp, with_sdp, add_sdp, leads_down, stands_over, with_child, add_child, line_of}
@@ -27,13 +26,13 @@ unfolding lines_to feed_at value_from number_of words_of known_agent with_agent 
 five_lines = refl
 
 -- comments and empty lines are skipped, and a carriage return belongs to a line's end
-skips : topology_of (codes "# agent\r\n\r\nagent p provider 86400\r\n---\r\n") ≡ Ok (record nothing { agents = codes "p" ∷ []; kinds = Provider 86400 ∷ []; }, 40)
+skips : topology_of (codes "# agent\r\n\r\nagent p provider 86400\r\n---\r\n") ≡ Ok (record nothing { agents = codes "p" ∷ []; kinds = Provider 86400 ∷ [] }, 40)
 unfolding lines_to feed_at value_from number_of words_of known_agent with_agent add_provider add_aggregator add_requester with_stp add_stp with_sdp add_sdp leads_down stands_over with_child add_child line_of of_line read_lines behind_lines
 skips = refl
 
 -- the first fault of a text, and on a line the first in the order of the faults
 faults :
-      (topology_of [] ≡ Err (1, Word))
+    (topology_of [] ≡ Err (1, Word))
     × (topology_of (codes "---") ≡ Err (1, Empty))
     × (topology_of (codes "agent p1 provider 60") ≡ Err (2, Word))
     × (topology_of (codes "agent p1  provider 60") ≡ Err (1, Word))

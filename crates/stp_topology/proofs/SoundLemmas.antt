@@ -1,18 +1,18 @@
 -- Each line keeps what is true of every topology.
-use Rattle.std.proofs.Common.{◌≡◌, ◌≢◌, ℕ, zero, suc, ◌+◌, ◌<◌, ◌≤◌, List, [], ◌∷◌, ◌++◌, Bool, true, false, ◌||◌, ◌==◌, nat_le, cond, Option, Some, None, Result, Ok, Err, is_some, length, length-append, length-set, get_or, slice_get, slice_set, ◌⊎◌, inl, inr, sym, ◌∙◌, refl, ap, arith, IfSome, eqb, subst}
+use Rattle.std.proofs.Common.{◌≡◌, ◌≢◌, ℕ, zero, suc, ◌+◌, ◌<◌, ◌≤◌, List, [], ◌∷◌, ◌++◌, Bool, true, false, ◌||◌, nat_le, cond, Option, Some, None, Result, Ok, Err, is_some, length, length-append, length-set, get_or, slice_get, slice_set, ◌⊎◌, inl, inr, sym, ◌∙◌, refl, ap, arith, IfSome, subst}
 use Rattle.std.specs.List.{position_from}
 use Rattle.std.proofs.lemmas.Bool.Decides.{nat_tests}
 use Rattle.std.proofs.lemmas.Bool.{cases_eq}
 use Rattle.std.proofs.lemmas.Option.{slice_get_within, slice_get-get_or}
 use Rattle.stp_topology.specs.declared.fault.TopologyFault.{TopologyFault}
-use Rattle.stp_topology.specs.declared.fault.TopologyFault.TheVariants.{Word, Unknown, Twice, Cycle, TooDeep, Limit}
+use Rattle.stp_topology.specs.declared.fault.TopologyFault.TheVariants.{Unknown, Twice, Cycle, TooDeep, Limit}
 use Rattle.stp_topology.specs.declared.network.AgentKind.TheVariants.{Provider, Aggregator, Requester}
 use Rattle.stp_topology.specs.declared.declare.Sort.{Sort}
 use Rattle.stp_topology.specs.declared.declare.Sort.TheVariants as sorts
 use Rattle.stp_topology.specs.Faults.{◌>>=◌, value_or}
 use Rattle.stp_topology.specs.Names.{place_of}
 use Rattle.stp_topology.specs.Network.{Network, AgentKind, agent_of, stp_of, nothing, is_provider}
-use Rattle.stp_topology.specs.Sound.{IsFit, IsSound, IsProvider, IsAggregator}
+use Rattle.stp_topology.specs.Sound.{IsSound, IsProvider, IsAggregator}
 use Rattle.stp_topology.specs.Lines.{is_of, known_agent, with_agent, with_stp, is_joined, are_same, with_sdp, has_pair, leads_down, is_too_deep, with_child}
 
 -- where an element stands that a longer list has
@@ -55,7 +55,7 @@ first_step (Err e) f new h = cc
 -- nothing is declared twice, so nothing is out of range
 pub nothing_sound : IsSound nothing
 nothing_sound = record {
-  fit = record { few_agents = omega arith; few_stps = omega arith; kinds = refl; owners = refl; capacities = refl; partners = refl; };
+  fit = record { few_agents = omega arith; few_stps = omega arith; kinds = refl; owners = refl; capacities = refl; partners = refl };
   owned = λ s a h. cc;
   asked = λ a p h. cc;
   joined = λ s p h. cc;
@@ -78,8 +78,9 @@ agent_made t name kind i asks few = record {
   };
   owned = λ s a h. let p = i.owned s a h in (p.0, stays_at t.kinds (kind ∷ []) (Provider p.0) a p.1);
   asked = λ a p h. elim (at_push t.kinds kind (Requester p) a h) [
-      inl e ↦ omega (arith, pushed t.agents name, i.asked a p e)
-    | inr e ↦ omega (arith, pushed t.agents name, asks p e.1) ];
+    | inl e ↦ omega (arith, pushed t.agents name, i.asked a p e)
+    | inr e ↦ omega (arith, pushed t.agents name, asks p e.1)
+  ];
   joined = i.joined;
   parents = λ k e h. stays_at t.kinds (kind ∷ []) Aggregator e.0 (i.parents k e h);
   children = λ k e h. omega (arith, pushed t.agents name, i.children k e h);

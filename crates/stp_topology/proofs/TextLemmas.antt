@@ -1,5 +1,5 @@
 -- A text, line by line.
-use Rattle.std.proofs.Common.{◌≡◌, ℕ, zero, suc, ◌+◌, ◌-◌, ◌<◌, ◌≤◌, List, [], ◌∷◌, ◌++◌, Bool, true, false, Option, Some, None, length, take, drop, sym, ◌∙◌, refl, ap, arith, subst, drop-drop, Result, Ok, Err}
+use Rattle.std.proofs.Common.{◌≡◌, ℕ, zero, suc, ◌+◌, ◌<◌, List, [], ◌∷◌, ◌++◌, true, Some, None, length, take, drop, sym, ◌∙◌, refl, ap, arith, drop-drop, Result, Ok, Err}
 use Rattle.std.proofs.lemmas.List.{take_all, drop_all}
 use Rattle.nsi_base.specs.Lines.{lines_of, lines_to, feed_at, without_return}
 use Rattle.nsi_base.proofs.LineCuts.{lines_end, lines_last}
@@ -7,8 +7,8 @@ use Rattle.stp_topology.specs.declared.fault.TopologyFault.{TopologyFault}
 use Rattle.stp_topology.specs.declared.fault.TopologyFault.TheVariants.{Word}
 use Rattle.stp_topology.specs.declared.topology.Taken.{Taken}
 use Rattle.stp_topology.specs.declared.topology.Taken.TheVariants.{More, Whole}
-use Rattle.stp_topology.specs.Network.{Network, nothing}
-use Rattle.stp_topology.specs.Text.{of_line, onward, read_lines, behind_feed, behind_lines, place_behind, placed, topology_of}
+use Rattle.stp_topology.specs.Network.{Network}
+use Rattle.stp_topology.specs.Text.{of_line, onward, read_lines, behind_feed, behind_lines}
 
 nil-append : (xs : List ℕ) → xs ++ [] ≡ xs
 nil-append [] = refl

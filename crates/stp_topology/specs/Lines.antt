@@ -8,7 +8,6 @@ use Rattle.stp_topology.specs.declared.network.AgentKind.TheVariants.{Provider, 
 use Rattle.stp_topology.specs.declared.declare.Sort.{Sort}
 use Rattle.stp_topology.specs.declared.declare.Sort.TheVariants as sorts
 use Rattle.stp_topology.specs.Faults.{◌>>=◌, value_or}
-use Rattle.stp_topology.specs.Names.{place_of}
 use Rattle.stp_topology.specs.Network.{Network, AgentKind, agent_of, stp_of}
 use Rattle.stp_topology.specs.Words.{name_form, number_form}
 

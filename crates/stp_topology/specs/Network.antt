@@ -1,8 +1,8 @@
 -- What a topology declares, and what can be asked of it.
 pub use Rattle.stp_topology.specs.declared.network.Network.{Network}
 pub use Rattle.stp_topology.specs.declared.network.AgentKind.{AgentKind}
-use Rattle.stp_topology.specs.declared.network.AgentKind.TheVariants.{Provider, Aggregator, Requester}
-use Rattle.std.specs.Prelude.{ℕ, ◌/◌, List, [], Bool, true, false, ◌||◌, Option, Some, None, is_some, slice_get, get_or, count_by}
+use Rattle.stp_topology.specs.declared.network.AgentKind.TheVariants.{Provider}
+use Rattle.std.specs.Prelude.{ℕ, ◌/◌, List, [], Bool, true, false, Option, None, is_some, slice_get, get_or, count_by}
 use Rattle.std.specs.List.{position_from}
 use Rattle.nsi_base.specs.declared.flow.Flow.{Flow}
 use Rattle.nsi_base.specs.declared.flow.Flow.TheVariants as flows

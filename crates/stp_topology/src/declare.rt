@@ -119,7 +119,12 @@ impl Network {
     }
 
     #[tactic(auto, unfolding(crate::specs::Lines::add_provider))]
-    fn add_provider(&mut self, alloc: Global, word: &[u8], seconds: &[u8]) -> Result<(), LineRefusal>
+    fn add_provider(
+        &mut self,
+        alloc: Global,
+        word: &[u8],
+        seconds: &[u8],
+    ) -> Result<(), LineRefusal>
         ensures { Leaves result self.new (add_provider self.old word.now seconds.now) }
     {
         let name = name(word)?;

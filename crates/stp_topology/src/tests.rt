@@ -1,190 +1,138 @@
-//! Topologies, and the first fault of each kind.
+//! Each call once, and the limits.
 
-use crate::{AgentKind, LineRefusal, Taken, Topology, TopologyFault, TopologyRefusal, read_topology};
-use nsi_base::{AgentNo, Flow, StpNo};
+use crate::words::words;
+use crate::{
+    AgentKind, LineRefusal, Taken, Topology, TopologyFault, TopologyRefusal, read_topology,
+};
+use nsi_base::{AgentNo, Flow, Mbps, StpNo};
 use std::alloc::{AllocError, Global};
-use std::process::Abort;
 
-/// Two providers below an aggregator, a requester, three STPs, and an SDP.
-const NETWORK: &str = "# two providers\nagent p1 provider 60\r\n\nagent p2 provider 86400\nagent a1 aggregator\nagent r1 requester a1\nstp p1\tA 1000\nstp p1 B 1099511627776\nstp p2 C 0500\nsdp B C\nchild a1 p2\nchild a1 p1\n---\nrest";
+/// Two providers below an aggregator, its requester, and three STPs of which two are joined.
+const LINES: [&str; 12] = [
+    "# a network",
+    "agent p1 provider 60",
+    "",
+    "agent p2 provider 86400",
+    "agent a1 aggregator",
+    "agent r1 requester a1",
+    "stp p1 A 1000",
+    "stp p1\tB 1099511627776",
+    "stp p2 C 0500",
+    "sdp B C",
+    "child a1 p2",
+    "child a1 p1",
+];
 
-#[test]
-fn tells_what_was_declared(rt: HostRuntime) {
-    let Ok((topology, place)) = read_topology(rt.alloc(), NETWORK.as_bytes()) else {
-        assert!(rt; false);
-        return;
-    };
-    topology.facts();
-    assert_eq!(rt; place, NETWORK.len() - 4);
-    assert_eq!(rt; topology.agents(), 4);
-    assert_eq!(rt; topology.stps(), 3);
-    assert_eq!(rt; topology.sdps(), 1);
-    assert!(rt; topology.first_provider() == AgentNo::new(0));
-    tells_agents(&rt, &topology);
-    tells_stps(&rt, &topology);
-}
-
-fn tells_agents(rt: &impl Abort, topology: &Topology) {
-    let kinds = [
-        ("p1", AgentKind::Provider { hold: 60 }),
-        ("p2", AgentKind::Provider { hold: 86_400 }),
-        ("a1", AgentKind::Aggregator),
-    ];
-    for (name, kind) in kinds {
-        let Some(a) = topology.agent_of(name.as_bytes()) else {
-            assert!(rt; false);
-            return;
+fn network(alloc: Global) -> Option<Topology> {
+    let mut topology = Topology::new(alloc);
+    for line in LINES {
+        topology = match topology.take_line(line.as_bytes()) {
+            Ok(Taken::More(next)) => next,
+            _ => return None,
         };
-        assert!(rt; topology.kind(a) == kind);
-        assert!(rt; topology.name(a).bytes() == name.as_bytes());
     }
-    match topology.agent_of(b"r1") {
-        Some(a) => match topology.kind(a) {
-            AgentKind::Requester { provider } => {
-                assert!(rt; topology.agent_of(b"a1") == Some(provider));
-            }
-            _ => assert!(rt; false),
-        },
-        None => assert!(rt; false),
-    }
-    assert!(rt; topology.agent_of(b"A") == None);
-}
-
-fn tells_stps(rt: &impl Abort, topology: &Topology) {
-    let stps = [
-        ("A", "p1", 1000, None),
-        ("B", "p1", 1_099_511_627_776, StpNo::new(2)),
-        ("C", "p2", 500, StpNo::new(1)),
-    ];
-    for (name, owner, mbps, partner) in stps {
-        let Some(s) = topology.stp_of(name.as_bytes()) else {
-            assert!(rt; false);
-            return;
-        };
-        assert!(rt; topology.stp_name(s).bytes() == name.as_bytes());
-        assert!(rt; Some(topology.owner(s)) == topology.agent_of(owner.as_bytes()));
-        assert!(rt; topology.partner(s) == partner);
-        assert!(rt; topology.capacity(s, Flow::In) == None);
-        match topology.capacity(s, Flow::Both) {
-            Some(capacity) => assert_eq!(rt; capacity.get(), mbps),
-            None => assert!(rt; false),
-        }
-    }
-}
-
-#[test]
-fn goes_on_line_by_line(rt: HostRuntime) {
-    match Topology::new(rt.alloc()).take_line(b"agent p1 provider 1") {
-        Ok(Taken::More(topology)) => match topology.take_line(b"---") {
-            Ok(Taken::Whole(topology)) => assert_eq!(rt; topology.agents(), 1),
-            _ => assert!(rt; false),
-        },
-        _ => assert!(rt; false),
-    }
-}
-
-fn fault_of(alloc: Global, text: &str) -> Option<(u32, TopologyFault)> {
-    if text.len() > 1000 {
-        return None;
-    }
-    match read_topology(alloc, text.as_bytes()) {
-        Err(TopologyRefusal::Fault { line, fault }) => Some((line, fault)),
+    match topology.take_line(b"---") {
+        Ok(Taken::Whole(whole)) => Some(whole),
         _ => None,
     }
 }
 
-#[test]
-fn finds_words_out_of_form(rt: HostRuntime) {
-    for (text, line) in [
-        ("", 1),
-        ("agent p1 provider 60\n", 2),
-        ("# none\n\n", 3),
-        ("agent p1  provider 60\n", 1),
-        ("agent p1 provider 60 \n", 1),
-        ("agent p1 provider 0\n", 1),
-        ("agent p1 provider 86401\n", 1),
-        ("agent p\"1 provider 60\n", 1),
-        ("agent p1 provider 60\nstp p1 A 0\n", 2),
-        ("agent p1 provider 60\nstp p1 A 1099511627777\n", 2),
-        ("agent p1 provider 60\nstp q A 0\n", 2),
-        ("agent p1 provider 60\n--- \n", 2),
-    ] {
-        assert!(rt; fault_of(rt.alloc(), text) == Some((line, TopologyFault::Word)), "at {text}");
+fn requester_is_told(topology: &Topology) -> bool {
+    let Some(a) = topology.agent_of(b"r1") else {
+        return false;
+    };
+    match topology.kind(a) {
+        AgentKind::Requester { provider } => topology.agent_of(b"a1") == Some(provider),
+        _ => false,
+    }
+}
+
+fn last_name_is_told(topology: &Topology) -> bool {
+    match topology.agent_of(b"r1") {
+        Some(a) => topology.name(a).bytes() == b"r1".as_slice() && a.get() == 3,
+        None => false,
     }
 }
 
 #[test]
-fn finds_what_is_unknown_or_twice(rt: HostRuntime) {
-    for (text, line, fault) in [
-        ("agent r requester p\n", 1, TopologyFault::Unknown),
-        ("agent a aggregator\nstp a A 1\n", 2, TopologyFault::Unknown),
-        (
-            "agent p provider 1\nagent r requester p\nagent a aggregator\nchild a r\n",
-            4,
-            TopologyFault::Unknown,
-        ),
-        (
-            "agent p provider 1\nagent p requester q\n",
-            2,
-            TopologyFault::Unknown,
-        ),
-        ("agent p provider 1\nsdp A B\n", 2, TopologyFault::Unknown),
-        (
-            "agent p provider 1\nagent p aggregator\n",
-            2,
-            TopologyFault::Twice,
-        ),
-        (
-            "agent p provider 1\nstp p A 1\nstp p A 2\n",
-            3,
-            TopologyFault::Twice,
-        ),
-        (
-            "agent p provider 1\nstp p A 1\nsdp A A\n",
-            3,
-            TopologyFault::Twice,
-        ),
-        (
-            "agent p provider 1\nagent q provider 1\nstp p A 1\nstp q B 1\nstp q C 1\nsdp A B\nsdp C A\n",
-            7,
-            TopologyFault::Twice,
-        ),
-        (
-            "agent p provider 1\nagent a aggregator\nchild a p\nchild a p\n",
-            4,
-            TopologyFault::Twice,
-        ),
-        ("---\n", 1, TopologyFault::Empty),
-    ] {
-        assert!(rt; fault_of(rt.alloc(), text) == Some((line, fault)), "at {text}");
+fn tells_agents(rt: HostRuntime) {
+    match network(rt.alloc()) {
+        Some(topology) => {
+            assert_eq!(rt; topology.agents(), 4);
+            assert!(rt; topology.first_provider() == AgentNo::new(0));
+            assert!(rt; requester_is_told(&topology) && last_name_is_told(&topology));
+        }
+        None => assert!(rt; false),
+    }
+}
+
+fn point_is_told(topology: &Topology) -> bool {
+    topology.facts();
+    match topology.stp_of(b"C") {
+        Some(s) => {
+            topology.stp_name(s).bytes() == b"C".as_slice()
+                && topology.agent_of(b"p2") == Some(topology.owner(s))
+                && topology.partner(s) == StpNo::new(1)
+        }
+        None => false,
+    }
+}
+
+fn capacity_is_told(topology: &Topology) -> bool {
+    match topology.stp_of(b"C") {
+        Some(s) => {
+            topology.capacity(s, Flow::Both) == Mbps::new(500)
+                && topology.capacity(s, Flow::In).is_none()
+        }
+        None => false,
     }
 }
 
 #[test]
-fn finds_cycles_and_depths(rt: HostRuntime) {
-    for (text, line, fault) in [
-        ("agent a aggregator\nchild a a\n", 2, TopologyFault::Cycle),
-        (
-            "agent a aggregator\nagent b aggregator\nchild a b\nchild b a\n",
-            4,
-            TopologyFault::Cycle,
-        ),
-        (
-            "agent p provider 1\nagent a aggregator\nagent b aggregator\nagent c aggregator\nagent d aggregator\nagent e aggregator\nchild a p\nchild b a\nchild c b\nchild d c\nchild e d\n---\n",
-            11,
-            TopologyFault::TooDeep,
-        ),
-        (
-            "agent a aggregator\nagent b aggregator\nagent c aggregator\nagent d aggregator\nagent e aggregator\nchild e d\nchild b a\nchild c b\nchild d c\n",
-            9,
-            TopologyFault::TooDeep,
-        ),
-    ] {
-        assert!(rt; fault_of(rt.alloc(), text) == Some((line, fault)), "at {text}");
+fn tells_stps(rt: HostRuntime) {
+    match network(rt.alloc()) {
+        Some(topology) => {
+            assert!(rt; topology.stps() == 3 && topology.sdps() == 1);
+            assert!(rt; point_is_told(&topology) && capacity_is_told(&topology));
+        }
+        None => assert!(rt; false),
     }
 }
 
-/// As many lines as there are numbers, each a front, a number of four digits and a back.
+#[test]
+fn reads_a_text(rt: HostRuntime) {
+    match read_topology(rt.alloc(), b"agent p provider 1\r\n---\nmore") {
+        Ok((topology, place)) => {
+            assert_eq!(rt; place, 24);
+            assert_eq!(rt; topology.agents(), 1);
+        }
+        Err(_) => assert!(rt; false),
+    }
+}
+
+#[test]
+fn finds_a_fault(rt: HostRuntime) {
+    match read_topology(rt.alloc(), b"agent a aggregator\nchild a a\n") {
+        Err(TopologyRefusal::Fault { line, fault }) => {
+            assert_eq!(rt; line, 2);
+            assert_eq!(rt; fault.name(), "Cycle");
+        }
+        _ => assert!(rt; false),
+    }
+}
+
+#[test]
+fn cuts_words(rt: HostRuntime) {
+    match words(rt.alloc(), b"a  b\t") {
+        Ok(words) => {
+            assert_eq!(rt; words.len(), 4);
+            assert!(rt; words[2] == b"b".as_slice());
+        }
+        Err(_) => assert!(rt; false),
+    }
+}
+
+/// As many lines as there are numbers, each with a number of four digits, and no ends between them.
 fn numbered(alloc: Global, front: &str, n: u32, back: &str) -> Result<Vec<u8>, AllocError> {
     let mut text = Vec::new(alloc);
     for i in 0..n {
@@ -197,61 +145,41 @@ fn numbered(alloc: Global, front: &str, n: u32, back: &str) -> Result<Vec<u8>, A
     Ok(text)
 }
 
-#[test]
-fn takes_64_agents(rt: HostRuntime) {
-    let Ok(text) = numbered(rt.alloc(), "agent p", 65, " provider 1\n") else {
-        assert!(rt; false);
-        return;
-    };
-    if text.len() > 5000 {
-        return;
+/// How many of the lines of that length are taken before the first that passes a limit.
+fn taken(topology: Topology, lines: &[u8], length: usize) -> Option<usize> {
+    if length == 0 {
+        return None;
     }
-    match read_topology(rt.alloc(), &text) {
-        Err(TopologyRefusal::Fault { line, fault }) => {
-            assert_eq!(rt; line, 65);
-            assert!(rt; fault == TopologyFault::Limit);
-        }
-        _ => assert!(rt; false),
-    }
-}
-
-#[test]
-fn takes_4096_stps(rt: HostRuntime) {
-    let Ok(lines) = numbered(rt.alloc(), "stp p s", 4097, " 1") else {
-        assert!(rt; false);
-        return;
-    };
-    let Ok(Taken::More(mut topology)) = Topology::new(rt.alloc()).take_line(b"agent p provider 1")
-    else {
-        assert!(rt; false);
-        return;
-    };
-    for line in lines.chunks(13) {
+    let mut topology = topology;
+    for (n, line) in lines.chunks(length).enumerate() {
         topology = match topology.take_line(line) {
             Ok(Taken::More(next)) => next,
-            Err(refusal) => {
-                assert!(rt; line == b"stp p s4096 1".as_slice());
-                assert!(rt; refusal == LineRefusal::Fault(TopologyFault::Limit));
-                return;
-            }
-            Ok(Taken::Whole(_)) => break,
+            Err(LineRefusal::Fault(TopologyFault::Limit)) => return Some(n),
+            _ => return None,
         };
     }
-    assert!(rt; false);
+    None
+}
+
+fn stps_taken(alloc: Global) -> Option<usize> {
+    let Ok(lines) = numbered(alloc, "stp p s", 4097, " 1") else {
+        return None;
+    };
+    match Topology::new(alloc).take_line(b"agent p provider 1") {
+        Ok(Taken::More(topology)) => taken(topology, &lines, 13),
+        _ => None,
+    }
+}
+
+fn agents_taken(alloc: Global) -> Option<usize> {
+    match numbered(alloc, "agent a", 65, " aggregator") {
+        Ok(lines) => taken(Topology::new(alloc), &lines, 22),
+        Err(_) => None,
+    }
 }
 
 #[test]
-fn prints_faults(rt: HostRuntime) {
-    let names = [
-        (TopologyFault::Word, "Word"),
-        (TopologyFault::Unknown, "Unknown"),
-        (TopologyFault::Twice, "Twice"),
-        (TopologyFault::Cycle, "Cycle"),
-        (TopologyFault::TooDeep, "TooDeep"),
-        (TopologyFault::Limit, "Limit"),
-        (TopologyFault::Empty, "Empty"),
-    ];
-    for (fault, name) in names {
-        assert_eq!(rt; fault.name(), name);
-    }
+fn takes_64_agents_and_4096_stps(rt: HostRuntime) {
+    assert!(rt; stps_taken(rt.alloc()) == Some(4096));
+    assert!(rt; agents_taken(rt.alloc()) == Some(64));
 }

@@ -1,14 +1,14 @@
-use Rattle.std.proofs.Common.{◌≡◌, ◌+◌, ◌-◌, length, arith, refl, sym, ap, ◌∙◌, Ok, Err}
+use Rattle.std.proofs.Common.{◌+◌, ◌-◌, length, arith, refl, ap, ◌∙◌, Ok}
 use Rattle.nsi_base.specs.Lines.{lines_of}
 use Rattle.stp_topology.specs.declared.topology.Taken.{Taken}
 use Rattle.stp_topology.specs.Network.{Network}
-use Rattle.stp_topology.specs.Text.{behind_lines, read_lines, placed, topology_of}
+use Rattle.stp_topology.specs.Text.{behind_lines, read_lines, placed}
 use Rattle.stp_topology.proofs.TextLemmas.{goes_on, is_whole, fails, without_end, behind_next}
 use Rattle.stp_topology.proofs.text.read_topology.Goals as goal
 
 pub lines-init : goal.lines-init
 unfolding behind_lines
-lines-init c = record { same = ap (λ (t : Network). read_lines t 0 (lines_of c.args.text.now)) c.new-topology.ensures; place = refl; few = omega arith; }
+lines-init c = record { same = ap (λ (t : Network). read_lines t 0 (lines_of c.args.text.now)) c.new-topology.ensures; place = refl; few = omega arith }
 
 pub returns-in-Ok-Whole : goal.returns-in-Ok-Whole
 returns-in-Ok-Whole c =

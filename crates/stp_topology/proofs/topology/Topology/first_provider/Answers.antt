@@ -1,7 +1,7 @@
-use Rattle.std.proofs.Common.{◌≡◌, ℕ, List, ◌<◌, length, Some, arith, sym, ap, subst, ◌∙◌}
+use Rattle.std.proofs.Common.{◌<◌, length, arith, sym, ap, subst, ◌∙◌}
 use Rattle.std.specs.List.{position_from}
-use Rattle.stp_topology.specs.Network.{Network, AgentKind, is_provider}
-use Rattle.stp_topology.specs.Sound.{IsSound, IsProvider}
+use Rattle.stp_topology.specs.Network.{Network, is_provider}
+use Rattle.stp_topology.specs.Sound.{IsProvider}
 use Rattle.stp_topology.proofs.SoundLemmas.{first_is, provider_within}
 use Rattle.stp_topology.proofs.topology.Topology.first_provider.Goals as goal
 
