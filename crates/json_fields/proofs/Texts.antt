@@ -1,8 +1,7 @@
 -- What the bytes of a line say.
-use Rattle.std.proofs.Common.{◌≡◌, List, ℕ, Option, Some, None, refl, ap, cond, true, false, Bool, sym, ◌∙◌, [], ◌∷◌, length, eqb, is_some, arith}
+use Rattle.std.proofs.Common.{◌≡◌, List, ℕ, Some, None, refl, ap, cond, true, false, Bool, ◌∙◌, [], ◌∷◌, length, eqb, is_some, arith}
 use Rattle.std.specs.Str.{IsUtf8, is_utf8}
 use Rattle.std.proofs.lemmas.Str.{IsUtf8-from_is_utf8, is_utf8-from_IsUtf8}
-use Rattle.std.proofs.lemmas.Bool.{cases_Bool}
 use Rattle.serde_json.specs.Data.{Data}
 use Rattle.serde_json.specs.Read.{read}
 use Rattle.serde_json.specs.View.{items_view}

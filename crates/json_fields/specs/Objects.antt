@@ -1,5 +1,5 @@
 -- Objects that are written key by key.
-use Rattle.std.specs.Prelude.{◌≡◌, ℕ, List, [], ◌∷◌, Bool, false, Option, Some, None, option_map}
+use Rattle.std.specs.Prelude.{◌≡◌, ℕ, List, [], ◌∷◌, Bool, false, Option, Some, None}
 use Rattle.serde_json.specs.Data.{Data, Members, put, string, number, boolean, unsigned, members_depth}
 use Rattle.serde_json.specs.Written.{members_have_float}
 use Rattle.nsi_primitive.specs.Ids.{id_text}

@@ -4,19 +4,19 @@ use Rattle.std.proofs.lemmas.Bool.{false≢true}
 use Rattle.serde_json.specs.Data.{no_members}
 use Rattle.serde_json.specs.Find.{get}
 use Rattle.nsi_primitive.specs.Kinds.{kind_name}
-use Rattle.nsi_primitive.specs.Printable.{IsPrintableReserve, IsPrintableBody, IsFirstRequest, IsFirstReserveBody, IsFirstReserve, IsPrintable}
+use Rattle.nsi_primitive.specs.Printable.{IsPrintableReserve, IsPrintableBody, IsFirstReserveBody, IsFirstReserve, IsPrintable}
 use Rattle.nsi_primitive.specs.declared.message.Header.{Header}
 use Rattle.nsi_primitive.specs.declared.message.ReserveRequest.{ReserveRequest}
 use Rattle.nsi_primitive.specs.declared.message.Body.{Body}
 use Rattle.nsi_primitive.specs.declared.message.Message.{Message}
 use Rattle.json_fields.specs.Keys.{name_of}
-use Rattle.json_fields.specs.Fields.{required, optional, id_from, name_from, text_from, capacity_from, second_from, version_from, flag_from, directionality_from, empty_list_from}
+use Rattle.json_fields.specs.Fields.{id_from, name_from, text_from, capacity_from, second_from, version_from, flag_from, directionality_from, empty_list_from}
 use Rattle.json_fields.specs.Objects.{digits, words, flag, id_scalar, directionality_scalar, scalar_data, IsReadBack}
 use Rattle.json_fields.specs.declared.key.Key.{Key}
 use Rattle.json_fields.specs.declared.fault.LineFault.{LineFault}
 use Rattle.json_fields.proofs.Members.{field_at, is_absent, are_apart, get_member-with_fields}
 use Rattle.json_fields.proofs.Again.{required_again, optional_again, absent_again, text_again, flag_again, directionality_again}
-use Rattle.json_primitives.specs.Lines.{reserve_from, first_reserve, message_from, with_kind}
+use Rattle.json_primitives.specs.Lines.{reserve_from, message_from, with_kind}
 use Rattle.json_primitives.specs.Spelling.{fields_of, data_of}
 use Rattle.json_primitives.specs.Valid.{IsValidHeader, IsValidReserve, IsValidBody, IsValid}
 

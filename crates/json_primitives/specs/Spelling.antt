@@ -14,7 +14,7 @@ use Rattle.nsi_primitive.specs.declared.message.Cause.{Cause}
 use Rattle.nsi_primitive.specs.declared.message.Exception.{Exception}
 use Rattle.nsi_primitive.specs.declared.message.Body.{Body}
 use Rattle.nsi_primitive.specs.declared.message.Message.{Message}
-use Rattle.json_fields.specs.Objects.{Field, Scalar, digits, words, flag, id_scalar, directionality_scalar, with_fields}
+use Rattle.json_fields.specs.Objects.{Field, digits, words, flag, id_scalar, directionality_scalar, with_fields}
 use Rattle.json_fields.specs.declared.key.Key.{Key}
 
 -- what every line has

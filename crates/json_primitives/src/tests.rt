@@ -146,19 +146,29 @@ fn lines_are_refused(rt: HostRuntime) -> Result<(), Fail> {
             "{new}"
         );
     }
-    let nested = "[".repeat(rt.alloc(), 200)?;
-    let others: [(&[u8], LineFault); 7] = [
-        (b"", LineFault::NotJson),
-        (b"{", LineFault::NotJson),
-        (b"[]", LineFault::NotObject),
-        (b"{}", LineFault::NoKind),
-        (b"{\"kind\":7}", LineFault::Bad(Key::Kind)),
-        (b"\"\xff\"", LineFault::NotJson),
-        (nested.as_bytes(), LineFault::NotJson),
-    ];
-    for (line, fault) in others {
-        assert_eq!(rt; fault_of(rt.alloc(), line), Some(fault));
+    Ok(())
+}
+
+/// Bytes that are no line, and the fault.
+const OTHERS: [(&[u8], LineFault); 6] = [
+    (b"", LineFault::NotJson),
+    (b"{", LineFault::NotJson),
+    (b"[]", LineFault::NotObject),
+    (b"{}", LineFault::NoKind),
+    (b"{\"kind\":7}", LineFault::Bad(Key::Kind)),
+    (b"\"\xff\"", LineFault::NotJson),
+];
+
+#[test]
+fn other_bytes_are_refused(rt: HostRuntime) -> Result<(), Fail> {
+    for (line, fault) in &OTHERS {
+        assert_eq!(rt; fault_of(rt.alloc(), line), Some(*fault));
     }
+    let nested = "[".repeat(rt.alloc(), 200)?;
+    assert_eq!(rt;
+        fault_of(rt.alloc(), nested.as_bytes()),
+        Some(LineFault::NotJson)
+    );
     Ok(())
 }
 
@@ -194,14 +204,6 @@ fn first(alloc: Global, body: Body) -> Result<Message, Fail>
     Ok(Message { header, body })
 }
 
-fn second(alloc: Global, body: Body) -> Result<Message, Fail>
-    requires { IsPrintableBody body }
-    ensures { IfOk result IsPrintable }
-{
-    let header = header(alloc, b"urn:uuid:00000000-0001-8000-8000-000000000002")?;
-    Ok(Message { header, body })
-}
-
 fn is_written(alloc: Global, message: &Message, line: &str) -> Result<bool, Fail>
     requires { IsPrintable message.now }
 {
@@ -228,13 +230,21 @@ fn confirmation(alloc: Global, connection: Id) -> Result<ReserveConfirmation, Fa
 }
 
 #[test]
-fn answers_are_written(rt: HostRuntime) -> Result<(), Fail> {
+fn response_is_written(rt: HostRuntime) -> Result<(), Fail> {
     let connection = read_id(b"urn:uuid:00000000-0000-8000-8000-000000000001")?;
-    let response = first(rt.alloc(), Body::ReserveResponse { connection })?;
-    assert!(rt; is_written(rt.alloc(), &response, RESPONSE)?);
+    let message = first(rt.alloc(), Body::ReserveResponse { connection })?;
+    let is_right = is_written(rt.alloc(), &message, RESPONSE)?;
+    assert!(rt; is_right);
+    Ok(())
+}
+
+#[test]
+fn confirmation_is_written(rt: HostRuntime) -> Result<(), Fail> {
+    let connection = read_id(b"urn:uuid:00000000-0000-8000-8000-000000000001")?;
     let body = Body::ReserveConfirmed(confirmation(rt.alloc(), connection)?);
-    let confirmed = first(rt.alloc(), body)?;
-    assert!(rt; is_written(rt.alloc(), &confirmed, CONFIRMED)?);
+    let message = first(rt.alloc(), body)?;
+    let is_right = is_written(rt.alloc(), &message, CONFIRMED)?;
+    assert!(rt; is_right);
     Ok(())
 }
 
@@ -252,53 +262,54 @@ fn lack(alloc: Global, flow: Flow) -> Result<Exception, Fail>
     Ok(Exception { nsa, cause })
 }
 
+fn failed(alloc: Global, flow: Flow) -> Result<Message, Fail>
+    ensures { IfOk result IsPrintable }
+{
+    let connection = read_id(b"urn:uuid:00000000-0000-8000-8000-000000000002")?;
+    let exception = lack(alloc, flow)?;
+    let header = header(alloc, b"urn:uuid:00000000-0001-8000-8000-000000000002")?;
+    let body = Body::ReserveFailed {
+        connection,
+        exception,
+    };
+    Ok(Message { header, body })
+}
+
 #[test]
 fn refusals_are_written(rt: HostRuntime) -> Result<(), Fail> {
-    let connection = read_id(b"urn:uuid:00000000-0000-8000-8000-000000000002")?;
-    let exception = lack(rt.alloc(), Flow::Both)?;
-    let failed = second(
-        rt.alloc(),
-        Body::ReserveFailed {
-            connection,
-            exception,
-        },
-    )?;
-    assert!(rt; is_written(rt.alloc(), &failed, FAILED)?);
-    let exception = lack(rt.alloc(), Flow::In)?;
-    let failed = second(
-        rt.alloc(),
-        Body::ReserveFailed {
-            connection,
-            exception,
-        },
-    )?;
-    assert!(rt; is_written(rt.alloc(), &failed, FAILED_IN)?);
+    for (flow, line) in [(Flow::Both, FAILED), (Flow::In, FAILED_IN)] {
+        let message = failed(rt.alloc(), flow)?;
+        let is_right = is_written(rt.alloc(), &message, line)?;
+        assert!(rt; is_right);
+    }
     Ok(())
 }
 
 #[test]
-fn errors_are_written(rt: HostRuntime) -> Result<(), Fail> {
+fn error_is_written(rt: HostRuntime) -> Result<(), Fail> {
     let exception = Exception {
         nsa: Name::of(rt.alloc(), b"p1")?,
         cause: Cause::Plain(ErrorName::WrongProvider),
     };
-    let error = first(
-        rt.alloc(),
-        Body::Error {
-            connection: None,
-            exception,
-        },
-    )?;
-    assert!(rt; is_written(rt.alloc(), &error, ERROR)?);
+    let body = Body::Error {
+        connection: None,
+        exception,
+    };
+    let message = first(rt.alloc(), body)?;
+    let is_right = is_written(rt.alloc(), &message, ERROR)?;
+    assert!(rt; is_right);
     Ok(())
 }
 
 #[test]
 fn unread_lines_are_answered(rt: HostRuntime) -> Result<(), Fail> {
-    let fault = LineFault::Bad(Key::Capacity);
-    let written = print_payload(rt.alloc(), fault.name(), fault.key(), 6)?;
-    assert_eq!(rt; written.as_slice(), PAYLOAD_WITH_KEY.as_bytes());
-    let written = print_payload(rt.alloc(), "NotJson", None, 7)?;
-    assert_eq!(rt; written.as_slice(), PAYLOAD.as_bytes());
+    let answers = [
+        (LineFault::Bad(Key::Capacity), 6, PAYLOAD_WITH_KEY),
+        (LineFault::NotJson, 7, PAYLOAD),
+    ];
+    for (fault, line, want) in answers {
+        let written = print_payload(rt.alloc(), fault.name(), fault.key(), line)?;
+        assert_eq!(rt; written.as_slice(), want.as_bytes());
+    }
     Ok(())
 }

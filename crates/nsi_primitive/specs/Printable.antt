@@ -1,10 +1,9 @@
 -- Which messages have a spelling as a line.
-use Rattle.std.specs.Prelude.{◌≡◌, ◌≤◌, ℕ, List, Bool, true, false, length, Option, Some, None, IfSome, IfNone, IsSome}
+use Rattle.std.specs.Prelude.{◌≡◌, ◌≤◌, ℕ, List, Bool, true, false, length, Option, None, IfSome, IfNone, IsSome}
 use Rattle.std.specs.Str.{bytes_eq}
 use Rattle.nsi_primitive.specs.declared.kind.ErrorName.{ErrorName}
 use Rattle.nsi_primitive.specs.declared.message.Cause.{Cause}
 use Rattle.nsi_primitive.specs.declared.message.ReserveRequest.{ReserveRequest}
-use Rattle.nsi_primitive.specs.declared.message.ReserveConfirmation.{ReserveConfirmation}
 use Rattle.nsi_primitive.specs.declared.message.Body.{Body}
 use Rattle.nsi_primitive.specs.declared.message.Message.{Message}
 

@@ -1,13 +1,13 @@
-use Rattle.std.proofs.Common.{◌≡◌, ◌∙◌, ℕ, List, codes, Option, Some, None, refl, ap, IfOk}
+use Rattle.std.proofs.Common.{◌≡◌, ◌∙◌, ℕ, List, codes, Option, Some, None, refl, ap}
 use Rattle.std.proofs.lemmas.Result.{IfOk-weaker}
-use Rattle.serde_json.specs.Data.{Members, no_members, member, put, string, number, unsigned, object}
+use Rattle.serde_json.specs.Data.{no_members, member, put, string, number, unsigned, object}
 use Rattle.serde_json.specs.Written.{compact_text}
 use Rattle.nsi_primitive.specs.Kinds.{kind_name, error_text}
 use Rattle.nsi_primitive.specs.declared.kind.Kind.{Kind}
 use Rattle.nsi_primitive.specs.declared.kind.ErrorName.{ErrorName}
 use Rattle.json_fields.specs.declared.key.Key.{Key}
 use Rattle.json_fields.specs.Written.{members_of}
-use Rattle.json_primitives.specs.Payload.{put_key, with_key, payload_data}
+use Rattle.json_primitives.specs.Payload.{put_key, with_key}
 use Rattle.json_primitives.proofs.payload.print_payload.Goals as goal
 
 -- what is put one after the other stands in order

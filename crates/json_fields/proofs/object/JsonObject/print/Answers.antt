@@ -1,6 +1,6 @@
-use Rattle.std.proofs.Common.{◌≡◌, ◌∙◌, ◌≤◌, ℕ, List, Some, ap, subst, sym, arith, Result, Ok, Err, IfOk, Option}
+use Rattle.std.proofs.Common.{◌≡◌, ◌∙◌, ◌≤◌, ℕ, List, Some, ap, subst, sym, arith, Result, Ok, Err, IfOk}
 use Rattle.std.specs.Str.{IsUtf8}
-use Rattle.serde_json.specs.Data.{Data, Members, object, depth, members_depth}
+use Rattle.serde_json.specs.Data.{Data, Members, object, depth}
 use Rattle.serde_json.specs.Read.{read, max_depth}
 use Rattle.json_fields.specs.Fields.{json_of}
 use Rattle.json_fields.specs.Objects.{IsFlat}
