@@ -9,6 +9,7 @@ use Rattle.stp_topology.specs.declared.topology.Taken.{Taken}
 use Rattle.nsi_program.specs.Lines.{Served, serve, as_line}
 use Rattle.nsi_program.specs.Service.{serving_of}
 use Rattle.nsi_program.specs.declared.status.Ending.{Ending}
+use Rattle.nsi_program.specs.declared.status.Status.{Status}
 use Rattle.nsi_program.specs.declared.provide.Phase.{Phase}
 use Rattle.nsi_program.specs.declared.provide.Step.{Step}
 
@@ -47,14 +48,23 @@ abbrev pub last_of : Bool → ℕ → Phase → Ending × List ℕ
 last_of true number phase = (Ending.Long, as_line (codes "fault long"))
 last_of false number phase = end_of number phase
 
+-- the status of an end
+abbrev pub status_of : Ending → Status
+status_of Ending.Done = Status.Done
+status_of Ending.BadTopology = Status.BadTopology
+status_of Ending.Long = Status.Long
+
+abbrev pub with_status : Ending × List ℕ → Status × List ℕ
+with_status end = (status_of end.0, end.1)
+
 -- a line's text, and what follows
-abbrev pub behind : List ℕ → Step → (Phase → Ending × List ℕ) → Ending × List ℕ
-behind text (Step.End ending) next = (ending, text)
+abbrev pub behind : List ℕ → Step → (Phase → Status × List ℕ) → Status × List ℕ
+behind text (Step.End ending) next = (status_of ending, text)
 behind text (Step.More phase) next = ((next phase).0, text ++ (next phase).1)
 
 -- the texts of the lines from a number on, one after another, up to the first that ends the command, and how it ends
-unfoldable pub outcome : Bool → ℕ → Phase → List (List ℕ) → Ending × List ℕ
-outcome long number phase [] = last_of long number phase
+unfoldable pub outcome : Bool → ℕ → Phase → List (List ℕ) → Status × List ℕ
+outcome long number phase [] = with_status (last_of long number phase)
 outcome long number phase (line ∷ lines) = behind (move_of number phase line).text (move_of number phase line).step (λ p. outcome long (number + 1) p lines)
 
 abbrev pub is_more : Step → Bool

@@ -4,7 +4,7 @@ use Rattle.std.specs.Str.{bytes_eq}
 use Rattle.line_reader.specs.Given.{Given, given_of}
 use Rattle.stp_topology.specs.Network.{nothing}
 use Rattle.nsi_program.specs.Lines.{as_line}
-use Rattle.nsi_program.specs.Outcome.{outcome, Move}
+use Rattle.nsi_program.specs.Outcome.{outcome, status_of}
 use Rattle.nsi_program.specs.declared.status.Ending.{Ending}
 use Rattle.nsi_program.specs.declared.status.Status.{Status}
 use Rattle.nsi_program.specs.declared.provide.Phase.{Phase}
@@ -19,39 +19,32 @@ abbrev pub WritesFront : Option (List ℕ) → Option (List ℕ) → List ℕ �
 WritesFront old new text = IfSome old (λ c. (k : ℕ) × (new ≡ Some (c ++ take k text)))
 
 -- an outcome behind what stands already
-abbrev pub behind_content : List ℕ → Ending × List ℕ → Ending × List ℕ
+abbrev pub behind_content : List ℕ → Status × List ℕ → Status × List ℕ
 behind_content content end = (end.0, content ++ end.1)
 
 -- how it will end, and what the sink will have then, where sink and source tell
-abbrev pub promised : ℕ → Phase → Option (List ℕ) → Option Given → Option (Ending × List ℕ)
+abbrev pub promised : ℕ → Phase → Option (List ℕ) → Option Given → Option (Status × List ℕ)
 promised number phase content given =
     option_and_then (λ c. option_map (λ g. behind_content c (outcome g.long number phase g.lines)) given) content
 
 -- at the end of the command
-abbrev pub ended : Ending → Option (List ℕ) → Option (Ending × List ℕ)
-ended ending content = option_map (λ c. (ending, c)) content
+abbrev pub ended : Ending → Option (List ℕ) → Option (Status × List ℕ)
+ended ending content = option_map (λ c. (status_of ending, c)) content
 
-abbrev pub promised_after : ℕ → Step → Option (List ℕ) → Option Given → Option (Ending × List ℕ)
+abbrev pub promised_after : ℕ → Step → Option (List ℕ) → Option Given → Option (Status × List ℕ)
 promised_after number (Step.More phase) content given = promised number phase content given
 promised_after number (Step.End ending) content given = ended ending content
 
 -- where it is told, it is the same
-abbrev pub IsSameEnd : Option (Ending × List ℕ) → Option (Ending × List ℕ) → Type 0
+abbrev pub IsSameEnd : Option (Status × List ℕ) → Option (Status × List ℕ) → Type 0
 IsSameEnd old new = IfSome old (λ end. new ≡ Some end)
 
--- the status that the words and the bytes determine
-abbrev pub status_of : Ending → Status
-status_of Ending.Done = Status.Done
-status_of Ending.Usage = Status.Usage
-status_of Ending.BadTopology = Status.BadTopology
-status_of Ending.Long = Status.Long
-
 -- the command has ended as was promised
-abbrev pub IsKept : Option (Ending × List ℕ) → Status → Option (List ℕ) → Type 0
-IsKept promise status content = IfSome promise (λ end. (status ≡ status_of end.0) × (content ≡ Some end.1))
+abbrev pub IsKept : Option (Status × List ℕ) → Status → Option (List ℕ) → Type 0
+IsKept promise status content = IfSome promise (λ end. (status ≡ end.0) × (content ≡ Some end.1))
 
 -- what was written is a front of what was promised
-abbrev pub IsFrontOf : Option (Ending × List ℕ) → Option (List ℕ) → Type 0
+abbrev pub IsFrontOf : Option (Status × List ℕ) → Option (List ℕ) → Type 0
 IsFrontOf promise content = IfSome promise (λ end. (k : ℕ) × (content ≡ Some (take k end.1)))
 
 -- the line of a fault of reading
@@ -59,15 +52,15 @@ abbrev pub read_fault_line : List ℕ
 read_fault_line = as_line (codes "fault read")
 
 -- a front of it, and behind that the line of a fault of reading
-abbrev pub IsCutByFault : Option (Ending × List ℕ) → Option (List ℕ) → Type 0
+abbrev pub IsCutByFault : Option (Status × List ℕ) → Option (List ℕ) → Type 0
 IsCutByFault promise content = IfSome promise (λ end. (k : ℕ) × (content ≡ Some (take k end.1 ++ read_fault_line)))
 
 -- a front of that
-abbrev pub IsFrontOfCut : Option (Ending × List ℕ) → Option (List ℕ) → Type 0
+abbrev pub IsFrontOfCut : Option (Status × List ℕ) → Option (List ℕ) → Type 0
 IsFrontOfCut promise content = IfSome promise (λ end. (k : ℕ) × (j : ℕ) × (content ≡ Some (take k end.1 ++ take j read_fault_line)))
 
 -- writing was cut short: within what was promised, or within the line of a fault of reading
-abbrev pub IsUnfinished : Option (Ending × List ℕ) → (has_failed : Type 0) → Option (List ℕ) → Type 0
+abbrev pub IsUnfinished : Option (Status × List ℕ) → (has_failed : Type 0) → Option (List ℕ) → Type 0
 IsUnfinished promise has_failed content = IsFrontOf promise content ⊎ (has_failed × IsFrontOfCut promise content)
 
 -- the program's exit status
@@ -91,16 +84,16 @@ abbrev pub greatest_input : ℕ
 greatest_input = 67108864
 
 -- what the whole input makes of the command `provide`
-abbrev pub promise_of : Option (List ℕ) → Option (List ℕ) → Option (Ending × List ℕ)
+abbrev pub promise_of : Option (List ℕ) → Option (List ℕ) → Option (Status × List ℕ)
 promise_of content left = promised 1 (Phase.Declaring nothing) content (option_map (given_of greatest_input) left)
 
 -- words of no form are answered by a fault, whatever the input
-abbrev pub promise_for : Bool → Option (List ℕ) → Option (List ℕ) → Option (Ending × List ℕ)
+abbrev pub promise_for : Bool → Option (List ℕ) → Option (List ℕ) → Option (Status × List ℕ)
 promise_for true content left = promise_of content left
-promise_for false content left = option_map (λ c. (Ending.Usage, c ++ as_line (codes "fault usage"))) content
+promise_for false content left = option_map (λ c. (Status.Usage, c ++ as_line (codes "fault usage"))) content
 
 -- what the words and the input promise of what the sink will have in the end
-abbrev pub promise : List (List ℕ) → Option (List ℕ) → Option (List ℕ) → Option (Ending × List ℕ)
+abbrev pub promise : List (List ℕ) → Option (List ℕ) → Option (List ℕ) → Option (Status × List ℕ)
 promise words content left = promise_for (is_provide words) content left
 
 -- an end that is neither want of memory nor a fault of reading or writing

@@ -1,7 +1,8 @@
 //! How a command ends.
 
-ghost use Rattle.std.specs.Prelude.{◌≡◌};
-ghost use Rattle.nsi_program.specs.Promise.{status_of, code_of};
+ghost use Rattle.std.specs.Prelude.{◌≡◌, true};
+ghost use Rattle.nsi_program.specs.Outcome.{status_of};
+ghost use Rattle.nsi_program.specs.Promise.{code_of, is_told};
 
 /// How a command ends. The numbers are the exit statuses of the program.
 #[derive(Clone, Copy, Debug, PartialEq, Eq)]
@@ -24,22 +25,22 @@ impl Status {
     }
 }
 
-/// An end that the words and the bytes determine.
+/// An end that the bytes of the input determine.
 #[derive(Clone, Copy, Debug, PartialEq, Eq)]
 pub enum Ending {
     Done,
-    Usage,
     BadTopology,
     Long,
 }
 
 impl Ending {
     pub(crate) fn status(self) -> Status
-        ensures { result ≡ status_of self }
+        ensures status { result ≡ status_of self }
+        ensures not_usage { result ≡ Status.Usage → ⊥ }
+        ensures told { is_told result ≡ true }
     {
         match self {
             Ending::Done => Status::Done,
-            Ending::Usage => Status::Usage,
             Ending::BadTopology => Status::BadTopology,
             Ending::Long => Status::Long,
         }

@@ -1,6 +1,6 @@
 //! The top call.
 
-ghost use Rattle.std.specs.Prelude.{◌≡◌, ◌<◌, ◌≤◌, ◌+◌, ◌↔◌, Err, ◌⊎◌, IfOk, IsErrOf, OnOk, OnErr, codes, map, string_bytes, true, false};
+ghost use Rattle.std.specs.Prelude.{◌≡◌, ◌<◌, ◌≤◌, ◌+◌, ◌↔◌, ◌⊎◌, IfOk, IsErrOf, OnOk, OnErr, codes, map, string_bytes, true, false};
 ghost use Rattle.line_reader.specs.Held.{budget, to_come};
 ghost use Rattle.nsi_program.specs.Lines.{as_line};
 ghost use Rattle.nsi_program.specs.Outcome.{is_more, move_of, end_of};
@@ -93,20 +93,29 @@ fn step<S: Source, K: Sink>(
     ensures writes { K.faults out.old ≤ K.faults out.new }
 {
     match reader.next(alloc, input) {
-        Err(ReadError::Failed) => give_up(phase, Fault::Read),
-        Err(ReadError::NoMemory) => give_up(phase, Fault::NoMemory),
-        Ok(Next::Line(line)) => take_line(alloc, out, number, phase, &line),
-        Ok(Next::End) => end(alloc, out, number, phase),
-        Ok(Next::Long) => long(out, phase),
+        Err(ReadError::Failed) => Err(give_up(phase, Fault::Read)),
+        Err(ReadError::NoMemory) => Err(give_up(phase, Fault::NoMemory)),
+        Ok(Next::Line(line)) => {
+            let step = take_line(alloc, out, number, phase, &line)?;
+            Ok(step)
+        }
+        Ok(Next::End) => {
+            let step = end(alloc, out, number, phase)?;
+            Ok(step)
+        }
+        Ok(Next::Long) => {
+            let step = long(out, phase)?;
+            Ok(step)
+        }
     }
 }
 
 /// Lets go of a phase, and hands on the fault.
-fn give_up(phase: Phase, fault: Fault) -> Result<Step, Fault>
-    ensures { result ≡ Err fault }
+fn give_up(phase: Phase, fault: Fault) -> Fault
+    ensures { result ≡ fault }
 {
     drop(phase);
-    Err(fault)
+    fault
 }
 
 /// Writes what a line is answered.
@@ -176,7 +185,7 @@ fn usage<K: Sink>(out: &mut K) -> Status
     ensures not_read { result ≡ Status.ReadFault → ⊥ }
 {
     match write_text(out, b"fault usage\n") {
-        Ok(()) => Ending::Usage.status(),
+        Ok(()) => Status::Usage,
         Err(Fault::Write) => Status::WriteFault,
         Err(_) => Status::NoMemory,
     }
