@@ -1,10 +1,14 @@
 -- What the command will have written, as it goes on.
-use Rattle.std.specs.Prelude.{◌≡◌, ◌<◌, ◌⊎◌, ℕ, ◌+◌, List, [], ◌∷◌, ◌++◌, take, map, codes, Bool, true, false, Option, Some, None, option_map, option_and_then, IfSome}
+use Rattle.std.specs.Prelude.{◌≡◌, ◌<◌, ◌≤◌, ◌⊎◌, ℕ, length, Ok, Err, ◌+◌, List, [], ◌∷◌, ◌++◌, take, map, codes, Bool, true, false, Option, Some, None, option_map, option_and_then, IfSome}
 use Rattle.std.specs.Str.{bytes_eq}
 use Rattle.line_reader.specs.Given.{Given, given_of}
-use Rattle.stp_topology.specs.Network.{nothing}
+use Rattle.nsi_base.specs.Lines.{lines_of}
+use Rattle.stp_topology.specs.declared.network.Network.{Network}
+use Rattle.stp_topology.specs.declared.fault.TopologyFault.{TopologyFault}
+use Rattle.stp_topology.specs.Network.{nothing, first_provider}
+use Rattle.stp_topology.specs.Text.{read_lines}
 use Rattle.nsi_program.specs.Lines.{as_line}
-use Rattle.nsi_program.specs.Outcome.{outcome, status_of}
+use Rattle.nsi_program.specs.Outcome.{outcome, status_of, topology_fault}
 use Rattle.nsi_program.specs.declared.status.Ending.{Ending}
 use Rattle.nsi_program.specs.declared.status.Status.{Status}
 use Rattle.nsi_program.specs.declared.provide.Phase.{Phase}
@@ -102,3 +106,17 @@ is_told Status.NoMemory = false
 is_told Status.ReadFault = false
 is_told Status.WriteFault = false
 is_told _ = true
+
+-- The lines begin with a topology that has a provider.
+abbrev pub HasProvider : List (List ℕ) → Type 0
+HasProvider lines = (t : Network) × (n : ℕ) × (p : ℕ) × (read_lines nothing 0 lines ≡ Ok (t, n)) × (first_provider t ≡ Some p)
+
+-- With a good topology and an input within the size the command is done.
+abbrev pub IsComplete : Option (List ℕ) → Option (List ℕ) → Status → Type 0
+IsComplete content left status = IfSome content (λ _. IfSome left (λ bytes. length bytes ≤ greatest_input → HasProvider (lines_of bytes) → status ≡ Status.Done))
+
+-- With a faulty line in the topology, and an input within the size, the first faulty line and its fault are all that is written.
+abbrev pub NamesFault : Option (List ℕ) → Option (List ℕ) → Status → Option (List ℕ) → Type 0
+NamesFault content left status new =
+    IfSome content (λ c. IfSome left (λ bytes. (n : ℕ) (fault : TopologyFault) → length bytes ≤ greatest_input → read_lines nothing 0 (lines_of bytes) ≡ Err (n, fault)
+    → (status ≡ Status.BadTopology) × (new ≡ Some (c ++ topology_fault n fault))))

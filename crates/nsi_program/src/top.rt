@@ -4,7 +4,7 @@ ghost use Rattle.std.specs.Prelude.{◌≡◌, ◌<◌, ◌≤◌, ◌+◌, ◌�
 ghost use Rattle.line_reader.specs.Held.{budget, to_come};
 ghost use Rattle.nsi_program.specs.Lines.{as_line};
 ghost use Rattle.nsi_program.specs.Outcome.{is_more, move_of, end_of};
-ghost use Rattle.nsi_program.specs.Promise.{is_provide, is_told, promised, promised_after, promise_of, promise, read_fault_line, Writes, WritesFront, IsSameEnd, IsKept, IsFrontOf, IsCutByFault, IsUnfinished};
+ghost use Rattle.nsi_program.specs.Promise.{is_provide, is_told, promised, promised_after, promise_of, promise, read_fault_line, Writes, WritesFront, IsSameEnd, IsKept, IsFrontOf, IsCutByFault, IsUnfinished, IsComplete, NamesFault};
 
 use crate::provide::{Move, Phase, Step};
 use crate::status::{Ending, Status};
@@ -37,6 +37,9 @@ pub fn top_plain<S: Source, K: Sink>(
     // The words and the bytes determine how it ends and all that is written.
     ensures ends { is_told result ≡ true → IsKept (promise (map string_bytes words.now) (K.content out.old) (S.left input.old)) result (K.content out.new) }
     ensures usage { is_told result ≡ true → ((result ≡ Status.Usage) ↔ (is_provide (map string_bytes words.now) ≡ false)) }
+
+    ensures complete { is_provide (map string_bytes words.now) ≡ true → is_told result ≡ true → IsComplete (K.content out.old) (S.left input.old) result }
+    ensures bad_topology { is_provide (map string_bytes words.now) ≡ true → is_told result ≡ true → NamesFault (K.content out.old) (S.left input.old) result (K.content out.new) }
 
     // A fault comes only from outside, and leaves whole lines or a front of them.
     ensures read_fault { result ≡ Status.ReadFault → S.faults input.old < S.faults input.new }
