@@ -1,6 +1,6 @@
-pub mod Down
 pub mod WordLemmas
 pub mod SoundLemmas
 pub mod LineSound
 pub mod TextLemmas
 mod Rows
+pub mod MarkLemmas

@@ -109,7 +109,7 @@ is_aggregator kinds i = is_of sorts.OneAggregator (slice_get kinds i)
 -- whether so many aggregators stand below the agent, each a child of the one before
 unfoldable pub stands_over : List AgentKind → List (ℕ × ℕ) → ℕ → ℕ → Bool
 stands_over kinds pairs zero i = true
-stands_over kinds pairs (suc n) i = list_any (λ e. ((e.0 == i) && is_aggregator kinds e.1) && stands_over kinds pairs n e.1) pairs
+stands_over kinds pairs (suc n) i = list_any (λ e. (e.0 == i) && (is_aggregator kinds e.1 && stands_over kinds pairs n e.1)) pairs
 
 -- whether the rank of an aggregator among the pairs would pass 4
 abbrev pub is_too_deep : List AgentKind → List (ℕ × ℕ) → Bool

@@ -239,7 +239,7 @@ impl Network {
         if has_pair(self.children.items(), i, j) {
             return Err(LineRefusal::Fault(TopologyFault::Twice));
         }
-        if leads_down(self.children.items(), 4, j, i) {
+        if leads_down(self.children.items(), j, i) {
             return Err(LineRefusal::Fault(TopologyFault::Cycle));
         }
         let Ok(()) = self.children.push((i, j)) else {
