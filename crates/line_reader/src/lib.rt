@@ -5,3 +5,6 @@ mod fill;
 pub mod reader;
 
 pub use reader::{LineReader, Next, ReadError};
+
+#[cfg(test)]
+mod tests;

@@ -4,3 +4,6 @@
 pub mod taken;
 
 pub use taken::TakenRequests;
+
+#[cfg(test)]
+mod tests;

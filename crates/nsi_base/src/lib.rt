@@ -14,3 +14,6 @@ pub use interval::Interval;
 pub use list::List;
 pub use number::{AgentNo, Mbps, RecordNo, Second, StpNo, Version};
 pub use text::{Name, NameFault, Text, TextFault, is_name};
+
+#[cfg(test)]
+mod tests;

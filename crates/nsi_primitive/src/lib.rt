@@ -11,3 +11,6 @@ pub use message::{
     Body, Cause, Criteria, Exception, Header, Identity, Message, ReserveConfirmation,
     ReserveRequest, Service,
 };
+
+#[cfg(test)]
+mod tests;

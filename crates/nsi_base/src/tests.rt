@@ -1,0 +1,103 @@
+//! Limits of numbers, names and words, and the ends of lines, by hand.
+
+use crate::digits::number_of;
+use crate::line::{feed_at, without_return};
+use crate::{
+    AgentNo, Flow, Interval, Mbps, Name, NameFault, RecordNo, Second, StpNo, Text, TextFault,
+    Version,
+};
+use std::test::Fail;
+
+#[test]
+fn numbers_end_with_their_ranges(rt: HostRuntime) {
+    for (n, is_second) in [(0, true), (253_370_764_799, true), (253_370_764_800, false)] {
+        assert_eq!(rt; Second::new(n).is_some(), is_second, "at {n}");
+    }
+    for (n, is_bandwidth) in [
+        (0, false),
+        (1, true),
+        (1 << 40, true),
+        ((1 << 40) + 1, false),
+    ] {
+        assert_eq!(rt; Mbps::new(n).is_some(), is_bandwidth, "at {n}");
+    }
+    for (n, is_version, is_record) in [
+        (4_194_303, true, true),
+        (4_194_304, true, false),
+        (2_147_483_648, false, false),
+    ] {
+        assert_eq!(rt;
+            (Version::new(n).is_some(), RecordNo::new(n).is_some()),
+            (is_version, is_record),
+            "at {n}"
+        );
+    }
+    for (n, is_agent, is_point) in [(63, true, true), (64, false, true), (4_096, false, false)] {
+        assert_eq!(rt;
+            (AgentNo::new(n).is_some(), StpNo::new(n).is_some()),
+            (is_agent, is_point),
+            "at {n}"
+        );
+    }
+}
+
+#[test]
+fn words_of_digits_are_read(rt: HostRuntime) {
+    let words = [
+        ("1", Some(1)),
+        ("00000000000000000009", Some(9)),
+        ("000000000000000000009", None),
+        ("0", None),
+        ("10", None),
+        ("", None),
+        ("+1", None),
+    ];
+    for (word, number) in words {
+        assert_eq!(rt; number_of(1, 9, word.as_bytes()), number, "{word}");
+    }
+}
+
+#[test]
+fn names_and_texts_are_taken(rt: HostRuntime) -> Result<(), Fail> {
+    let long = [b'x'; 129];
+    for bytes in [&long[..1], &long[..128], b"urn:ogf:network:a~!"] {
+        assert_eq!(rt; Name::of(rt.alloc(), bytes)?.bytes(), bytes);
+    }
+    for bytes in [&long[..0], &long[..129], b"a\"b", b"a\\b", b"a b", b"a\x7f"] {
+        let refused = matches!(Name::of(rt.alloc(), bytes), Err(NameFault::NotAName));
+        assert!(rt; refused);
+    }
+    assert_eq!(rt;
+        Text::of(rt.alloc(), "\u{e9}".as_bytes())?.bytes(),
+        b"\xc3\xa9".as_slice()
+    );
+    let refused = matches!(Text::of(rt.alloc(), b"\xe9"), Err(TextFault::NotText));
+    assert!(rt; refused);
+    Ok(())
+}
+
+#[test]
+fn lines_lose_their_ends(rt: HostRuntime) {
+    assert_eq!(rt; (feed_at(b"ab\nc\n"), feed_at(b"ab\r")), (Some(2), None));
+    for (line, without) in [
+        ("ab", "ab"),
+        ("ab\r", "ab"),
+        ("a\rb", "a\rb"),
+        ("\r\r", "\r"),
+        ("", ""),
+    ] {
+        assert_eq!(rt; without_return(line.as_bytes()), without.as_bytes());
+    }
+}
+
+#[test]
+fn intervals_end_before_their_end(rt: HostRuntime) -> Result<(), Fail> {
+    let start = Second::new(100).ok_or("a second")?;
+    let last = Second::new(199).ok_or("a second")?;
+    let end = Second::new(200).ok_or("a second")?;
+    let interval = Interval::new(start, end).ok_or("an interval")?;
+    assert!(rt; interval.covers(start) && interval.covers(last) && !interval.covers(end));
+    assert!(rt; Interval::new(end, end).is_none());
+    assert!(rt; Flow::In.is_booked(true, false, true) && !Flow::In.is_booked(false, false, true));
+    Ok(())
+}
