@@ -1,5 +1,5 @@
 -- How a command ends, by the topology that its lines begin with.
-use Rattle.std.proofs.Common.{◌≡◌, ◌≤◌, ◌+◌, ℕ, List, [], ◌∷◌, ◌++◌, length, take, leb, cond, Bool, true, false, Option, Some, None, IfSome, Result, Ok, Err, refl, sym, ap, ◌∙◌, subst, arith, option_map}
+use Rattle.std.proofs.Common.{◌≡◌, ◌≤◌, ◌+◌, ℕ, List, [], ◌∷◌, ◌++◌, length, take, leb, cond, true, false, Option, Some, None, Result, Ok, Err, refl, ap, ◌∙◌, arith}
 use Rattle.std.proofs.lemmas.Bool.Decides.{nat_tests}
 use Rattle.nsi_base.specs.Lines.{lines_of, ended_lines}
 use Rattle.line_reader.specs.Given.{Given, given_of}
@@ -14,7 +14,7 @@ use Rattle.nsi_program.specs.Serving.{Serving}
 use Rattle.nsi_program.specs.Service.{serving_of}
 use Rattle.nsi_program.specs.Lines.{serve}
 use Rattle.nsi_program.specs.Outcome.{move_of, declared, opened, behind, outcome, topology_fault}
-use Rattle.nsi_program.specs.Promise.{promise_of, greatest_input, IsKept, IsComplete, NamesFault, HasProvider}
+use Rattle.nsi_program.specs.Promise.{promise_of, greatest_input, IsKept, IsComplete, NamesFault}
 
 abbrev Read : Type 0
 Read = Result (Network × ℕ) (ℕ × TopologyFault)
@@ -99,5 +99,5 @@ names_fault None left new status k = tt
 names_fault (Some c) None new status k = tt
 names_fault (Some c) (Some bytes) new status k = λ n fault few h.
     let e : outcome (given_of greatest_input bytes).long 1 (Phase.Declaring nothing) (given_of greatest_input bytes).lines ≡ (Status.BadTopology, topology_fault n fault) =
-        ap (λ (g : Given). outcome g.long 1 (Phase.Declaring nothing) g.lines) (all_given bytes few) ∙ declared_fault nothing 0 (lines_of bytes) n fault h in
+    ap (λ (g : Given). outcome g.long 1 (Phase.Declaring nothing) g.lines) (all_given bytes few) ∙ declared_fault nothing 0 (lines_of bytes) n fault h in
     (k.0 ∙ ap (λ (x : Status × List ℕ). x.0) e, k.1 ∙ ap (λ (x : Status × List ℕ). Some (c ++ x.1)) e)

@@ -1,3 +1,4 @@
 pub mod Fresh
 pub mod Promised
 pub mod Declared
+mod Rows

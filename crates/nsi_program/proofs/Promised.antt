@@ -1,13 +1,13 @@
 -- One line, against how the command will end.
-use Rattle.std.proofs.Common.{◌≡◌, ℕ, ◌+◌, List, [], ◌∷◌, ◌++◌, length, take, drop, Bool, true, false, Option, Some, None, IfSome, refl, sym, ap, ◌∙◌, subst, append_assoc, append-nil, option_map, arith, inl, inr, ◌⊎◌}
+use Rattle.std.proofs.Common.{◌≡◌, ℕ, ◌+◌, List, [], ◌∷◌, ◌++◌, length, take, drop, Bool, true, false, Option, Some, None, refl, sym, ap, ◌∙◌, subst, append_assoc, append-nil, inl, inr, ◌⊎◌}
 use Rattle.std.specs.Prelude.{codes}
 use Rattle.nsi_program.specs.Lines.{as_line}
 use Rattle.std.proofs.Math.Seq.{take-append_seam}
-use Rattle.std.proofs.lemmas.List.{take-append-drop, take_all}
+use Rattle.std.proofs.lemmas.List.{take-append-drop}
 use Rattle.line_reader.specs.Held.{Held, budget, to_come}
 use Rattle.stp_topology.specs.declared.network.Network.{Network}
 use Rattle.stp_topology.specs.Network.{nothing}
-use Rattle.line_reader.specs.Given.{Given, given_of, IsSame, with_line, TakesLine, IsAtEnd}
+use Rattle.line_reader.specs.Given.{Given, given_of, with_line, TakesLine, IsAtEnd}
 use Rattle.nsi_program.specs.declared.status.Ending.{Ending}
 use Rattle.nsi_program.specs.declared.status.Status.{Status}
 use Rattle.nsi_program.specs.declared.provide.Phase.{Phase}

@@ -1,5 +1,5 @@
 -- What a line behind the topology is answered.
-use Rattle.std.specs.Prelude.{ℕ, List, [], ◌∷◌, ◌++◌, Bool, ◌==◌, nat_eq, map, length, codes, if◌then◌else◌, Result, Ok, Err}
+use Rattle.std.specs.Prelude.{ℕ, List, [], ◌∷◌, ◌++◌, ◌==◌, nat_eq, map, length, codes, if◌then◌else◌, Result, Ok, Err}
 use Rattle.std.specs.List.{concat, starts_with}
 use Rattle.nsi_primitive.specs.declared.message.Message.{Message}
 use Rattle.json_fields.specs.Faults.{fault_name, fault_key}

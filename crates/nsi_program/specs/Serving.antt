@@ -1,5 +1,5 @@
 -- A provider that answers reserves: what it keeps, and how it answers a message.
-use Rattle.std.specs.Prelude.{ℕ, ◌+◌, Bool, not, List, [], ◌∷◌, bytes_eq, ◌==◌, if◌then◌else◌, Option, Some, None, option_and_then, unwrap_or, Result, Ok, Err}
+use Rattle.std.specs.Prelude.{ℕ, ◌+◌, List, [], ◌∷◌, bytes_eq, ◌==◌, if◌then◌else◌, Option, Some, None, option_and_then, unwrap_or, Result, Ok, Err}
 use Rattle.nsi_base.specs.Range.{Span, span_of}
 use Rattle.nsi_primitive.specs.Ids.{id_of}
 use Rattle.nsi_primitive.specs.Kinds.{is_both_ways}

@@ -1,5 +1,5 @@
-use Rattle.std.proofs.Common.{◌∙◌, ◌++◌, ap, add-one, sym, arith}
-use Rattle.nsi_program.specs.Service.{capacities_among, of_own}
+use Rattle.std.proofs.Common.{◌∙◌, sym}
+use Rattle.nsi_program.specs.Service.{capacities_among}
 use Rattle.nsi_program.proofs.Fresh.{among_more, within_is}
 use Rattle.nsi_program.proofs.service.capacities_among.Goals as goal
 

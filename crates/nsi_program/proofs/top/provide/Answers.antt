@@ -1,6 +1,6 @@
 use Rattle.std.proofs.Common.{arith, ap}
 use Rattle.line_reader.specs.Held.{budget}
-use Rattle.nsi_program.proofs.Promised.{same_start, same_along, front_along, is_kept, cut_by_fault, front_of_cut}
+use Rattle.nsi_program.proofs.Promised.{same_start}
 use Rattle.nsi_program.proofs.top.provide.Goals as goal
 
 pub lines-init : goal.lines-init

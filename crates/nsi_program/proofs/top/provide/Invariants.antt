@@ -1,4 +1,4 @@
-use Rattle.std.proofs.Common.{◌≡◌, ◌≤◌, ◌+◌}
+use Rattle.std.proofs.Common.{◌≤◌, ◌+◌}
 use Rattle.line_reader.specs.Held.{budget, to_come}
 use Rattle.nsi_program.specs.Promise.{promise_of, promised, IsSameEnd}
 use Rattle.nsi_program.proofs.top.provide.Given as goal

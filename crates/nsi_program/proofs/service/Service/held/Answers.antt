@@ -1,5 +1,5 @@
-use Rattle.std.proofs.Common.{◌≡◌, ◌≤◌, ◌+◌, ◌∙◌, ap, sym, subst, arith, ℕ, None, Some}
-use Rattle.capacity_calendar.specs.Plan.{Plan, booking_of, with_pending}
+use Rattle.std.proofs.Common.{◌≡◌, ◌∙◌, ap, sym, arith}
+use Rattle.capacity_calendar.specs.Plan.{Plan, booking_of}
 use Rattle.nsi_program.specs.Serving.{Serving}
 use Rattle.nsi_program.proofs.Fresh.{still_free}
 use Rattle.nsi_program.proofs.service.Service.held.Goals as goal
