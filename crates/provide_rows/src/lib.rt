@@ -1,0 +1,5 @@
+//! What the command `provide` writes.
+#![tactic(auto)]
+
+#[cfg(test)]
+mod tests;
