@@ -300,10 +300,12 @@ fn a_long_tick_is_a_tick(rt: HostRuntime) -> Result<(), Fail> {
     Ok(())
 }
 
+/// The first 40 bytes of a reserve.
+const HALF: &[u8] = br#"{"kind":"reserve","correlationId":"urn:u"#;
+
 #[test]
 fn half_a_line_is_no_json(rt: HostRuntime) -> Result<(), Fail> {
-    let line = in_full(rt.alloc(), RESERVE)?;
-    let is_right = is_written(rt.alloc(), &line.as_bytes()[..40], NOT_JSON)?;
+    let is_right = is_written(rt.alloc(), HALF, NOT_JSON)?;
     assert!(rt; is_right);
     Ok(())
 }

@@ -277,19 +277,12 @@ fn carriage_returns_are_dropped(rt: HostRuntime) -> Result<(), Fail> {
     Ok(())
 }
 
-/// The bytes up to the end of the line before the last.
-fn without_last_line(bytes: &[u8]) -> &[u8] {
-    let mut front = bytes;
-    if let Some((_, rest)) = front.split_last() {
-        front = rest;
+/// The lines but the last one.
+fn without_last_line(text: &str) -> &str {
+    match text.trim_end().rsplit_once('\n') {
+        Some((front, _)) => front,
+        None => "",
     }
-    while let Some((last, rest)) = front.split_last() {
-        if *last == b'\n' {
-            return front;
-        }
-        front = rest;
-    }
-    front
 }
 
 /// Whether the input cut there is answered as the whole is, up to the line that was cut.
@@ -297,7 +290,10 @@ fn is_front(alloc: Global, input: &[u8], whole: &[u8]) -> Result<bool, AllocErro
     let mut cut = Vec::new(alloc);
     cut.extend_from_slice(input)?;
     let written = provide(alloc, cut)?;
-    let told = without_last_line(&written.bytes);
+    let Ok(text) = str::from_utf8(&written.bytes) else {
+        return Ok(false);
+    };
+    let told = without_last_line(text).as_bytes();
     Ok((written.status == 0 || written.status == 5) && whole.starts_with(told))
 }
 
