@@ -6,7 +6,7 @@ root=$(dirname -- "$(readlink -f -- "${BASH_SOURCE[0]}")")
 crate=$root/crates/nsi
 program=$crate/out/nsi
 # As old as the sources that the program was built from.
-stamp=$crate/out/nsi.stamp
+stamp=$crate/out/launched
 
 if [ "$#" -eq 1 ] && [ "$1" = --help ]; then
     exec cat -- "$root/docs/help.txt"
