@@ -67,7 +67,8 @@ impl LineReader {
         }
     }
 
-    /// Takes the next line. What was read behind it is kept.
+    /// Takes the next line. What was read behind it is kept. After a failed read the next call reads on; after want of
+    /// memory the reader is of no more use, since bytes may be lost.
     pub fn next<S: Source>(&mut self, alloc: Global, input: &mut S) -> Result<Next, ReadError>
         ensures next { IfOk result (Takes (to_come self.old (S.left input.old)) (to_come self.new (S.left input.new))) }
         ensures shrinks { IfOk result (λ next. is_line next ≡ true → budget self.new < budget self.old) }
