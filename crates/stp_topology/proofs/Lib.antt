@@ -4,3 +4,4 @@ pub mod LineSound
 pub mod TextLemmas
 mod Rows
 pub mod MarkLemmas
+pub mod ChildLemmas

@@ -1,5 +1,6 @@
 pub mod Faults
 pub mod Names
+pub mod Children
 pub mod Words
 pub mod Network
 pub mod Sound

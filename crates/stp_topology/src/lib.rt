@@ -2,6 +2,7 @@
 #![tactic(auto)]
 
 mod child_lines;
+mod children;
 mod declare;
 pub mod fault;
 mod names;
@@ -11,6 +12,7 @@ pub mod text;
 pub mod topology;
 pub mod words;
 
+pub use children::ChildLines;
 pub use fault::{LineRefusal, TopologyFault, TopologyRefusal};
 pub use names::Names;
 pub use network::{AgentKind, Network};

@@ -3,7 +3,7 @@
 ghost use Rattle.std.specs.Prelude.{◌≡◌, ◌<◌, ◌≤◌, length, IfSome, IfOk, Some};
 ghost use Rattle.std.specs.List.{position_from};
 ghost use Rattle.stp_topology.specs.Faults.{Gives};
-ghost use Rattle.stp_topology.specs.Network.{nothing, agent_of, stp_of, name_of, stp_name_of, kind_of, owner_of, capacity_of, partner_of, sdps_of, first_provider, is_provider};
+ghost use Rattle.stp_topology.specs.Network.{nothing, agent_of, stp_of, name_of, stp_name_of, kind_of, owner_of, capacity_of, partner_of, sdps_of, children_of, first_provider, is_provider};
 ghost use Rattle.stp_topology.specs.Sound.{IsSound, IsProvider};
 ghost use Rattle.stp_topology.specs.Text.{of_line, is_skipped};
 
@@ -187,6 +187,14 @@ impl Topology {
     {
         let partners = self.network.partners.items();
         partners.iter().filter(|p| p.is_some()).count() / 2
+    }
+
+    /// The children of an agent, in the order of their `child` lines.
+    pub fn children(&self, a: AgentNo) -> &[AgentNo]
+        requires { a < length self.now.agents }
+        ensures { result.now ≡ children_of self.now a }
+    {
+        self.network.children.of(a)
     }
 
     /// It costs nothing, and tells what is true of every topology.
