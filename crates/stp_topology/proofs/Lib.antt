@@ -4,4 +4,3 @@ pub mod LineSound
 pub mod TextLemmas
 mod Rows
 pub mod MarkLemmas
-pub mod ChildLemmas

@@ -5,4 +5,5 @@ pub mod Words
 pub mod Network
 pub mod Sound
 pub mod Lines
+pub mod Rank
 pub mod Text

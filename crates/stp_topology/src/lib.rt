@@ -8,6 +8,7 @@ pub mod fault;
 mod names;
 mod network;
 mod partners;
+mod rank;
 pub mod text;
 pub mod topology;
 pub mod words;
