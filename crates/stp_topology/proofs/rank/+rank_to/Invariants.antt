@@ -1,4 +1,4 @@
-use Rattle.std.proofs.Common.{◌≡◌, ◌≤◌, ◌-◌, ℕ, map, take}
+use Rattle.std.proofs.Common.{◌≡◌, ◌≤◌, ◌-◌, map, take}
 use Rattle.stp_topology.specs.Rank.{rank_to, greatest}
 use Rattle.stp_topology.proofs.rank.+rank_to.Given as goal
 
