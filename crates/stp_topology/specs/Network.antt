@@ -7,6 +7,7 @@ use Rattle.std.specs.List.{position_from}
 use Rattle.nsi_base.specs.declared.flow.Flow.{Flow}
 use Rattle.nsi_base.specs.declared.flow.Flow.TheVariants as flows
 use Rattle.stp_topology.specs.Names.{place_of}
+use Rattle.stp_topology.specs.Children.{children_in}
 
 -- no agent, no point, no child
 abbrev pub nothing : Network
@@ -48,6 +49,10 @@ partner_of t s = get_or t.partners s None
 -- how many pairs of points are joined
 abbrev pub sdps_of : Network → ℕ
 sdps_of t = count_by is_some t.partners / 2
+
+-- the children of an agent, in the order of their lines
+abbrev pub children_of : Network → ℕ → List ℕ
+children_of t a = children_in t.children a
 
 abbrev pub is_provider : AgentKind → Bool
 is_provider (Provider hold) = true

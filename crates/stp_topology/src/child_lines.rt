@@ -14,7 +14,7 @@ pub fn has_pair(pairs: &[(AgentNo, AgentNo)], i: AgentNo, j: AgentNo) -> bool
     pairs.iter().any(|e| e.0 == i && e.1 == j)
 }
 
-fn is_aggregator(kinds: &[AgentKind], i: AgentNo) -> bool
+pub fn is_aggregator(kinds: &[AgentKind], i: AgentNo) -> bool
     ensures { result ≡ is_aggregator kinds.now i }
 {
     is_of(Sort::OneAggregator, kinds.get(i.get() as usize).copied())

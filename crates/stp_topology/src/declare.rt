@@ -8,6 +8,7 @@ ghost use Rattle.stp_topology.specs.Lines.{is_of, known_agent, with_agent, add_p
 ghost use Rattle.stp_topology.specs.declared.fault.TopologyFault.TheVariants.{Unknown};
 
 use crate::child_lines::{has_pair, is_too_deep, leads_down};
+use crate::children::ChildLines;
 use crate::fault::{LineRefusal, TopologyFault};
 use crate::names::Names;
 use crate::network::{AgentKind, Network};
@@ -69,7 +70,7 @@ impl Network {
             owners: List::new(alloc),
             capacities: List::new(alloc),
             partners: Partners::new(alloc),
-            children: List::new(alloc),
+            children: ChildLines::new(alloc),
         }
     }
 
@@ -233,7 +234,7 @@ impl Network {
     }
 
     #[tactic(auto, unfolding(crate::specs::Lines::with_child))]
-    fn put_child(&mut self, i: AgentNo, j: AgentNo) -> Result<(), LineRefusal>
+    fn put_child(&mut self, alloc: Global, i: AgentNo, j: AgentNo) -> Result<(), LineRefusal>
         ensures { Leaves result self.new (with_child self.old i j) }
     {
         if has_pair(self.children.items(), i, j) {
@@ -242,7 +243,7 @@ impl Network {
         if leads_down(self.children.items(), j, i) {
             return Err(LineRefusal::Fault(TopologyFault::Cycle));
         }
-        let Ok(()) = self.children.push((i, j)) else {
+        let Ok(()) = self.children.push(alloc, i, j) else {
             return Err(LineRefusal::NoMemory);
         };
         if is_too_deep(self.kinds.items(), self.children.items()) {
@@ -252,7 +253,7 @@ impl Network {
     }
 
     #[tactic(auto, unfolding(crate::specs::Lines::add_child))]
-    fn add_child(&mut self, parent: &[u8], child: &[u8]) -> Result<(), LineRefusal>
+    fn add_child(&mut self, alloc: Global, parent: &[u8], child: &[u8]) -> Result<(), LineRefusal>
         requires { length self.old.agents ≤ 64 }
         ensures { Leaves result self.new (add_child self.old parent.now child.now) }
     {
@@ -260,7 +261,7 @@ impl Network {
         let child = name(child)?;
         let i = self.known_agent(Sort::OneAggregator, parent)?;
         let j = self.known_agent(Sort::Either, child)?;
-        self.put_child(i, j)
+        self.put_child(alloc, i, j)
     }
 
     /// What a line declares.
@@ -281,7 +282,7 @@ impl Network {
         } else if is_form(words, 3, b"sdp") {
             self.add_sdp(words[1], words[2])
         } else if is_form(words, 3, b"child") {
-            self.add_child(words[1], words[2])
+            self.add_child(alloc, words[1], words[2])
         } else {
             Err(LineRefusal::Fault(TopologyFault::Word))
         }

@@ -2,15 +2,18 @@
 #![tactic(auto)]
 
 mod child_lines;
+mod children;
 mod declare;
 pub mod fault;
 mod names;
 mod network;
 mod partners;
+mod rank;
 pub mod text;
 pub mod topology;
 pub mod words;
 
+pub use children::ChildLines;
 pub use fault::{LineRefusal, TopologyFault, TopologyRefusal};
 pub use names::Names;
 pub use network::{AgentKind, Network};

@@ -1,5 +1,6 @@
 //! What the lines of a topology have declared.
 
+use crate::children::ChildLines;
 use crate::names::Names;
 use crate::partners::Partners;
 use nsi_base::{AgentNo, List, Mbps};
@@ -25,5 +26,5 @@ pub struct Network {
     pub owners: List<AgentNo>,
     pub capacities: List<Mbps>,
     pub partners: Partners,
-    pub children: List<(AgentNo, AgentNo)>,
+    pub children: ChildLines,
 }

@@ -7,8 +7,8 @@ use crate::{
 use nsi_base::{AgentNo, Flow, Mbps, StpNo};
 use std::alloc::{AllocError, Global};
 
-/// Two providers below an aggregator, its requester, and three STPs of which two are joined.
-const LINES: [&str; 12] = [
+/// Two providers below an aggregator, another aggregator above it, a requester, and three STPs of which two are joined.
+const LINES: [&str; 14] = [
     "# a network",
     "agent p1 provider 60",
     "",
@@ -21,6 +21,8 @@ const LINES: [&str; 12] = [
     "sdp B C",
     "child a1 p2",
     "child a1 p1",
+    "agent a2 aggregator",
+    "child a2 a1",
 ];
 
 fn network(alloc: Global) -> Option<Topology> {
@@ -58,7 +60,7 @@ fn last_name_is_told(topology: &Topology) -> bool {
 fn tells_agents(rt: HostRuntime) {
     match network(rt.alloc()) {
         Some(topology) => {
-            assert_eq!(rt; topology.agents(), 4);
+            assert_eq!(rt; topology.agents(), 5);
             assert!(rt; topology.first_provider() == AgentNo::new(0));
             assert!(rt; requester_is_told(&topology) && last_name_is_told(&topology));
         }
@@ -94,6 +96,47 @@ fn tells_stps(rt: HostRuntime) {
         Some(topology) => {
             assert!(rt; topology.stps() == 3 && topology.sdps() == 1);
             assert!(rt; point_is_told(&topology) && capacity_is_told(&topology));
+        }
+        None => assert!(rt; false),
+    }
+}
+
+fn has_children(topology: &Topology, name: &[u8], children: &[u16]) -> bool {
+    match topology.agent_of(name) {
+        Some(a) => topology
+            .children(a)
+            .iter()
+            .map(|c| c.get())
+            .eq(children.iter().copied()),
+        None => false,
+    }
+}
+
+fn has_rank(topology: &Topology, name: &[u8], rank: u8) -> bool {
+    match topology.agent_of(name) {
+        Some(a) => topology.rank(a) == rank,
+        None => false,
+    }
+}
+
+#[test]
+fn tells_children(rt: HostRuntime) {
+    match network(rt.alloc()) {
+        Some(topology) => {
+            assert!(rt; has_children(&topology, b"a1", &[1, 0]));
+            assert!(rt; has_children(&topology, b"a2", &[2]));
+            assert!(rt; has_children(&topology, b"p1", &[]));
+        }
+        None => assert!(rt; false),
+    }
+}
+
+#[test]
+fn tells_ranks(rt: HostRuntime) {
+    match network(rt.alloc()) {
+        Some(topology) => {
+            assert!(rt; has_rank(&topology, b"p1", 0) && has_rank(&topology, b"r1", 0));
+            assert!(rt; has_rank(&topology, b"a1", 1) && has_rank(&topology, b"a2", 2));
         }
         None => assert!(rt; false),
     }

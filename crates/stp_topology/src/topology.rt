@@ -3,13 +3,15 @@
 ghost use Rattle.std.specs.Prelude.{◌≡◌, ◌<◌, ◌≤◌, length, IfSome, IfOk, Some};
 ghost use Rattle.std.specs.List.{position_from};
 ghost use Rattle.stp_topology.specs.Faults.{Gives};
-ghost use Rattle.stp_topology.specs.Network.{nothing, agent_of, stp_of, name_of, stp_name_of, kind_of, owner_of, capacity_of, partner_of, sdps_of, first_provider, is_provider};
+ghost use Rattle.stp_topology.specs.Network.{nothing, agent_of, stp_of, name_of, stp_name_of, kind_of, owner_of, capacity_of, partner_of, sdps_of, children_of, first_provider, is_provider};
+ghost use Rattle.stp_topology.specs.Rank.{rank_of};
 ghost use Rattle.stp_topology.specs.Sound.{IsSound, IsProvider};
 ghost use Rattle.stp_topology.specs.Text.{of_line, is_skipped};
 
 use crate::declare::{agent_at, stp_at};
 use crate::fault::{LineRefusal, TopologyFault};
 use crate::network::{AgentKind, Network};
+use crate::rank::rank_to;
 use crate::words::words;
 use nsi_base::{AgentNo, Flow, Mbps, Name, StpNo};
 use std::alloc::Global;
@@ -187,6 +189,22 @@ impl Topology {
     {
         let partners = self.network.partners.items();
         partners.iter().filter(|p| p.is_some()).count() / 2
+    }
+
+    /// The children of an agent, in the order of their `child` lines.
+    pub fn children(&self, a: AgentNo) -> &[AgentNo]
+        requires { a < length self.now.agents }
+        ensures { result.now ≡ children_of self.now a }
+    {
+        self.network.children.of(a)
+    }
+
+    /// The rank of an agent: 0 for a provider, and for an aggregator one more than the greatest of its children's, or 1.
+    pub fn rank(&self, a: AgentNo) -> u8
+        requires { a < length self.now.agents }
+        ensures { result ≡ rank_of self.now a }
+    {
+        rank_to(5, &self.network, a)
     }
 
     /// It costs nothing, and tells what is true of every topology.

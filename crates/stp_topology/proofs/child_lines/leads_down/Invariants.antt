@@ -1,4 +1,4 @@
-use Rattle.std.proofs.Common.{◌≡◌, ℕ, false, get_or, length}
+use Rattle.std.proofs.Common.{◌≡◌, ℕ, false, get_or}
 use Rattle.stp_topology.specs.Lines.{leads_down}
 use Rattle.stp_topology.proofs.child_lines.leads_down.Given as goal
 
