@@ -189,6 +189,13 @@ impl Topology {
         partners.iter().filter(|p| p.is_some()).count() / 2
     }
 
+    /// The pairs of an aggregator and its child, in the order of the `child` lines.
+    pub fn child_pairs(&self) -> &[(AgentNo, AgentNo)]
+        ensures { result.now ≡ self.now.children }
+    {
+        self.network.children.items()
+    }
+
     /// It costs nothing, and tells what is true of every topology.
     pub fn facts(&self)
         ensures { IsSound self.now }
