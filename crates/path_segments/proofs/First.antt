@@ -1,13 +1,10 @@
 -- The least path has each child at its first position.
-use Rattle.std.proofs.Common.{◌≡◌, ◌≢◌, ℕ, zero, suc, ◌+◌, ◌<◌, ◌≤◌, ◌==◌, ◌⊎◌, inl, inr, List, [], ◌∷◌, ◌++◌, Option, Some, true, false, length, take, map, get_or, slice_get, sym, ◌∙◌, refl, subst, ap, arith}
-use Rattle.std.proofs.Math.Seq.{take-suc}
+use Rattle.std.proofs.Common.{◌≡◌, ◌≢◌, ℕ, zero, suc, ◌+◌, ◌≤◌, ◌==◌, ◌⊎◌, inl, inr, List, [], ◌∷◌, Option, Some, true, false, length, get_or, slice_get, sym, ◌∙◌, refl, subst, ap, arith}
 use Rattle.std.proofs.lemmas.Bool.{cases_lt, cases_eq}
-use Rattle.std.proofs.lemmas.List.{take_all, map-append, get_or_read_under}
 use Rattle.path_segments.specs.declared.path.PlacedSegment.{PlacedSegment}
-use Rattle.path_segments.specs.declared.path.Segment.{Segment}
 use Rattle.path_segments.specs.Paths.{IsSegment, Onward, Chain, points, places, Before, Less, position_of, placed}
 use Rattle.path_segments.specs.Paths.Less.{by_places}
-use Rattle.path_segments.specs.Named.{with_child, named}
+use Rattle.path_segments.specs.Named.{named}
 
 position_here : (x : ℕ) (xs : List ℕ) (k : ℕ) → x ≡ k → position_of (x ∷ xs) k ≡ 0
 unfolding position_of

@@ -1,5 +1,5 @@
 -- From placed segments to the segments of a path.
-use Rattle.std.proofs.Common.{◌≡◌, ℕ, zero, suc, ◌+◌, ◌<◌, ◌≤◌, List, [], ◌∷◌, ◌++◌, Option, Some, length, take, map, get_or, slice_get, sym, ◌∙◌, refl, subst, ap, arith}
+use Rattle.std.proofs.Common.{◌≡◌, ℕ, zero, suc, ◌+◌, ◌<◌, List, [], ◌∷◌, ◌++◌, Option, Some, length, take, map, get_or, slice_get, sym, ◌∙◌, refl, subst, ap, arith}
 use Rattle.std.proofs.Math.Seq.{take-suc}
 use Rattle.std.proofs.lemmas.List.{map-append}
 use Rattle.std.proofs.lemmas.Option.{slice_get_within}
@@ -7,7 +7,7 @@ use Rattle.stp_topology.specs.declared.network.Network.{Network}
 use Rattle.stp_topology.specs.Network.{partner_of}
 use Rattle.path_segments.specs.declared.path.PlacedSegment.{PlacedSegment}
 use Rattle.path_segments.specs.declared.path.Segment.{Segment}
-use Rattle.path_segments.specs.Paths.{IsSegment, Offers, Onward, Chain, Less, IsPath, IsLess, children_of, placed, greatest_rank}
+use Rattle.path_segments.specs.Paths.{Offers, Onward, Chain, Less, IsPath, IsLess, children_of, placed, greatest_rank}
 use Rattle.path_segments.specs.Named.{with_child, named}
 use Rattle.path_segments.specs.Steps.{IsFit, Way}
 use Rattle.path_segments.specs.Walks.{Walk, IsBelow}

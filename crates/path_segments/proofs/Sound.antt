@@ -1,12 +1,10 @@
 -- What a search asks of a topology is true of every topology.
-use Rattle.std.proofs.Common.{◌≡◌, ℕ, zero, suc, ◌<◌, ◌⊎◌, inl, inr, ◌==◌, true, false, List, [], ◌∷◌, Option, Some, None, length, slice_get, get_or, sym, ◌∙◌, refl, subst, ap, arith}
+use Rattle.std.proofs.Common.{◌≡◌, ℕ, zero, suc, ◌<◌, inl, inr, ◌==◌, true, false, List, [], ◌∷◌, Option, Some, None, length, slice_get, get_or, sym, ◌∙◌, refl, subst, ap, arith}
 use Rattle.std.specs.List.{filter_map}
 use Rattle.std.proofs.lemmas.Bool.{cases_eq}
 use Rattle.std.proofs.lemmas.Option.{slice_get_within}
 use Rattle.stp_topology.specs.declared.network.Network.{Network}
-use Rattle.stp_topology.specs.declared.network.AgentKind.{AgentKind}
 use Rattle.stp_topology.specs.declared.network.AgentKind.TheVariants.{Provider, Aggregator}
-use Rattle.stp_topology.specs.Network.{partner_of}
 use Rattle.stp_topology.specs.Sound.{IsSound, IsAggregator, IsProvider}
 use Rattle.path_segments.specs.Paths.{child_from, children_of}
 use Rattle.path_segments.specs.Walks.{AreMutual, AreLeaves, AreAgents}

@@ -36,6 +36,16 @@ fn is_path(path: &Path, expected: &[[u16; 3]]) -> bool {
     true
 }
 
+fn read(alloc: Global, text: &[u8]) -> Option<Topology> {
+    if 1_000 < text.len() {
+        return None;
+    }
+    match read_topology(alloc, text) {
+        Ok((topology, _)) => Some(topology),
+        Err(_) => None,
+    }
+}
+
 fn path_between(
     alloc: Global,
     topology: &Topology,
@@ -55,7 +65,7 @@ fn path_between(
 }
 
 fn leads(alloc: Global, text: &[u8], source: &[u8], dest: &[u8], expected: &[[u16; 3]]) -> bool {
-    let Ok((topology, _)) = read_topology(alloc, text) else {
+    let Some(topology) = read(alloc, text) else {
         return false;
     };
     match path_between(alloc, &topology, source, dest) {
@@ -65,7 +75,7 @@ fn leads(alloc: Global, text: &[u8], source: &[u8], dest: &[u8], expected: &[[u1
 }
 
 fn has_no_path(alloc: Global, text: &[u8], source: &[u8], dest: &[u8]) -> bool {
-    let Ok((topology, _)) = read_topology(alloc, text) else {
+    let Some(topology) = read(alloc, text) else {
         return false;
     };
     matches!(

@@ -1,4 +1,4 @@
-use Rattle.std.proofs.Common.{◌≡◌, ◌∷◌, [], length, ap, ◌∙◌, sym, arith, Some, append_assoc}
+use Rattle.std.proofs.Common.{◌≡◌, ◌∷◌, [], ap, ◌∙◌, sym, arith, Some, append_assoc}
 use Rattle.stp_topology.specs.Network.{partner_of}
 use Rattle.path_segments.specs.Steps.{at}
 use Rattle.path_segments.proofs.Flat.{exit_within}

@@ -1,5 +1,4 @@
-use Rattle.std.proofs.Common.{◌∙◌, ap, sym}
-use Rattle.path_segments.proofs.Children.{children_next, children_end}
+use Rattle.path_segments.proofs.Children.{children_next}
 use Rattle.path_segments.proofs.points.children_of.Goals as goal
 
 pub loop-pair-preserved : goal.loop-pair-preserved

@@ -1,4 +1,4 @@
-use Rattle.std.proofs.Common.{◌≡◌, ℕ, List, Some, slice_get, subst, ◌∙◌, ◌-◌, get_or, length, arith, ap, rules}
+use Rattle.std.proofs.Common.{◌≡◌, ℕ, List, Some, slice_get, subst, ◌∙◌, ◌-◌, length, arith, ap, rules}
 use Rattle.path_segments.specs.Paths.{children_of}
 use Rattle.path_segments.proofs.Below.{marked_next, marked_end}
 use Rattle.path_segments.proofs.Children.{some_read}

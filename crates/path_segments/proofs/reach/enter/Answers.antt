@@ -1,4 +1,4 @@
-use Rattle.std.proofs.Common.{◌≡◌, get_or, length, false, true, arith, subst, ap, sym, ◌∙◌}
+use Rattle.std.proofs.Common.{◌≡◌, get_or, length, false, true, arith, subst, sym, ◌∙◌}
 use Rattle.path_segments.specs.Walks.{Entering}
 use Rattle.path_segments.proofs.Spreads.{entering_end, entering_outside}
 use Rattle.path_segments.proofs.reach.enter.Goals as goal

@@ -1,4 +1,4 @@
-use Rattle.std.proofs.Common.{get_or, length, arith, Bool}
+use Rattle.std.proofs.Common.{arith, Bool}
 use Rattle.path_segments.proofs.Below.{ways}
 use Rattle.path_segments.proofs.Children.{some_read}
 use Rattle.path_segments.proofs.search.entries.Goals as goal

@@ -1,4 +1,4 @@
-use Rattle.std.proofs.Common.{subst, ap, arith, length}
+use Rattle.std.proofs.Common.{subst, arith, length}
 use Rattle.stp_topology.specs.Network.{partner_of}
 use Rattle.path_segments.specs.Steps.{at, Way, HoldsFor}
 use Rattle.path_segments.proofs.Marks.{next_level}
