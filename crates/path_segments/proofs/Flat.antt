@@ -84,5 +84,12 @@ walk_end t among d p (more b p' x y m o e j w) = walk_end t among d y w
 pub exit_within : (t : Network) (n : ℕ) (children : List ℕ) (b p y : ℕ) → IsSegment (Offers t n) children b p y → y < length t.owners
 exit_within t n children b p y s = walk_end t (IsBelow t n s.child) y p (walk_of t n s.child p y s.offered s.apart)
 
+walk_start : (t : Network) (among : ℕ → Type 0) (d p : ℕ) → Walk t among d p → p < length t.owners
+walk_start t among d p (last b p' m o e) = slice_get_within t.owners p b o.0
+walk_start t among d p (more b p' x y m o e j w) = slice_get_within t.owners p b o.0
+
+pub entry_within : (t : Network) (n : ℕ) (children : List ℕ) (b p y : ℕ) → IsSegment (Offers t n) children b p y → p < length t.owners
+entry_within t n children b p y s = walk_start t (IsBelow t n s.child) y p (walk_of t n s.child p y s.offered s.apart)
+
 pub place_within : (t : Network) (n : ℕ) (children : List ℕ) (b p y : ℕ) → IsSegment (Offers t n) children b p y → b < length children
 place_within t n children b p y s = slice_get_within children b s.child s.is_child

@@ -2,7 +2,6 @@
 use Rattle.std.proofs.Common.{◌≡◌, ℕ, zero, suc, ◌+◌, ◌<◌, List, [], ◌∷◌, ◌++◌, Option, Some, length, take, map, get_or, slice_get, sym, ◌∙◌, refl, subst, ap, arith}
 use Rattle.std.proofs.Math.Seq.{take-suc}
 use Rattle.std.proofs.lemmas.List.{map-append}
-use Rattle.std.proofs.lemmas.Option.{slice_get_within}
 use Rattle.stp_topology.specs.declared.network.Network.{Network}
 use Rattle.stp_topology.specs.Network.{partner_of}
 use Rattle.path_segments.specs.declared.path.PlacedSegment.{PlacedSegment}
@@ -10,11 +9,9 @@ use Rattle.path_segments.specs.declared.path.Segment.{Segment}
 use Rattle.path_segments.specs.Paths.{Offers, Onward, Chain, Less, IsPath, IsLess, children_of, placed, greatest_rank}
 use Rattle.path_segments.specs.Named.{with_child, named}
 use Rattle.path_segments.specs.Steps.{IsFit, Way}
-use Rattle.path_segments.specs.Walks.{Walk, IsBelow}
-use Rattle.path_segments.specs.Walks.Walk.{last, more}
 use Rattle.path_segments.proofs.Children.{some_read}
 use Rattle.path_segments.proofs.First.{read_of, least_again}
-use Rattle.path_segments.proofs.Flat.{walk_of, exit_within, place_within}
+use Rattle.path_segments.proofs.Flat.{entry_within, exit_within, place_within}
 
 pub some_item : {A : Type 0} (xs : List A) (i : ℕ) (d : A) → i < length xs → slice_get xs i ≡ Some (get_or xs i d)
 some_item [] i d l = absurd (omega arith)
@@ -47,15 +44,11 @@ chain_each pairs segment source dest [] h i x g = absurd h
 chain_each pairs segment source dest (y ∷ ys) h zero x g = let same : y ≡ x = cc in subst (λ (z : PlacedSegment). segment z.place z.entry z.exit) same h.1
 chain_each pairs segment source dest (y ∷ ys) h (suc i) x g = onward_each pairs segment y.exit dest ys h.2 i x g
 
-walk_start : (t : Network) (among : ℕ → Type 0) (d p : ℕ) → Walk t among d p → p < length t.owners
-walk_start t among d p (last b p' m o e) = slice_get_within t.owners p b o.0
-walk_start t among d p (more b p' x y m o e j w) = slice_get_within t.owners p b o.0
-
 pub segments_within : (t : Network) → IsFit t → (n : ℕ) (children : List ℕ) (source dest : ℕ) (xs : List PlacedSegment) → Chain (partner_of t) (Way t n children) source dest xs
     → (i : ℕ) (x : PlacedSegment) → slice_get xs i ≡ Some x → (x.place < length children) × (x.entry < 4096) × (x.exit < 4096)
 segments_within t fit n children source dest xs h i x g =
     let s = chain_each (partner_of t) (Way t n children) source dest xs h i x g in
-    let entry = walk_start t (IsBelow t n s.child) x.exit x.entry (walk_of t n s.child x.entry x.exit s.offered s.apart) in
+    let entry = entry_within t n children x.place x.entry x.exit s in
     let exit = exit_within t n children x.place x.entry x.exit s in
     let few = fit.few in
     (place_within t n children x.place x.entry x.exit s, omega (arith, entry, few), omega (arith, exit, few))
