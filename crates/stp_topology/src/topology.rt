@@ -193,7 +193,6 @@ impl Topology {
 
     /// The children of an agent, in the order of their `child` lines.
     pub fn children(&self, a: AgentNo) -> &[AgentNo]
-        requires { a < length self.now.agents }
         ensures { result.now ≡ children_of self.now a }
     {
         self.network.children.of(a)
@@ -201,7 +200,6 @@ impl Topology {
 
     /// The rank of an agent: 0 for a provider, and for an aggregator one more than the greatest of its children's, or 1.
     pub fn rank(&self, a: AgentNo) -> u8
-        requires { a < length self.now.agents }
         ensures { result ≡ rank_of self.now a }
     {
         rank_to(5, &self.network, a)

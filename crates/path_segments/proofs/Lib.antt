@@ -1,0 +1,10 @@
+pub mod Flat
+pub mod Least
+pub mod Marks
+pub mod Follow
+pub mod Spreads
+pub mod Below
+pub mod Children
+pub mod First
+pub mod Sound
+pub mod Named

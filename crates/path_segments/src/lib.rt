@@ -1,0 +1,14 @@
+//! The least path between two STPs through the children of an aggregator.
+#![tactic(auto)]
+
+mod least_path;
+pub mod path;
+mod points;
+mod reach;
+mod search;
+
+pub use least_path::find;
+pub use path::{Path, PathFault, Segment};
+
+#[cfg(test)]
+mod tests;
