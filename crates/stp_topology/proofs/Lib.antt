@@ -1,4 +1,5 @@
 pub mod WordLemmas
+pub mod RankLemmas
 pub mod SoundLemmas
 pub mod LineSound
 pub mod TextLemmas

@@ -9,6 +9,7 @@ use Rattle.stp_topology.specs.declared.fault.TopologyFault.TheVariants.{Unknown,
 use Rattle.stp_topology.specs.declared.network.AgentKind.TheVariants.{Provider, Aggregator, Requester}
 use Rattle.stp_topology.specs.declared.declare.Sort.{Sort}
 use Rattle.stp_topology.specs.declared.declare.Sort.TheVariants as sorts
+use Rattle.stp_topology.proofs.RankLemmas.{deep_same}
 use Rattle.stp_topology.specs.Faults.{◌>>=◌, value_or}
 use Rattle.stp_topology.specs.Names.{place_of}
 use Rattle.stp_topology.specs.Network.{Network, AgentKind, agent_of, stp_of, nothing, is_provider}
@@ -61,6 +62,7 @@ nothing_sound = record {
   joined = λ s p h. cc;
   parents = λ k e h. cc;
   children = λ k e h. cc;
+  depth = refl;
 }
 
 abbrev agent_after : Network → List ℕ → AgentKind → Network
@@ -84,6 +86,7 @@ agent_made t name kind i asks few = record {
   joined = i.joined;
   parents = λ k e h. stays_at t.kinds (kind ∷ []) Aggregator e.0 (i.parents k e h);
   children = λ k e h. omega (arith, pushed t.agents name, i.children k e h);
+  depth = deep_same t.kinds kind t.children (λ k e h. omega (arith, i.children k e h, i.fit.kinds)) ∙ i.depth;
 }
 
 pub agent_sound : (t new : Network) (name : List ℕ) (kind : AgentKind) → IsSound t → ((p : ℕ) → kind ≡ Requester p → p < length t.agents) → with_agent t name kind ≡ Ok new → IsSound new
@@ -113,6 +116,7 @@ stp_made t name owner capacity i own few = record {
   joined = λ s p h. elim (at_push t.partners None (Some p) s h) [ inl e ↦ stays_at t.partners (None ∷ []) (Some s) p (i.joined s p e) | inr e ↦ cc ];
   parents = i.parents;
   children = i.children;
+  depth = i.depth;
 }
 
 pub stp_sound : (t new : Network) (name : List ℕ) (owner capacity : ℕ) → IsSound t → IsProvider t owner → with_stp t name owner capacity ≡ Ok new → IsSound new
@@ -185,6 +189,7 @@ sdp_made t i j s pi pj apart = record {
   joined = both_ways t.partners i j pi pj apart s.joined;
   parents = s.parents;
   children = s.children;
+  depth = s.depth;
 }
 
 pub sdp_sound : (t new : Network) (i j : ℕ) → IsSound t → i < length t.stps → j < length t.stps → with_sdp t i j ≡ Ok new → IsSound new
@@ -201,8 +206,8 @@ sdp_sound t new i j s li lj h =
 abbrev child_after : Network → ℕ → ℕ → Network
 child_after t i j = record t { children = t.children ++ (i, j) ∷ [] }
 
-child_made : (t : Network) (i j : ℕ) → IsSound t → IsAggregator t i → j < length t.agents → IsSound (child_after t i j)
-child_made t i j s p l = record {
+child_made : (t : Network) (i j : ℕ) → IsSound t → IsAggregator t i → j < length t.agents → is_too_deep t.kinds (t.children ++ (i, j) ∷ []) ≡ false → IsSound (child_after t i j)
+child_made t i j s p l d = record {
   fit = record {
     few_agents = s.fit.few_agents;
     few_stps = s.fit.few_stps;
@@ -216,6 +221,7 @@ child_made t i j s p l = record {
   joined = s.joined;
   parents = λ k e h. elim (at_push t.children (i, j) e k h) [ inl q ↦ s.parents k e q | inr q ↦ subst (λ (x : ℕ × ℕ). IsAggregator t x.0) q.1 p ];
   children = λ k e h. elim (at_push t.children (i, j) e k h) [ inl q ↦ s.children k e q | inr q ↦ subst (λ (x : ℕ × ℕ). x.1 < length t.agents) q.1 l ];
+  depth = d;
 }
 
 pub child_sound : (t new : Network) (i j : ℕ) → IsSound t → IsAggregator t i → j < length t.agents → with_child t i j ≡ Ok new → IsSound new
@@ -225,7 +231,7 @@ child_sound t new i j s p l h =
     let b = passes (leads_down t.children 4 j i) Cycle _ new a.1 in
     let c = passes (is_too_deep t.kinds (t.children ++ (i, j) ∷ [])) TooDeep _ new b.1 in
     let same : child_after t i j ≡ new = cc in
-    subst IsSound same (child_made t i j s p l)
+    subst IsSound same (child_made t i j s p l c.0)
 
 -- an agent of a sort
 of_sort : (sort : Sort) (o : Option AgentKind) → is_of sort o ≡ true → (k : AgentKind) × (o ≡ Some k)

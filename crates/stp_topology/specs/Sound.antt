@@ -1,7 +1,8 @@
 -- What is true of every topology.
-use Rattle.std.specs.Prelude.{◌≡◌, ℕ, ◌<◌, ◌≤◌, Some, length, slice_get}
+use Rattle.std.specs.Prelude.{◌≡◌, ℕ, ◌<◌, ◌≤◌, false, Some, length, slice_get}
 use Rattle.stp_topology.specs.declared.network.AgentKind.TheVariants.{Provider, Aggregator, Requester}
 use Rattle.stp_topology.specs.Network.{Network}
+use Rattle.stp_topology.specs.Lines.{is_too_deep}
 
 -- how many there are of each
 pub record IsFit (t : Network) : Type 0 where
@@ -20,7 +21,7 @@ IsProvider t a = (hold : ℕ) × (slice_get t.kinds a ≡ Some (Provider hold))
 abbrev pub IsAggregator : Network → ℕ → Type 0
 IsAggregator t a = slice_get t.kinds a ≡ Some Aggregator
 
--- each number leads to an agent or point of its sort, and points are joined both ways
+-- each number leads to an agent or point of its sort, points are joined both ways, and no rank passes 4
 pub record IsSound (t : Network) : Type 0 where
   pub fit : IsFit t
   pub owned : (s a : ℕ) → slice_get t.owners s ≡ Some a → IsProvider t a
@@ -28,3 +29,4 @@ pub record IsSound (t : Network) : Type 0 where
   pub joined : (s p : ℕ) → slice_get t.partners s ≡ Some (Some p) → slice_get t.partners p ≡ Some (Some s)
   pub parents : (k : ℕ) (e : ℕ × ℕ) → slice_get t.children k ≡ Some e → IsAggregator t e.0
   pub children : (k : ℕ) (e : ℕ × ℕ) → slice_get t.children k ≡ Some e → e.1 < length t.agents
+  pub depth : is_too_deep t.kinds t.children ≡ false

@@ -200,7 +200,8 @@ impl Topology {
 
     /// The rank of an agent: 0 for a provider, and for an aggregator one more than the greatest of its children's, or 1.
     pub fn rank(&self, a: AgentNo) -> u8
-        ensures { result ≡ rank_of self.now a }
+        ensures rank { result ≡ rank_of self.now a }
+        ensures within { result ≤ 4 }
     {
         rank_to(5, &self.network, a)
     }
