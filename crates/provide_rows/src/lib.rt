@@ -2,10 +2,4 @@
 #![tactic(auto)]
 
 #[cfg(test)]
-mod hostile;
-#[cfg(test)]
-mod outside;
-#[cfg(test)]
-mod rows;
-#[cfg(test)]
 mod running;

@@ -1,34 +1,38 @@
-//! A run over bytes in memory.
+//! A run over bytes in memory. The modules of tests stand below it, so nothing here is public.
+
+mod hostile;
+mod outside;
+mod rows;
 
 use nsi_outside::{MemorySink, MemorySource};
 use nsi_program::top_plain;
 use std::alloc::{AllocError, Global};
 
 /// A provider with two points of 1000 Mbps, and its requester.
-pub(crate) const TOPOLOGY: &str =
+const TOPOLOGY: &str =
     "agent p1 provider 60\nagent r1 requester p1\nstp p1 A 1000\nstp p1 B 1000\n---\n";
 
 /// What a run wrote, and its exit status.
 #[derive(Drop)]
-pub(crate) struct Written {
-    pub(crate) status: u8,
-    pub(crate) bytes: Vec<u8>,
+struct Written {
+    status: u8,
+    bytes: Vec<u8>,
 }
 
 impl Written {
-    pub(crate) fn is(&self, status: u8, bytes: &[u8]) -> bool {
+    fn is(&self, status: u8, bytes: &[u8]) -> bool {
         self.status == status && self.bytes.as_slice() == bytes
     }
 }
 
 /// The calls of the source and of the sink that fail, each counted from 1.
 #[derive(Drop)]
-pub(crate) struct Failing {
-    pub(crate) reads: Vec<u64>,
-    pub(crate) writes: Vec<u64>,
+struct Failing {
+    reads: Vec<u64>,
+    writes: Vec<u64>,
 }
 
-pub(crate) fn run(
+fn run(
     alloc: Global,
     words: &str,
     input: Vec<u8>,
@@ -47,7 +51,7 @@ pub(crate) fn run(
 }
 
 /// The command `provide` on the bytes, where nothing fails.
-pub(crate) fn provide(alloc: Global, input: Vec<u8>) -> Result<Written, AllocError> {
+fn provide(alloc: Global, input: Vec<u8>) -> Result<Written, AllocError> {
     let failing = Failing {
         reads: Vec::new(alloc),
         writes: Vec::new(alloc),
@@ -56,7 +60,7 @@ pub(crate) fn provide(alloc: Global, input: Vec<u8>) -> Result<Written, AllocErr
 }
 
 /// The topology, and bytes behind it.
-pub(crate) fn behind_topology(alloc: Global, lines: &[u8]) -> Result<Vec<u8>, AllocError> {
+fn behind_topology(alloc: Global, lines: &[u8]) -> Result<Vec<u8>, AllocError> {
     let mut input = Vec::new(alloc);
     input.extend_from_slice(TOPOLOGY.as_bytes())?;
     input.extend_from_slice(lines)?;
@@ -64,13 +68,13 @@ pub(crate) fn behind_topology(alloc: Global, lines: &[u8]) -> Result<Vec<u8>, Al
 }
 
 /// The text with its ids in full: `P#1` is the first that the provider makes, and `R#1` the requester's first.
-pub(crate) fn in_full(alloc: Global, text: &str) -> Result<String, AllocError> {
+fn in_full(alloc: Global, text: &str) -> Result<String, AllocError> {
     let provider = text.replace(alloc, "P#", "urn:uuid:00000000-0000-8000-8000-00000000000")?;
     provider.replace(alloc, "R#", "urn:uuid:00000000-0001-8000-8000-00000000000")
 }
 
 /// Whether lines behind the topology, with short ids, are answered so, and all is done.
-pub(crate) fn is_answered(alloc: Global, lines: &str, written: &str) -> Result<bool, AllocError> {
+fn is_answered(alloc: Global, lines: &str, written: &str) -> Result<bool, AllocError> {
     let lines = in_full(alloc, lines)?;
     let written = in_full(alloc, written)?;
     let input = behind_topology(alloc, lines.as_bytes())?;

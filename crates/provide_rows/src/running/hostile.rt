@@ -1,6 +1,6 @@
 //! Lines that try to break the reading.
 
-use crate::running::{behind_topology, in_full, is_answered, provide};
+use super::{behind_topology, in_full, is_answered, provide};
 use std::alloc::{AllocError, Global};
 use std::test::Fail;
 

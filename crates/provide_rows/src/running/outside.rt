@@ -1,6 +1,6 @@
 //! Words, faults of the topology, and faults from outside.
 
-use crate::running::{Failing, Written, behind_topology, provide, run};
+use super::{Failing, Written, behind_topology, provide, run};
 use std::alloc::{AllocError, Global};
 use std::test::Fail;
 

@@ -1,6 +1,6 @@
 //! Lines behind the topology, and what is written for them.
 
-use crate::running::{TOPOLOGY, behind_topology, in_full, is_answered, provide};
+use super::{TOPOLOGY, behind_topology, in_full, is_answered, provide};
 use std::alloc::{AllocError, Global};
 use std::test::Fail;
 
