@@ -1,15 +1,16 @@
 -- Marking an agent and those below it.
-use Rattle.std.proofs.Common.{◌≡◌, ◌≢◌, ℕ, zero, suc, ◌+◌, ◌-◌, ◌<◌, ◌≤◌, ◌⊎◌, ◌↔◌, inl, inr, List, [], ◌∷◌, Bool, true, false, Some, length, slice_get, get_or, set, sym, ◌∙◌, refl, subst, ap, arith}
+use Rattle.std.proofs.Common.{◌≡◌, ◌≢◌, ℕ, zero, suc, ◌+◌, ◌-◌, ◌<◌, ◌≤◌, ◌⊎◌, ◌↔◌, inl, inr, List, Bool, true, false, Some, length, slice_get, get_or, set, sym, ◌∙◌, refl, subst, ap, arith}
 use Rattle.std.proofs.Common.{replicate}
-use Rattle.std.proofs.lemmas.List.{get_or-set_same, get_or-set_other, get_or-replicate}
+use Rattle.std.proofs.lemmas.List.{get_or-replicate}
 use Rattle.std.proofs.Math.ListN.{get_or-eq_default, length-replicate}
-use Rattle.std.proofs.lemmas.Bool.{cases_lt, cases_eq}
+use Rattle.std.proofs.lemmas.Bool.{cases_lt}
 use Rattle.std.proofs.lemmas.Option.{slice_get_within}
 use Rattle.stp_topology.specs.declared.network.Network.{Network}
 use Rattle.stp_topology.specs.Network.{children_of}
 use Rattle.path_segments.specs.Paths.{IsSegment, Offers}
 use Rattle.path_segments.specs.Walks.{Walk, IsBelow, IsUnder, AreLeaves}
-use Rattle.path_segments.proofs.Spreads.{set_here, set_kept, set_back}
+use Rattle.path_segments.specs.Searches.{marked}
+use Rattle.path_segments.proofs.Flags.{set_here, set_kept, set_back}
 use Rattle.path_segments.proofs.Flat.{walk_map, walk_of, offers_of}
 
 -- what is marked while the children are gone over
@@ -77,42 +78,15 @@ marked_leaf t zero agent old z l b = (
 marked_leaf t (suc n) agent old z l b = absurd (omega arith)
 
 -- the walks over the marked agents are the ways that the child offers
-pub way_of : (t : Network) → AreLeaves t → (n place child exit : ℕ) (children : List ℕ) (marks found : List Bool) → slice_get children place ≡ Some child
-    → ((b : ℕ) → (get_or marks b false ≡ true) ↔ IsBelow t n child b) → ((p : ℕ) → (get_or found p false ≡ true) ↔ Walk t (λ b. get_or marks b false ≡ true) exit p)
-    → (p : ℕ) → (get_or found p false ≡ true) × (p ≢ exit) ↔ IsSegment (Offers t n) children place p exit
-way_of t leaves n place child exit children marks found is m w p = (
-  (λ h. record {
-    child = child;
-    is_child = is;
-    apart = h.1;
-    offered = offers_of t leaves n child exit p (walk_map t (λ b. get_or marks b false ≡ true) (IsBelow t n child) exit p (λ b. (m b).0) ((w p).0 h.0));
-  }),
-  (λ s. (
-    (w p).1 (walk_map t (IsBelow t n child) (λ b. get_or marks b false ≡ true) exit p (λ b. (m b).1)
-        (walk_of t n child p exit (subst (λ z. Offers t n z p exit) (same s.child child (sym s.is_child ∙ is)) s.offered) s.apart)),
-    s.apart,
-  )),
+pub ways : (t : Network) → AreLeaves t → (n place child : ℕ) (children : List ℕ) (below : List Bool) → slice_get children place ≡ Some child
+    → ((b : ℕ) → marked below b ↔ IsBelow t n child b) → (exit p : ℕ) → ((p ≢ exit) × Walk t (marked below) exit p) ↔ IsSegment (Offers t n) children place p exit
+ways t leaves n place child children below is m exit p = (
+  (λ h. record { child = child; is_child = is; apart = h.0; offered = offers_of t leaves n child exit p (walk_map t (marked below) (IsBelow t n child) exit p (λ b. (m b).0) h.1) }),
+  (λ s. (s.apart, walk_map t (IsBelow t n child) (marked below) exit p (λ b. (m b).1) (walk_of t n child p exit (subst (λ z. Offers t n z p exit) (same s.child (sym s.is_child ∙ is)) s.offered) s.apart))),
 )
   where
-    same : (a b : ℕ) → Some a ≡ Some b → a ≡ b
-    same a b q = cc
-
-pub some_at : (xs : List ℕ) (i : ℕ) → i < length xs → slice_get xs i ≡ Some (get_or xs i 0)
-some_at [] i l = absurd (omega arith)
-some_at (x ∷ xs) zero l = refl
-some_at (x ∷ xs) (suc i) l = some_at xs i (omega arith)
-
-pub cleared : (found : List Bool) (x p : ℕ) → x < length found → (get_or (set found x false) p false ≡ true) ↔ ((get_or found p false ≡ true) × (p ≢ x))
-cleared found x p l = (
-  (λ h. elim (cases_eq p x) [
-    | inl e ↦ absurd (clash (sym (get_or-set_same found x false false l) ∙ subst (λ z. get_or (set found x false) z false ≡ true) e h))
-    | inr e ↦ (sym (get_or-set_other found x p false false e) ∙ h, e)
-  ]),
-  (λ h. get_or-set_other found x p false false h.1 ∙ h.0),
-)
-  where
-    clash : false ≡ true → ⊥
-    clash e = cc
+    same : (b : ℕ) → Some b ≡ Some child → b ≡ child
+    same b q = cc
 
 pub none_marked : (n i : ℕ) → get_or (replicate n false) i false ≡ true → ⊥
 none_marked n i h = elim (cases_lt i n) [
@@ -123,21 +97,9 @@ none_marked n i h = elim (cases_lt i n) [
     clash : false ≡ true → ⊥
     clash e = cc
 
--- what marking, walking and clearing the exit give together
-pub ways : (t : Network) → AreLeaves t → (n place child exit k : ℕ) (children : List ℕ) (old marks seen found : List Bool) → slice_get children place ≡ Some child
-    → seen ≡ marks → old ≡ replicate k false → ((b : ℕ) → (get_or marks b false ≡ true) ↔ ((get_or old b false ≡ true) ⊎ IsBelow t n child b))
-    → ((p : ℕ) → (get_or found p false ≡ true) ↔ Walk t (λ b. get_or seen b false ≡ true) exit p) → exit < length found
-    → (p : ℕ) → (get_or (set found exit false) p false ≡ true) ↔ IsSegment (Offers t n) children place p exit
-ways t leaves n place child exit k children old marks seen found is s o m w l p =
-    let way = way_of t leaves n place child exit children seen found is marked w p in
-    let clear = cleared found exit p l in
-    ((λ h. way.0 (clear.0 h)), (λ h. clear.1 (way.1 h)))
-  where
-    marked : (b : ℕ) → (get_or seen b false ≡ true) ↔ IsBelow t n child b
-    marked b = (
-      (λ h. elim ((m b).0 (subst (λ (z : List Bool). get_or z b false ≡ true) s h)) [
-        | inl g ↦ absurd (none_marked k b (subst (λ (z : List Bool). get_or z b false ≡ true) o g))
-        | inr g ↦ g
-      ]),
-      (λ h. subst (λ (z : List Bool). get_or z b false ≡ true) (sym s) ((m b).1 (inr h))),
-    )
+-- what marking gives where nothing was marked
+pub marks_below : (t : Network) (n child k : ℕ) (old below : List Bool) → old ≡ replicate k false → ((b : ℕ) → marked below b ↔ (marked old b ⊎ IsBelow t n child b)) → (b : ℕ) → marked below b ↔ IsBelow t n child b
+marks_below t n child k old below o m b = (
+  (λ h. elim ((m b).0 h) [ inl g ↦ absurd (none_marked k b (subst (λ (z : List Bool). get_or z b false ≡ true) o g)) | inr g ↦ g ]),
+  (λ h. (m b).1 (inr h)),
+)

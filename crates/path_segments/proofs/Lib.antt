@@ -2,9 +2,14 @@ pub mod Flat
 pub mod Least
 pub mod Marks
 pub mod Follow
-pub mod Spreads
+pub mod Members
+pub mod Flags
+pub mod Searches
+pub mod Entering
+pub mod ChildSearches
+pub mod Lists
 pub mod Below
-pub mod Children
+pub mod ReadItems
 pub mod First
 pub mod Sound
 pub mod Named

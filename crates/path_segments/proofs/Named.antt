@@ -9,7 +9,7 @@ use Rattle.path_segments.specs.declared.path.Segment.{Segment}
 use Rattle.path_segments.specs.Paths.{Offers, Onward, Chain, Less, IsPath, IsLess, placed, greatest_rank}
 use Rattle.path_segments.specs.Named.{with_child, named}
 use Rattle.path_segments.specs.Steps.{IsFit, Way}
-use Rattle.path_segments.proofs.Children.{some_read}
+use Rattle.path_segments.proofs.ReadItems.{some_read}
 use Rattle.path_segments.proofs.First.{read_of, least_again}
 use Rattle.path_segments.proofs.Flat.{entry_within, exit_within, place_within}
 

@@ -1,17 +1,11 @@
 -- The table of the least steps.
-use Rattle.std.specs.Prelude.{◌≡◌, ℕ, zero, suc, ◌<◌, ◌≤◌, ◌⊎◌, [], ◌∷◌, length, get_or, Bool, true, false, List, Option, Some, None}
+use Rattle.std.specs.Prelude.{◌≡◌, ℕ, zero, suc, ◌<◌, ◌≤◌, ◌⊎◌, [], ◌∷◌, length, get_or, List, Option, Some, None}
 use Rattle.std.specs.List.{sum_by}
 use Rattle.path_segments.specs.declared.search.Step.{Step}
 use Rattle.path_segments.specs.declared.path.PlacedSegment.{PlacedSegment}
 use Rattle.stp_topology.specs.declared.network.Network.{Network}
 use Rattle.path_segments.specs.Paths.{IsSegment, Offers}
 use Rattle.stp_topology.specs.Network.{partner_of}
-
--- what stands at a point after a step is noted for the entries
-abbrev pub noted : Bool → Step → Option Step → Option Step
-noted entry step (Some s) = Some s
-noted true step None = Some step
-noted false step None = None
 
 abbrev pub is_open : Option Step → ℕ
 is_open None = 1

@@ -1,6 +1,7 @@
 //! The least path between two STPs through the children of an aggregator.
 #![tactic(auto)]
 
+mod child_search;
 mod least_path;
 pub mod path;
 mod points;

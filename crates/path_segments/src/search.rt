@@ -1,13 +1,16 @@
 //! The least step from each entry, level by level from the destination.
 
-ghost use Rattle.std.specs.Prelude.{◌≡◌, ℕ, ◌+◌, ◌<◌, ◌≤◌, ◌↔◌, length, get_or, slice_get, Some, None, false, true, IfOk};
+ghost use Rattle.std.specs.Prelude.{◌≡◌, ℕ, ◌+◌, ◌<◌, ◌≤◌, ◌↔◌, length, slice_get, replicate, None, Some, true, IfOk, OnOk};
 ghost use Rattle.stp_topology.specs.Network.{partner_of};
-ghost use Rattle.path_segments.specs.Walks.{AreMutual, AreLeaves, AreAgents};
-ghost use Rattle.path_segments.specs.Steps.{noted, open_places, at, Hop, Holds, Way, IsFit, Complete, Sound};
+ghost use Rattle.path_segments.specs.Walks.{AreMutual, AreLeaves, AreAgents, IsBelow};
+ghost use Rattle.path_segments.specs.Steps.{at, Hop, Holds, Way, IsFit, Complete, Sound};
+ghost use Rattle.path_segments.specs.Searches.{AreListed, Changes, Grows, IsNoted, marked};
+ghost use Rattle.path_segments.specs.ChildSearches.{AreSearches};
 
-use crate::points::{partner_at, points};
-use crate::reach::{mark_below, walkers};
-use nsi_base::AgentNo;
+use crate::child_search::{Remaining, note_entries};
+use crate::points::{partner_at, points, points_by_owner};
+use crate::reach::mark_below;
+use nsi_base::{AgentNo, List};
 use std::alloc::{AllocError, Global};
 use stp_topology::Topology;
 
@@ -19,21 +22,11 @@ pub struct Step {
     pub place: usize,
 }
 
-fn mark(entries: &[bool], step: Step, steps: &mut Vec<Option<Step>>) -> bool
-    requires { length entries.now ≡ length steps.old.items }
-    ensures same_length { length steps.new.items ≡ length steps.old.items }
-    ensures noted { (p : ℕ) → get_or steps.new.items p None ≡ noted (get_or entries.now p false) step (get_or steps.old.items p None) }
-    ensures grew { result ≡ true → open_places steps.new.items < open_places steps.old.items }
-    ensures stays { result ≡ false → steps.new.items ≡ steps.old.items }
-{
-    let mut grew = false;
-    for p in 0..entries.len() {
-        if entries[p] && steps[p].is_none() {
-            steps[p] = Some(step);
-            grew = true;
-        }
-    }
-    grew
+/// The agents below a child, and what remains to be entered among them.
+#[derive(Drop)]
+pub struct ChildSearch {
+    pub below: Vec<bool>,
+    pub remaining: Vec<Remaining>,
 }
 
 fn is_hop(topology: &Topology, steps: &[Option<Step>], dest: u16, rest: u16, exit: u16) -> bool
@@ -54,30 +47,77 @@ fn is_hop(topology: &Topology, steps: &[Option<Step>], dest: u16, rest: u16, exi
     }
 }
 
-/// The entries from which a child offers a way to the exit.
-fn entries(
+/// The search of a child that has not begun.
+fn child_search(
+    alloc: Global,
+    topology: &Topology,
+    depth: u8,
+    child: AgentNo,
+) -> Result<ChildSearch, AllocError>
+    requires agents { AreAgents topology.now }
+    requires child { child < length topology.now.agents }
+    ensures below { IfOk result (λ s. (b : ℕ) → marked s.below.items b ↔ IsBelow topology.now depth child b) }
+    ensures remaining { IfOk result (λ s. s.remaining.items ≡ replicate (length topology.now.agents) Remaining.All) }
+{
+    let mut below = vec![in alloc; false; topology.agents()]?;
+    mark_below(topology, depth, child, &mut below);
+    let remaining = vec![in alloc; Remaining::All; topology.agents()]?;
+    Ok(ChildSearch { below, remaining })
+}
+
+/// A search for each child.
+fn child_searches(
     alloc: Global,
     topology: &Topology,
     depth: u8,
     children: &[AgentNo],
-    place: usize,
-    exit: u16,
-) -> Result<Vec<bool>, AllocError>
+) -> Result<Vec<ChildSearch>, AllocError>
+    requires agents { AreAgents topology.now }
+    requires are_agents { (i k : ℕ) → slice_get children.now i ≡ Some k → k < length topology.now.agents }
+    ensures { IfOk result (λ v. AreSearches topology.now depth children.now (λ p. ⊥) v.items) }
+{
+    let mut searches = Vec::new(alloc);
+    for child in children {
+        searches.push(child_search(alloc, topology, depth, *child)?)?;
+    }
+    Ok(searches)
+}
+
+/// Notes the step at the entries of the child of its place.
+fn at_child(
+    alloc: Global,
+    topology: &Topology,
+    depth: u8,
+    children: &[AgentNo],
+    owned: &[List<u16>],
+    step: Step,
+    searches: &mut Vec<ChildSearch>,
+    steps: &mut Vec<Option<Step>>,
+) -> Result<bool, AllocError>
     requires fit { IsFit topology.now }
     requires paired { AreMutual topology.now }
     requires leaves { AreLeaves topology.now }
-    requires agents { AreAgents topology.now }
-    requires children { (i k : ℕ) → slice_get children.now i ≡ Some k → k < length topology.now.agents }
-    requires place { place < length children.now }
-    requires exit { exit < length topology.now.owners }
-    ensures same_length { IfOk result (λ v. length v.items ≡ length topology.now.owners) }
-    ensures exact { IfOk result (λ v. (p : ℕ) → (get_or v.items p false ≡ true) ↔ Way topology.now depth children.now place p exit) }
+    requires owned { AreListed topology.now (length topology.now.owners) owned.now }
+    requires searches { AreSearches topology.now depth children.now (IsNoted (at steps.old.items)) searches.old.items }
+    requires steps { length steps.old.items ≡ length topology.now.owners }
+    requires place { step.place < length children.now }
+    requires exit { step.exit < length topology.now.owners }
+    ensures searches { OnOk result (AreSearches topology.now depth children.now (IsNoted (at steps.new.items)) searches.new.items) }
+    ensures grows { IfOk result (λ grew. Grows grew steps.old.items steps.new.items) }
+    ensures changes { OnOk result (Changes (λ p. Way topology.now depth children.now step.place p step.exit) step (at steps.old.items) (at steps.new.items)) }
+    ensures noted { OnOk result ((p : ℕ) → Way topology.now depth children.now step.place p step.exit → IsNoted (at steps.new.items) p) }
 {
-    let mut marks = vec![in alloc; false; topology.agents()]?;
-    mark_below(topology, depth, children[place], &mut marks);
-    let mut found = walkers(alloc, topology, &marks, exit)?;
-    found[exit as usize] = false;
-    Ok(found)
+    let search = &mut searches[step.place];
+    let grew = note_entries(
+        alloc,
+        topology,
+        owned,
+        &search.below,
+        step,
+        &mut search.remaining,
+        steps,
+    )?;
+    Ok(grew)
 }
 
 fn at_exit(
@@ -85,33 +125,34 @@ fn at_exit(
     topology: &Topology,
     depth: u8,
     children: &[AgentNo],
+    owned: &[List<u16>],
     dest: u16,
     rest: u16,
     exit: u16,
+    searches: &mut Vec<ChildSearch>,
     steps: &mut Vec<Option<Step>>,
 ) -> Result<bool, AllocError>
     requires fit { IsFit topology.now }
     requires paired { AreMutual topology.now }
     requires leaves { AreLeaves topology.now }
-    requires agents { AreAgents topology.now }
-    requires are_agents { (i k : ℕ) → slice_get children.now i ≡ Some k → k < length topology.now.agents }
+    requires owned { AreListed topology.now (length topology.now.owners) owned.now }
+    requires searches { AreSearches topology.now depth children.now (IsNoted (at steps.old.items)) searches.old.items }
     requires steps { length steps.old.items ≡ length topology.now.owners }
     requires exit { exit < length topology.now.owners }
     requires holds { Holds topology.now depth children.now dest rest exit 0 steps.old.items }
-    ensures same_length { length steps.new.items ≡ length steps.old.items }
+    ensures searches { OnOk result (AreSearches topology.now depth children.now (IsNoted (at steps.new.items)) searches.new.items) }
     ensures holds { IfOk result (λ _. Holds topology.now depth children.now dest rest (exit + 1) 0 steps.new.items) }
-    ensures grew { IfOk result (λ b. b ≡ true → open_places steps.new.items < open_places steps.old.items) }
-    ensures stays { IfOk result (λ b. b ≡ false → steps.new.items ≡ steps.old.items) }
+    ensures grows { IfOk result (λ grew. Grows grew steps.old.items steps.new.items) }
 {
     if !is_hop(topology, steps, dest, rest, exit) {
         return Ok(false);
     }
     let mut grew = false;
     for place in 0..children.len() {
-        let entries = entries(alloc, topology, depth, children, place, exit)?;
-        if mark(&entries, Step { rest, exit, place }, steps) {
-            grew = true;
-        }
+        let step = Step { rest, exit, place };
+        grew |= at_child(
+            alloc, topology, depth, children, owned, step, searches, steps,
+        )?;
     }
     Ok(grew)
 }
@@ -121,29 +162,36 @@ fn level(
     topology: &Topology,
     depth: u8,
     children: &[AgentNo],
+    owned: &[List<u16>],
     dest: u16,
     rest: u16,
+    searches: &mut Vec<ChildSearch>,
     steps: &mut Vec<Option<Step>>,
 ) -> Result<bool, AllocError>
     requires fit { IsFit topology.now }
     requires paired { AreMutual topology.now }
     requires leaves { AreLeaves topology.now }
-    requires agents { AreAgents topology.now }
-    requires are_agents { (i k : ℕ) → slice_get children.now i ≡ Some k → k < length topology.now.agents }
+    requires owned { AreListed topology.now (length topology.now.owners) owned.now }
+    requires searches { AreSearches topology.now depth children.now (IsNoted (at steps.old.items)) searches.old.items }
     requires steps { length steps.old.items ≡ length topology.now.owners }
     requires holds { Holds topology.now depth children.now dest rest 0 0 steps.old.items }
-    ensures same_length { length steps.new.items ≡ length steps.old.items }
+    ensures searches { OnOk result (AreSearches topology.now depth children.now (IsNoted (at steps.new.items)) searches.new.items) }
     ensures holds { IfOk result (λ _. Holds topology.now depth children.now dest (rest + 1) 0 0 steps.new.items) }
-    ensures grew { IfOk result (λ b. b ≡ true → open_places steps.new.items < open_places steps.old.items) }
-    ensures stays { IfOk result (λ b. b ≡ false → steps.new.items ≡ steps.old.items) }
+    ensures grows { IfOk result (λ grew. Grows grew steps.old.items steps.new.items) }
 {
     let mut grew = false;
     for exit in 0..points(topology) {
-        if at_exit(alloc, topology, depth, children, dest, rest, exit, steps)? {
-            grew = true;
-        }
+        grew |= at_exit(
+            alloc, topology, depth, children, owned, dest, rest, exit, searches, steps,
+        )?;
     }
     Ok(grew)
+}
+
+fn no_steps(alloc: Global, points: u16) -> Result<Vec<Option<Step>>, AllocError>
+    ensures { IfOk result (λ v. v.items ≡ replicate points None) }
+{
+    vec![in alloc; None; points as usize]
 }
 
 /// The least step from each entry from which there is a path.
@@ -163,10 +211,23 @@ pub fn table(
     ensures sound { IfOk result (λ v. Sound (at v.items) (partner_of topology.now) (Way topology.now depth children.now) dest) }
     ensures complete { IfOk result (λ v. Complete (at v.items) (partner_of topology.now) (Way topology.now depth children.now) dest) }
 {
-    let mut steps = vec![in alloc; None; points(topology) as usize]?;
+    let owned = points_by_owner(alloc, topology)?;
+    let mut searches = child_searches(alloc, topology, depth, children)?;
+    let mut steps = no_steps(alloc, points(topology))?;
     let mut rest = 0;
     loop {
-        if !level(alloc, topology, depth, children, dest, rest, &mut steps)? {
+        let grew = level(
+            alloc,
+            topology,
+            depth,
+            children,
+            &owned,
+            dest,
+            rest,
+            &mut searches,
+            &mut steps,
+        )?;
+        if !grew {
             return Ok(steps);
         }
         rest += 1;

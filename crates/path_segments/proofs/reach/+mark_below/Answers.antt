@@ -1,7 +1,7 @@
 use Rattle.std.proofs.Common.{◌≡◌, ℕ, List, Some, slice_get, subst, ◌-◌, length, arith, ap, rules}
 use Rattle.stp_topology.specs.Network.{children_of}
 use Rattle.path_segments.proofs.Below.{marked_next, marked_end}
-use Rattle.path_segments.proofs.Children.{some_read}
+use Rattle.path_segments.proofs.ReadItems.{some_read}
 use Rattle.path_segments.proofs.reach.+mark_below.Goals as goal
 
 pub loop-child-preserved : goal.loop-child-preserved

@@ -1,4 +1,4 @@
-use Rattle.std.proofs.Common.{◌≡◌, subst, length, get_or, false, true, arith, rules}
+use Rattle.std.proofs.Common.{◌≡◌, subst, length, false, true, arith, rules}
 use Rattle.stp_topology.specs.Network.{partner_of}
 use Rattle.path_segments.specs.Steps.{at, Way, HoldsFor}
 use Rattle.path_segments.proofs.Marks.{mark_holds, hop_kept, next_exit, pass_exit}
@@ -7,14 +7,13 @@ use Rattle.path_segments.proofs.search.at_exit.Goals as goal
 
 pub loop-place-preserved : goal.loop-place-preserved
 loop-place-preserved c = record {
-  same_length = search rules;
-  hop = hop_kept (λ p. get_or c.deref-in-loop-place.result.now p false) (record { rest = c.args.rest; exit = c.args.exit; place = c.loop-place.place }) (at c.loop-place.steps.items) (at c.mark.new.steps.items)
-      c.mark.ensures.noted (partner_of c.args.topology.now) c.args.dest c.args.rest c.args.exit c.loop-place.invariant.hop;
-  holds = mark_holds (partner_of c.args.topology.now) (Way c.args.topology.now c.args.depth c.args.children.now) c.args.dest (λ p. get_or c.deref-in-loop-place.result.now p false)
-      (record { rest = c.args.rest; exit = c.args.exit; place = c.loop-place.place }) (at c.loop-place.steps.items) (at c.mark.new.steps.items)
-      c.mark.ensures.noted (rw c.deref-in-loop-place.ensures.value c.in_ok-entries.ensures.exact) c.loop-place.invariant.hop c.loop-place.invariant.holds;
-  grew = search rules;
-  stays = search rules;
+  grows = search rules;
+  hop = hop_kept (λ p. Way c.args.topology.now c.args.depth c.args.children.now c.loop-place.place p c.args.exit) (record { rest = c.args.rest; exit = c.args.exit; place = c.loop-place.place }) (at c.loop-place.steps.items)
+      (at c.at_child.new.steps.items) c.in_ok-grew.ensures.changes (partner_of c.args.topology.now) c.args.dest c.args.rest c.args.exit c.loop-place.invariant.hop;
+  holds = mark_holds (partner_of c.args.topology.now) (Way c.args.topology.now c.args.depth c.args.children.now) c.args.dest
+      (record { rest = c.args.rest; exit = c.args.exit; place = c.loop-place.place }) (at c.loop-place.steps.items) (at c.at_child.new.steps.items)
+      c.in_ok-grew.ensures.changes c.in_ok-grew.ensures.noted c.loop-place.invariant.hop c.loop-place.invariant.holds;
+  searches = search rules;
 }
 
 pub returns-then-not-is_hop-clause-holds : goal.returns-then-not-is_hop-clause-holds
