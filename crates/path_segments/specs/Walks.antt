@@ -1,6 +1,5 @@
 -- Walks over the owners below an agent.
-use Rattle.std.specs.Prelude.{◌≡◌, ◌≢◌, ℕ, zero, suc, ◌<◌, ◌⊎◌, List, [], ◌∷◌, Bool, true, false, Some, slice_get, length}
-use Rattle.std.specs.List.{sum_by}
+use Rattle.std.specs.Prelude.{◌≡◌, ◌≢◌, ℕ, zero, suc, ◌<◌, ◌⊎◌, List, [], ◌∷◌, Some, slice_get, length}
 use Rattle.stp_topology.specs.declared.network.Network.{Network}
 use Rattle.path_segments.specs.Paths.{IsOwned}
 use Rattle.stp_topology.specs.Network.{partner_of, children_of}
@@ -25,33 +24,6 @@ AreMutual t = (x y : ℕ) → partner_of t x ≡ Some y → partner_of t y ≡ S
 abbrev pub In : ℕ → List ℕ → Type 0
 In y [] = ⊥
 In y (x ∷ xs) = (y ≡ x) ⊎ In y xs
-
--- the destination, or a point whose partner_of is found
-abbrev pub IsExit : Network → ℕ → (ℕ → Bool) → ℕ → Type 0
-IsExit t dest found y = (y ≡ dest) ⊎ ((z : ℕ) × (partner_of t y ≡ Some z) × (found z ≡ true))
-
--- each entry below a bound from which the owners lead to that exit is found
-abbrev pub AreEntered : Network → (ℕ → Type 0) → (ℕ → Bool) → ℕ → ℕ → Type 0
-AreEntered t among found bound y = (b p : ℕ) → p < bound → among b → IsOwned t b p y → p ≢ y → found p ≡ true
-
--- what is found has a walk, and each exit is entered, is still to come, or is the one at hand
-pub record Spread (t : Network) (among : ℕ → Type 0) (dest n : ℕ) (found : ℕ → Bool) (exits : List ℕ) (at_hand : ℕ → Type 0) : Type 0 where
-  pub sound : (p : ℕ) → found p ≡ true → Walk t among dest p
-  pub leads : (y : ℕ) → In y exits → IsExit t dest found y
-  pub closed : (y : ℕ) → IsExit t dest found y → In y exits ⊎ (AreEntered t among found n y ⊎ at_hand y)
-
--- the same while an exit is entered, for the points below a bound
-pub record Entering (t : Network) (among : ℕ → Type 0) (dest n : ℕ) (found : ℕ → Bool) (exits : List ℕ) (x bound : ℕ) : Type 0 where
-  pub spread : Spread t among dest n found exits (λ y. y ≡ x)
-  pub exit : IsExit t dest found x
-  pub entered : AreEntered t among found bound x
-
-abbrev pub is_missing : Bool → ℕ
-is_missing true = 0
-is_missing false = 1
-
-abbrev pub missing : List Bool → ℕ
-missing found = sum_by is_missing found
 
 -- the agent is one of the first children, or below one
 pub record IsUnder (t : Network) (n : ℕ) (children : List ℕ) (bound b : ℕ) : Type 0 where

@@ -1,11 +1,11 @@
 //! A search backwards through the providers below one child. What one exit's search enters isn't entered again by the
 //! searches from later exits.
 
-ghost use Rattle.std.specs.Prelude.{List as Sequence, Option as Maybe, ◌≡◌, ◌≢◌, ℕ, ◌+◌, ◌*◌, ◌<◌, ◌≤◌, ◌++◌, ◌∷◌, [], length, get_or, false, true, None, IfOk, OnOk};
+ghost use Rattle.std.specs.Prelude.{List as Sequence, Option as Maybe, ◌≡◌, ℕ, ◌+◌, ◌*◌, ◌<◌, ◌≤◌, ◌++◌, ◌∷◌, [], length, false, true, None, IfOk, OnOk};
 ghost use Rattle.stp_topology.specs.Network.{partner_of};
-ghost use Rattle.path_segments.specs.Walks.{AreMutual, In, Walk};
-ghost use Rattle.path_segments.specs.Steps.{at, IsFit, open_places};
-ghost use Rattle.path_segments.specs.Searches.{AreListed, Changes, Closed, Enters, Entry, Grows, IsNoted, IsReached, Leads, listed, marked, Marks, Searching, turns, what_remains};
+ghost use Rattle.path_segments.specs.Walks.{AreMutual, In};
+ghost use Rattle.path_segments.specs.Steps.{at, IsFit};
+ghost use Rattle.path_segments.specs.Searches.{AreListed, Changes, Closed, Enters, Entry, Grows, IsNoted, IsReached, listed, marked, Marks, Searching, turns, what_remains};
 ghost use Rattle.path_segments.specs.declared.search.Step.{Step as OneStep};
 
 use crate::points::{owner_at, partner_at, points_of};

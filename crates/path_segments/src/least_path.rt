@@ -1,6 +1,6 @@
 //! The least path between two points.
 
-ghost use Rattle.std.specs.Prelude.{slice_get, ◌≡◌, ℕ, ◌<◌, ◌≤◌, List, length, Some, IfOk, IsErrOf};
+ghost use Rattle.std.specs.Prelude.{slice_get, ◌≡◌, ℕ, ◌<◌, List, length, Some, IfOk, IsErrOf};
 ghost use Rattle.path_segments.specs.Paths.{Chain, Less, IsPath, IsLess};
 ghost use Rattle.path_segments.specs.Named.{named};
 ghost use Rattle.stp_topology.specs.Network.{partner_of};

@@ -1,6 +1,6 @@
 //! The least step from each entry, level by level from the destination.
 
-ghost use Rattle.std.specs.Prelude.{◌≡◌, ℕ, ◌+◌, ◌<◌, ◌≤◌, ◌↔◌, length, slice_get, replicate, None, Some, true, IfOk, OnOk};
+ghost use Rattle.std.specs.Prelude.{◌≡◌, ℕ, ◌+◌, ◌<◌, ◌↔◌, length, slice_get, replicate, None, Some, true, IfOk, OnOk};
 ghost use Rattle.stp_topology.specs.Network.{partner_of};
 ghost use Rattle.path_segments.specs.Walks.{AreMutual, AreLeaves, AreAgents, IsBelow};
 ghost use Rattle.path_segments.specs.Steps.{at, Hop, Holds, Way, IsFit, Complete, Sound};
