@@ -1,11 +1,16 @@
 //! The commands of the program.
 #![tactic(auto)]
 
+mod asked;
+mod check;
+mod output;
+mod paths;
 mod provide;
 mod service;
 pub mod status;
 mod top;
 mod wish;
+mod words;
 
 pub use status::Status;
 pub use top::top_plain;
