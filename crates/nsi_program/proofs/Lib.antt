@@ -5,4 +5,6 @@ pub mod Known
 pub mod Written
 pub mod Checks
 pub mod Ended
+pub mod OneText
+mod CheckRows
 mod Rows

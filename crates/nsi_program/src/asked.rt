@@ -1,6 +1,6 @@
 //! What a line behind the topology asks for.
 
-ghost use Rattle.std.specs.Prelude.{◌≡◌, ◌<◌, length, map, IfOk, IfSome, true, false};
+ghost use Rattle.std.specs.Prelude.{◌≡◌, ◌<◌, length, map, IfOk, IfSome};
 ghost use Rattle.nsi_program.specs.Asked.{aggregator_of, wanted_of, ask_of, IsWithin};
 
 use nsi_base::{AgentNo, StpNo};

@@ -1,18 +1,18 @@
 //! The command `check`: a topology, and then least paths. The whole input is read first.
 
-ghost use Rattle.std.specs.Prelude.{◌≡◌, ◌<◌, ◌≤◌, ◌⊎◌, ◌∷◌, [], length, codes, true, false, IfOk, IfSome, IsErrOf, OnOk, OnErr};
+ghost use Rattle.std.specs.Prelude.{◌≡◌, ◌<◌, ◌≤◌, ◌⊎◌, ◌++◌, ◌∷◌, [], ℕ, List, length, codes, true, false, IfSome, IsErrOf, OnOk, OnErr};
 ghost use Rattle.nsi_base.specs.Lines.{lines_of};
 ghost use Rattle.stp_topology.specs.Text.{topology_of};
 ghost use Rattle.nsi_program.specs.Check.{count_line, Answers, AnswersAll, AnswersFront, Counts, ChecksRead, Checks, BeginsRead, Begins};
 ghost use Rattle.nsi_program.specs.Lines.{as_line};
-ghost use Rattle.nsi_program.specs.Outcome.{status_of, topology_fault};
+ghost use Rattle.nsi_program.specs.Outcome.{topology_fault};
 ghost use Rattle.nsi_program.specs.Promise.{is_told, read_fault_line, Writes, WritesFront};
 ghost use Rattle.nsi_program.specs.Writes.{WritesSome, WritesSomeFront};
 
 use crate::output::{Fault, read_fault, write_text};
 use crate::paths::{answer, count_line};
 use crate::provide::topology_fault;
-use crate::status::{Ending, Status};
+use crate::status::Status;
 use line_reader::{ReadError, read_whole};
 use nsi_base::line::{feed_at, without_return};
 use nsi_outside::{Sink, Source};
@@ -40,6 +40,12 @@ pub(crate) fn check<S: Source, K: Sink>(alloc: Global, input: &mut S, out: &mut 
         Err(ReadError::NoMemory) => Status::NoMemory,
     }
 }
+
+/// These bytes make `check` end in one way and write one text, of which what is written up to a line is a front.
+pub fn one_check()
+    ensures text { (bytes : List ℕ) (status other : Status) (x y : List ℕ) → Checks bytes status x → Checks bytes other y → (status ≡ other) × (x ≡ y) }
+    ensures front { (bytes : List ℕ) (status : Status) (x y : List ℕ) → Begins bytes x → Checks bytes status y → (rest : List ℕ) × (y ≡ x ++ rest) }
+{}
 
 /// The status of a fault of writing.
 fn fault_status(fault: Fault) -> Status

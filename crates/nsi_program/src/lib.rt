@@ -12,5 +12,6 @@ mod top;
 mod wish;
 mod words;
 
+pub use check::one_check;
 pub use status::Status;
 pub use top::top_plain;

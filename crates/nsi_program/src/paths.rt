@@ -1,8 +1,7 @@
 //! Least paths as lines.
 
 ghost use Rattle.std.specs.Prelude.{◌≡◌, ◌<◌, ◌++◌, length, codes, decimal, IfOk, OnOk, All};
-ghost use Rattle.path_segments.specs.declared.path.Segment.{Segment as OneSegment};
-ghost use Rattle.nsi_program.specs.Check.{IsKnown, segment_text, path_line, count_line, Tells, TellsPath, Answers};
+ghost use Rattle.nsi_program.specs.Check.{IsKnown, segment_text, path_line, count_line, TellsPath, Answers};
 
 use crate::asked::{Ask, Wanted, ask_of};
 use nsi_base::Name;
