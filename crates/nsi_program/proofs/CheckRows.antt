@@ -3,11 +3,12 @@ use Rattle.std.proofs.Common.{◌≡◌, [], ◌∷◌, Some, None, refl}
 use Rattle.std.specs.Prelude.{codes}
 use Rattle.stp_topology.specs.declared.network.Network.{Network}
 use Rattle.stp_topology.specs.declared.network.AgentKind.{AgentKind}
+use Rattle.stp_topology.specs.Network.{sdps_of}
 use Rattle.stp_topology.specs.Words.{words_of}
 use Rattle.nsi_program.specs.declared.asked.Ask.{Ask}
 use Rattle.nsi_program.specs.declared.words.Command.{Command}
 use Rattle.nsi_program.specs.Asked.{ask_of, wanted_of}
-use Rattle.nsi_program.specs.Check.{count_line, path_line}
+use Rattle.nsi_program.specs.Check.{path_line}
 use Rattle.nsi_program.specs.Lines.{as_line}
 use Rattle.nsi_program.specs.Words.{command_of}
 
@@ -23,8 +24,8 @@ joined =
       children = (2, 0) ∷ (2, 1) ∷ [];
     }
 
-pub the_counts : count_line joined ≡ as_line (codes "agents 4 stps 4 sdps 1")
-the_counts = refl
+pub one_sdp : sdps_of joined ≡ 1
+one_sdp = refl
 
 pub two_segments : path_line joined (record { child = 0; entry = 0; exit = 1 } ∷ record { child = 1; entry = 2; exit = 3 } ∷ []) ≡ as_line (codes "path p1 A B p2 C D")
 two_segments = refl
