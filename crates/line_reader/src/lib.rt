@@ -1,10 +1,12 @@
-//! The lines of an input, taken one by one as they come.
+//! An input: its lines, taken one by one as they come, or the whole of it.
 #![tactic(auto)]
 
 mod fill;
 pub mod reader;
+mod whole;
 
 pub use reader::{LineReader, Next, ReadError};
+pub use whole::read_whole;
 
 #[cfg(test)]
 mod tests;

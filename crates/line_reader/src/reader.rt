@@ -171,7 +171,11 @@ impl LineReader {
 }
 
 /// Reads the next bytes, at most so many. None come only at the end.
-fn read_piece<S: Source>(alloc: Global, input: &mut S, most: usize) -> Result<Vec<u8>, ReadError>
+pub(crate) fn read_piece<S: Source>(
+    alloc: Global,
+    input: &mut S,
+    most: usize,
+) -> Result<Vec<u8>, ReadError>
     requires { 0 < most }
     ensures few { IfOk result (λ piece. length piece.items ≤ most) }
     ensures piece { IfOk result (λ piece. IsCutFrom (S.left input.old) (S.left input.new) piece.items) }

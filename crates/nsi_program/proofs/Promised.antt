@@ -1,5 +1,5 @@
 -- One line, against how the command will end.
-use Rattle.std.proofs.Common.{◌≡◌, ℕ, ◌+◌, List, [], ◌∷◌, ◌++◌, length, take, drop, Bool, true, false, Option, Some, None, refl, sym, ap, ◌∙◌, subst, append_assoc, append-nil, inl, inr, ◌⊎◌}
+use Rattle.std.proofs.Common.{◌≡◌, ℕ, ◌+◌, List, [], ◌∷◌, ◌++◌, length, take, drop, Bool, Option, Some, None, refl, sym, ap, ◌∙◌, subst, append_assoc, append-nil}
 use Rattle.std.specs.Prelude.{codes}
 use Rattle.nsi_program.specs.Lines.{as_line}
 use Rattle.std.proofs.Math.Seq.{take-append_seam}
@@ -13,7 +13,8 @@ use Rattle.nsi_program.specs.declared.status.Status.{Status}
 use Rattle.nsi_program.specs.declared.provide.Phase.{Phase}
 use Rattle.nsi_program.specs.declared.provide.Step.{Step}
 use Rattle.nsi_program.specs.Outcome.{move_of, last_of, behind, outcome, status_of, with_status}
-use Rattle.nsi_program.specs.Promise.{Writes, WritesFront, behind_content, promised, promised_after, ended, IsSameEnd, IsKept, IsFrontOf, IsCutByFault, IsFrontOfCut, IsUnfinished, promise_for, promise_of, greatest_input, is_told, read_fault_line}
+use Rattle.nsi_program.specs.Promise.{Writes, WritesFront, behind_content, promised, promised_after, ended, IsSameEnd, IsKept, IsFrontOf, IsCutByFault, IsFrontOfCut, promise_of, greatest_input, read_fault_line}
+use Rattle.nsi_program.specs.Ends.{usage_promise}
 
 -- a text's front is what stands before the rest
 front_of : (a rest whole : List ℕ) → whole ≡ a ++ rest → (k : ℕ) × (Some a ≡ Some (take k whole))
@@ -141,18 +142,9 @@ front_of_cut (Some e) (Some c) after f w = (f.0, w.0, w.1 ∙ ap (λ x. Some x) 
     some_is h = cc
 
 -- a failure or want of memory while the fault of the words is written
-pub usage_cut : (b : Bool) (status : Status) (content after left : Option (List ℕ)) (failed : Type 0) → b ≡ false → (is_told status ≡ false → WritesFront content after (as_line (codes "fault usage")))
-    → (status ≡ Status.WriteFault) ⊎ (status ≡ Status.NoMemory) → IsUnfinished (promise_for b content left) failed after
-usage_cut true status content after left failed e w h = cc
-usage_cut false status content after left failed e w h = inl (front content after (w (untold h)))
-  where
-    untold : (status ≡ Status.WriteFault) ⊎ (status ≡ Status.NoMemory) → is_told status ≡ false
-    untold (inl q) = ap is_told q
-    untold (inr q) = ap is_told q
-
-    front : (c a : Option (List ℕ)) → WritesFront c a (as_line (codes "fault usage")) → IsFrontOf (promise_for false c left) a
-    front None a w = tt
-    front (Some c) a w = let f = front_in c (as_line (codes "fault usage")) [] (c ++ as_line (codes "fault usage")) w.0 (ap (λ z. c ++ z) (sym (append-nil (as_line (codes "fault usage"))))) in (f.0, w.1 ∙ f.1)
+pub usage_front : (content after : Option (List ℕ)) → WritesFront content after (as_line (codes "fault usage")) → IsFrontOf (usage_promise content) after
+usage_front None after w = tt
+usage_front (Some c) after w = let f = front_in c (as_line (codes "fault usage")) [] (c ++ as_line (codes "fault usage")) w.0 (ap (λ z. c ++ z) (sym (append-nil (as_line (codes "fault usage"))))) in (f.0, w.1 ∙ f.1)
 
 -- at the start nothing is promised but what the whole input makes
 pub same_start : (held : Held) (t : Network) (content left : Option (List ℕ)) → held ≡ record { bytes = []; room = greatest_input } → t ≡ nothing → IsSameEnd (promise_of content left) (promised 1 (Phase.Declaring t) content (to_come held left))

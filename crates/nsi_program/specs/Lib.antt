@@ -3,3 +3,8 @@ pub mod Service
 pub mod Lines
 pub mod Outcome
 pub mod Promise
+pub mod Words
+pub mod Asked
+pub mod Check
+pub mod Writes
+pub mod Ends

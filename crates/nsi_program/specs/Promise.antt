@@ -1,6 +1,5 @@
 -- What the command will have written, as it goes on.
-use Rattle.std.specs.Prelude.{◌≡◌, ◌≤◌, ◌⊎◌, ℕ, length, Ok, Err, List, [], ◌∷◌, ◌++◌, take, codes, Bool, true, false, Option, Some, option_map, option_and_then, IfSome}
-use Rattle.std.specs.Str.{bytes_eq}
+use Rattle.std.specs.Prelude.{◌≡◌, ◌≤◌, ◌⊎◌, ℕ, length, Ok, Err, List, ◌++◌, take, codes, Bool, true, false, Option, Some, option_map, option_and_then, IfSome}
 use Rattle.line_reader.specs.Given.{Given, given_of}
 use Rattle.nsi_base.specs.Lines.{lines_of}
 use Rattle.stp_topology.specs.declared.network.Network.{Network}
@@ -77,12 +76,6 @@ code_of Status.Usage = 4
 code_of Status.BadTopology = 5
 code_of Status.Long = 8
 
--- the words are the one word `provide`
-abbrev pub is_provide : List (List ℕ) → Bool
-is_provide [] = false
-is_provide (word ∷ []) = bytes_eq word (codes "provide")
-is_provide (word ∷ next ∷ words) = false
-
 -- the greatest input, in bytes
 abbrev pub greatest_input : ℕ
 greatest_input = 67108864
@@ -90,15 +83,6 @@ greatest_input = 67108864
 -- what the whole input makes of the command `provide`
 abbrev pub promise_of : Option (List ℕ) → Option (List ℕ) → Option (Status × List ℕ)
 promise_of content left = promised 1 (Phase.Declaring nothing) content (option_map (given_of greatest_input) left)
-
--- words of no form are answered by a fault, whatever the input
-abbrev pub promise_for : Bool → Option (List ℕ) → Option (List ℕ) → Option (Status × List ℕ)
-promise_for true content left = promise_of content left
-promise_for false content left = option_map (λ c. (Status.Usage, c ++ as_line (codes "fault usage"))) content
-
--- what the words and the input promise of what the sink will have in the end
-abbrev pub promise : List (List ℕ) → Option (List ℕ) → Option (List ℕ) → Option (Status × List ℕ)
-promise words content left = promise_for (is_provide words) content left
 
 -- an end that is neither want of memory nor a fault of reading or writing
 abbrev pub is_told : Status → Bool

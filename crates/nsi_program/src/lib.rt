@@ -1,11 +1,17 @@
 //! The commands of the program.
 #![tactic(auto)]
 
+mod asked;
+mod check;
+mod output;
+mod paths;
 mod provide;
 mod service;
 pub mod status;
 mod top;
 mod wish;
+mod words;
 
+pub use check::one_check;
 pub use status::Status;
 pub use top::top_plain;

@@ -1,79 +1,56 @@
 //! The top call.
 
-ghost use Rattle.std.specs.Prelude.{◌≡◌, ◌<◌, ◌≤◌, ◌+◌, ◌↔◌, ◌⊎◌, IfOk, IsErrOf, OnOk, OnErr, codes, map, string_bytes, true, false};
+ghost use Rattle.std.specs.Prelude.{◌≡◌, ◌<◌, ◌≤◌, ◌+◌, ◌↔◌, ◌⊎◌, IfOk, IsErrOf, IsSome, OnOk, OnErr, codes, map, string_bytes, true, false};
 ghost use Rattle.line_reader.specs.Held.{budget, to_come};
 ghost use Rattle.nsi_program.specs.Lines.{as_line};
 ghost use Rattle.nsi_program.specs.Outcome.{is_more, move_of, end_of};
-ghost use Rattle.nsi_program.specs.Promise.{is_provide, is_told, promised, promised_after, promise_of, promise, read_fault_line, Writes, WritesFront, IsSameEnd, IsKept, IsFrontOf, IsCutByFault, IsUnfinished, IsComplete, NamesFault};
+ghost use Rattle.nsi_program.specs.Promise.{is_told, promised, promised_after, promise_of, read_fault_line, Writes, WritesFront, IsSameEnd, IsKept, IsFrontOf, IsCutByFault, IsUnfinished, IsComplete, NamesFault};
+ghost use Rattle.nsi_program.specs.Words.{command_of};
+ghost use Rattle.nsi_program.specs.Ends.{HasEnded, IsChecked, IsCut, IsCutShort};
 
+use crate::check::check;
+use crate::output::{Fault, read_fault, write_text};
 use crate::provide::{Move, Phase, Step};
 use crate::status::{Ending, Status};
+use crate::words::{Command, command_of};
 use line_reader::{LineReader, Next, ReadError};
-use nsi_outside::{Sink, SinkError, Source, write_all};
+use nsi_outside::{Sink, Source};
 use std::alloc::Global;
 use stp_topology::Topology;
 
 /// The greatest input, in bytes.
 const GREATEST_INPUT: usize = 67_108_864;
 
-/// Why a line was not answered.
-#[derive(Clone, Copy, Debug, PartialEq, Eq)]
-enum Fault {
-    Read,
-    Write,
-    NoMemory,
-}
-
 /// Runs the command that the words name, on the bytes of the input. The words are those behind the program's name.
 ///
 /// `provide` reads as it goes: a line is answered before the next one is read. A line of more than 65,536 bytes is
-/// refused; an input of more than 67,108,864 bytes is answered up to there.
+/// refused; an input of more than 67,108,864 bytes is answered up to there. `check` reads the whole input first.
 pub fn top_plain<S: Source, K: Sink>(
     alloc: Global,
     words: &[String],
     input: &mut S,
     out: &mut K,
 ) -> Status
-    // The words and the bytes determine how it ends and all that is written.
-    ensures ends { is_told result ≡ true → IsKept (promise (map string_bytes words.now) (K.content out.old) (S.left input.old)) result (K.content out.new) }
-    ensures usage { is_told result ≡ true → ((result ≡ Status.Usage) ↔ (is_provide (map string_bytes words.now) ≡ false)) }
+    // The words and the bytes say how it ends and all that is written.
+    ensures ends { is_told result ≡ true → HasEnded (command_of (map string_bytes words.now)) (K.content out.old) (S.left input.old) result (K.content out.new) }
+    ensures usage { is_told result ≡ true → ((result ≡ Status.Usage) ↔ (command_of (map string_bytes words.now) ≡ None)) }
 
-    ensures complete { is_provide (map string_bytes words.now) ≡ true → is_told result ≡ true → IsComplete (K.content out.old) (S.left input.old) result }
-    ensures bad_topology { is_provide (map string_bytes words.now) ≡ true → is_told result ≡ true → NamesFault (K.content out.old) (S.left input.old) result (K.content out.new) }
+    ensures complete { command_of (map string_bytes words.now) ≡ Some Command.Provide → is_told result ≡ true → IsComplete (K.content out.old) (S.left input.old) result }
+    ensures checked { command_of (map string_bytes words.now) ≡ Some Command.Check → is_told result ≡ true → IsChecked (K.content out.old) (S.left input.old) result }
+    ensures bad_topology { IsSome (command_of (map string_bytes words.now)) → is_told result ≡ true → NamesFault (K.content out.old) (S.left input.old) result (K.content out.new) }
 
     // A fault comes only from outside, and leaves whole lines or a front of them.
     ensures read_fault { result ≡ Status.ReadFault → S.faults input.old < S.faults input.new }
-    ensures cut { result ≡ Status.ReadFault → IsCutByFault (promise (map string_bytes words.now) (K.content out.old) (S.left input.old)) (K.content out.new) }
+    ensures cut { result ≡ Status.ReadFault → IsCut (command_of (map string_bytes words.now)) (K.content out.old) (S.left input.old) (K.content out.new) }
+    ensures alone { command_of (map string_bytes words.now) ≡ Some Command.Check → result ≡ Status.ReadFault → Writes (K.content out.old) (K.content out.new) read_fault_line }
     ensures write_fault { result ≡ Status.WriteFault → K.faults out.old < K.faults out.new }
     ensures unfinished { (result ≡ Status.WriteFault) ⊎ (result ≡ Status.NoMemory)
-        → IsUnfinished (promise (map string_bytes words.now) (K.content out.old) (S.left input.old)) (S.faults input.old < S.faults input.new) (K.content out.new) }
+        → IsCutShort (command_of (map string_bytes words.now)) (K.content out.old) (S.left input.old) (S.faults input.old < S.faults input.new) (K.content out.new) }
 {
-    if is_provide(words) {
-        provide(alloc, input, out)
-    } else {
-        usage(out)
-    }
-}
-
-/// Whether the words are the one word `provide`.
-fn is_provide(words: &[String]) -> bool
-    ensures { result ≡ is_provide (map string_bytes words.now) }
-{
-    words.len() == 1 && words[0].as_str() == "provide"
-}
-
-/// Appends a text.
-fn write_text<K: Sink>(out: &mut K, text: &[u8]) -> Result<(), Fault>
-    ensures all { OnOk result (Writes (K.content out.old) (K.content out.new) text.now) }
-    ensures front { OnErr result (WritesFront (K.content out.old) (K.content out.new) text.now) }
-    ensures write { IsErrOf result Fault.Write → K.faults out.old < K.faults out.new }
-    ensures not_read { IsErrOf result Fault.Read → ⊥ }
-    ensures writes { K.faults out.old ≤ K.faults out.new }
-{
-    match write_all(out, text) {
-        Ok(()) => Ok(()),
-        Err(SinkError::Failed) => Err(Fault::Write),
-        Err(SinkError::NoMemory) => Err(Fault::NoMemory),
+    match command_of(words) {
+        Some(Command::Provide) => provide(alloc, input, out),
+        Some(Command::Check) => check(alloc, input, out),
+        None => usage(out),
     }
 }
 
@@ -189,20 +166,6 @@ fn usage<K: Sink>(out: &mut K) -> Status
 {
     match write_text(out, b"fault usage\n") {
         Ok(()) => Status::Usage,
-        Err(Fault::Write) => Status::WriteFault,
-        Err(_) => Status::NoMemory,
-    }
-}
-
-/// Writes that reading failed.
-fn read_fault<K: Sink>(out: &mut K) -> Status
-    ensures told { result ≡ Status.ReadFault → Writes (K.content out.old) (K.content out.new) read_fault_line }
-    ensures front { (result ≡ Status.ReadFault → ⊥) → WritesFront (K.content out.old) (K.content out.new) read_fault_line }
-    ensures write { result ≡ Status.WriteFault → K.faults out.old < K.faults out.new }
-    ensures not_told { is_told result ≡ false }
-{
-    match write_text(out, b"fault read\n") {
-        Ok(()) => Status::ReadFault,
         Err(Fault::Write) => Status::WriteFault,
         Err(_) => Status::NoMemory,
     }

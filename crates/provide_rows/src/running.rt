@@ -2,6 +2,7 @@
 
 mod hostile;
 mod outside;
+mod paths;
 mod rows;
 
 use nsi_outside::{MemorySink, MemorySource};

@@ -1,13 +1,8 @@
-use Rattle.std.proofs.Common.{◌∙◌, ap, refl, Result, Ok, Err}
-use Rattle.std.specs.Prelude.{OnErr, true, false}
+use Rattle.std.proofs.Common.{◌∙◌, ap, refl, true, false}
 use Rattle.nsi_program.specs.Outcome.{move_of, last_of}
 use Rattle.nsi_program.proofs.Promised.{front_start, line_step, line_front, end_step, end_front, step_along}
+use Rattle.nsi_program.proofs.Written.{on_err}
 use Rattle.nsi_program.proofs.top.step.Goals as goal
-
--- what holds anyway holds of a fault
-on_err : {T E : Type 0} (r : Result T E) (P : Type 0) → P → OnErr r P
-on_err (Ok x) P p = tt
-on_err (Err e) P p = p
 
 pub returns-in-Err-Failed-clause-front : goal.returns-in-Err-Failed-clause-front
 returns-in-Err-Failed-clause-front g c = front_start c.args.number c.args.phase _ _

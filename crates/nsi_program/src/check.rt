@@ -1,0 +1,208 @@
+//! The command `check`: a topology, and then least paths. The whole input is read first.
+
+ghost use Rattle.std.specs.Prelude.{◌≡◌, ◌<◌, ◌≤◌, ◌⊎◌, ◌++◌, ◌∷◌, [], ℕ, List, length, codes, true, false, IfSome, IsErrOf, OnOk, OnErr};
+ghost use Rattle.nsi_base.specs.Lines.{lines_of};
+ghost use Rattle.stp_topology.specs.Text.{topology_of};
+ghost use Rattle.nsi_program.specs.Check.{count_line, Answers, AnswersAll, AnswersFront, Counts, ChecksRead, Checks, BeginsRead, Begins};
+ghost use Rattle.nsi_program.specs.Lines.{as_line};
+ghost use Rattle.nsi_program.specs.Outcome.{topology_fault};
+ghost use Rattle.nsi_program.specs.Promise.{is_told, read_fault_line, Writes, WritesFront};
+ghost use Rattle.nsi_program.specs.Writes.{WritesSome, WritesSomeFront};
+
+use crate::output::{Fault, read_fault, write_text};
+use crate::paths::{answer, count_line};
+use crate::provide::topology_fault;
+use crate::status::Status;
+use line_reader::{ReadError, read_whole};
+use nsi_base::line::{feed_at, without_return};
+use nsi_outside::{Sink, Source};
+use std::alloc::Global;
+use stp_topology::{Topology, TopologyFault, TopologyRefusal, read_topology};
+
+/// The greatest input, in bytes.
+const GREATEST_INPUT: usize = 67_108_864;
+
+/// The command `check`.
+pub(crate) fn check<S: Source, K: Sink>(alloc: Global, input: &mut S, out: &mut K) -> Status
+    ensures ends { is_told result ≡ true → IfSome (S.left input.old) (λ bytes. WritesSome (Checks bytes result) (K.content out.old) (K.content out.new)) }
+    ensures not_usage { result ≡ Status.Usage → ⊥ }
+    ensures read_fault { result ≡ Status.ReadFault → S.faults input.old < S.faults input.new }
+    ensures alone { result ≡ Status.ReadFault → Writes (K.content out.old) (K.content out.new) read_fault_line }
+    ensures write_fault { result ≡ Status.WriteFault → K.faults out.old < K.faults out.new }
+    ensures unfinished { (result ≡ Status.WriteFault) ⊎ (result ≡ Status.NoMemory)
+        → IfSome (S.left input.old) (λ bytes. WritesSomeFront (Begins bytes) (K.content out.old) (K.content out.new))
+        ⊎ ((S.faults input.old < S.faults input.new) × WritesFront (K.content out.old) (K.content out.new) read_fault_line) }
+{
+    match read_whole(alloc, input, GREATEST_INPUT) {
+        Ok(Some(bytes)) => check_bytes(alloc, out, &bytes),
+        Ok(None) => long(out),
+        Err(ReadError::Failed) => read_fault(out),
+        Err(ReadError::NoMemory) => Status::NoMemory,
+    }
+}
+
+/// These bytes make `check` end in one way and write one text, of which what is written up to a line is a front.
+pub fn one_check()
+    ensures text { (bytes : List ℕ) (status other : Status) (x y : List ℕ) → Checks bytes status x → Checks bytes other y → (status ≡ other) × (x ≡ y) }
+    ensures front { (bytes : List ℕ) (status : Status) (x y : List ℕ) → Begins bytes x → Checks bytes status y → (rest : List ℕ) × (y ≡ x ++ rest) }
+{}
+
+/// The status of a fault of writing.
+fn fault_status(fault: Fault) -> Status
+    requires { fault ≡ Fault.Read → ⊥ }
+    ensures write { result ≡ Status.WriteFault → fault ≡ Fault.Write }
+    ensures not_told { is_told result ≡ false }
+    ensures not_read { result ≡ Status.ReadFault → ⊥ }
+{
+    match fault {
+        Fault::Write => Status::WriteFault,
+        _ => Status::NoMemory,
+    }
+}
+
+/// Writes that there are more bytes than are taken.
+fn long<K: Sink>(out: &mut K) -> Status
+    ensures all { is_told result ≡ true → (result ≡ Status.Long) × Writes (K.content out.old) (K.content out.new) (as_line (codes "fault long")) }
+    ensures front { is_told result ≡ false → WritesFront (K.content out.old) (K.content out.new) (as_line (codes "fault long")) }
+    ensures write { result ≡ Status.WriteFault → K.faults out.old < K.faults out.new }
+    ensures not_read { result ≡ Status.ReadFault → ⊥ }
+{
+    match write_text(out, b"fault long\n") {
+        Ok(()) => Status::Long,
+        Err(fault) => fault_status(fault),
+    }
+}
+
+/// Reads the topology, and answers the lines behind it.
+fn check_bytes<K: Sink>(alloc: Global, out: &mut K, bytes: &[u8]) -> Status
+    requires { length bytes.now ≤ 67108864 }
+    ensures all { is_told result ≡ true → WritesSome (ChecksRead (topology_of bytes.now) bytes.now result) (K.content out.old) (K.content out.new) }
+    ensures front { is_told result ≡ false → WritesSomeFront (BeginsRead (topology_of bytes.now) bytes.now) (K.content out.old) (K.content out.new) }
+    ensures not_usage { result ≡ Status.Usage → ⊥ }
+    ensures write { result ≡ Status.WriteFault → K.faults out.old < K.faults out.new }
+    ensures not_read { result ≡ Status.ReadFault → ⊥ }
+{
+    match read_topology(alloc, bytes) {
+        Ok((topology, place)) => {
+            let (_, behind) = bytes.split_at(place);
+            answer_all(alloc, out, &topology, behind)
+        }
+        Err(TopologyRefusal::Fault { line, fault }) => bad_topology(alloc, out, line, fault),
+        Err(TopologyRefusal::NoMemory) => Status::NoMemory,
+    }
+}
+
+/// Writes which line of the topology is faulty.
+fn bad_topology<K: Sink>(alloc: Global, out: &mut K, line: u32, fault: TopologyFault) -> Status
+    ensures all { is_told result ≡ true → (result ≡ Status.BadTopology) × Writes (K.content out.old) (K.content out.new) (topology_fault line fault) }
+    ensures front { is_told result ≡ false → WritesFront (K.content out.old) (K.content out.new) (topology_fault line fault) }
+    ensures write { result ≡ Status.WriteFault → K.faults out.old < K.faults out.new }
+    ensures not_read { result ≡ Status.ReadFault → ⊥ }
+{
+    let Ok(text) = topology_fault(alloc, u64::from(line), fault) else {
+        return Status::NoMemory;
+    };
+    match write_text(out, &text) {
+        Ok(()) => Status::BadTopology,
+        Err(fault) => fault_status(fault),
+    }
+}
+
+/// Writes the counts, and the answers to the lines.
+fn answer_all<K: Sink>(alloc: Global, out: &mut K, topology: &Topology, lines: &[u8]) -> Status
+    ensures all { is_told result ≡ true → (result ≡ Status.Done) × WritesSome (Counts topology.now (AnswersAll topology.now (lines_of lines.now))) (K.content out.old) (K.content out.new) }
+    ensures front { is_told result ≡ false → WritesSomeFront (Counts topology.now (AnswersFront topology.now (lines_of lines.now))) (K.content out.old) (K.content out.new) }
+    ensures write { result ≡ Status.WriteFault → K.faults out.old < K.faults out.new }
+    ensures not_read { result ≡ Status.ReadFault → ⊥ }
+{
+    match write_answers(alloc, out, topology, lines) {
+        Ok(()) => Status::Done,
+        Err(fault) => fault_status(fault),
+    }
+}
+
+fn write_answers<K: Sink>(
+    alloc: Global,
+    out: &mut K,
+    topology: &Topology,
+    lines: &[u8],
+) -> Result<(), Fault>
+    ensures all { OnOk result (WritesSome (Counts topology.now (AnswersAll topology.now (lines_of lines.now))) (K.content out.old) (K.content out.new)) }
+    ensures front { OnErr result (WritesSomeFront (Counts topology.now (AnswersFront topology.now (lines_of lines.now))) (K.content out.old) (K.content out.new)) }
+    ensures write { IsErrOf result Fault.Write → K.faults out.old < K.faults out.new }
+    ensures not_read { IsErrOf result Fault.Read → ⊥ }
+{
+    write_counts(alloc, out, topology)?;
+    answer_lines(alloc, out, topology, lines)?;
+    Ok(())
+}
+
+fn write_counts<K: Sink>(alloc: Global, out: &mut K, topology: &Topology) -> Result<(), Fault>
+    ensures all { OnOk result (Writes (K.content out.old) (K.content out.new) (count_line topology.now)) }
+    ensures front { OnErr result (WritesFront (K.content out.old) (K.content out.new) (count_line topology.now)) }
+    ensures write { IsErrOf result Fault.Write → K.faults out.old < K.faults out.new }
+    ensures not_read { IsErrOf result Fault.Read → ⊥ }
+    ensures writes { K.faults out.old ≤ K.faults out.new }
+{
+    let Ok(text) = count_line(alloc, topology) else {
+        return Err(Fault::NoMemory);
+    };
+    write_text(out, &text)?;
+    Ok(())
+}
+
+/// Writes the answers to the lines.
+fn answer_lines<K: Sink>(
+    alloc: Global,
+    out: &mut K,
+    topology: &Topology,
+    lines: &[u8],
+) -> Result<(), Fault>
+    ensures all { OnOk result (WritesSome (AnswersAll topology.now (lines_of lines.now)) (K.content out.old) (K.content out.new)) }
+    ensures front { OnErr result (WritesSomeFront (AnswersFront topology.now (lines_of lines.now)) (K.content out.old) (K.content out.new)) }
+    ensures write { IsErrOf result Fault.Write → K.faults out.old < K.faults out.new }
+    ensures not_read { IsErrOf result Fault.Read → ⊥ }
+{
+    let mut rest = lines;
+    'lines: while 0 < rest.len() {
+        let (line, behind) = cut_line(rest);
+        answer_line(alloc, out, topology, line)?;
+        rest = behind;
+    }
+    Ok(())
+}
+
+/// Writes the answer to a line.
+fn answer_line<K: Sink>(
+    alloc: Global,
+    out: &mut K,
+    topology: &Topology,
+    line: &[u8],
+) -> Result<(), Fault>
+    ensures all { OnOk result (WritesSome (Answers topology.now line.now) (K.content out.old) (K.content out.new)) }
+    ensures front { OnErr result (WritesSomeFront (AnswersFront topology.now (line.now ∷ [])) (K.content out.old) (K.content out.new)) }
+    ensures write { IsErrOf result Fault.Write → K.faults out.old < K.faults out.new }
+    ensures not_read { IsErrOf result Fault.Read → ⊥ }
+    ensures writes { K.faults out.old ≤ K.faults out.new }
+{
+    let Ok(text) = answer(alloc, topology, line) else {
+        return Err(Fault::NoMemory);
+    };
+    write_text(out, &text)?;
+    Ok(())
+}
+
+/// The first line without its end, and what stands behind it.
+fn cut_line(text: &[u8]) -> (&[u8], &[u8])
+    requires { 0 < length text.now }
+    ensures lines { lines_of text.now ≡ result.0.now ∷ lines_of result.1.now }
+    ensures shorter { length result.1.now < length text.now }
+{
+    match feed_at(text) {
+        Some(i) => {
+            let (line, behind) = text.split_at(i);
+            (without_return(line), behind.split_at(1).1)
+        }
+        None => text.split_at(text.len()),
+    }
+}
