@@ -104,20 +104,27 @@ fn agree_at(
     Ok(true)
 }
 
-/// Whether both agree at every agent; a provider has no children, so no path.
-fn agree(alloc: Global, text: &str, seen: &mut Seen) -> Result<bool, AllocError> {
-    let Some(topology) = read(alloc, text) else {
-        return Ok(false);
-    };
-    let points = points(alloc, &topology)?;
-    let offered = offered(alloc, &topology, &points)?;
-    for agent in agents(alloc, &topology)?.iter() {
+/// Whether both agree at every aggregator.
+fn agree_over(alloc: Global, topology: &Topology, seen: &mut Seen) -> Result<bool, AllocError> {
+    let points = points(alloc, topology)?;
+    let offered = offered(alloc, topology, &points)?;
+    for agent in agents(alloc, topology)?.iter() {
+        if topology.children(*agent).is_empty() {
+            continue;
+        }
         let segments = segments(alloc, &points, topology.children(*agent), &offered)?;
-        if !agree_at(alloc, &topology, &points, *agent, &segments, seen)? {
+        if !agree_at(alloc, topology, &points, *agent, &segments, seen)? {
             return Ok(false);
         }
     }
     Ok(true)
+}
+
+fn agree(alloc: Global, text: &str, seen: &mut Seen) -> Result<bool, AllocError> {
+    match read(alloc, text) {
+        Some(topology) => agree_over(alloc, &topology, seen),
+        None => Ok(false),
+    }
 }
 
 #[test]

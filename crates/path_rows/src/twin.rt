@@ -196,7 +196,7 @@ fn push_last(
     Ok(false)
 }
 
-/// Adds the first path of so many segments behind its first one, if there is one.
+/// Adds the first path of one segment and so many behind it, if there is one.
 fn push_path(
     topology: &Topology,
     segments: &[Segment],
@@ -224,7 +224,7 @@ fn push_path(
     Ok(false)
 }
 
-/// The least path, which enters no point twice.
+/// The least path. It enters no point twice, so it has no more segments than there are points.
 pub fn least(
     alloc: Global,
     topology: &Topology,
