@@ -18,8 +18,8 @@ const ROWS: [(&str, &str); 8] = [
         "agent p1 provider 60\nagent p2 provider 60\nagent p3 provider 60\nagent a1 aggregator\nagent a2 aggregator\nstp p1 A 1\nstp p1 B 1\nstp p1 G 1\nstp p2 C 1\nstp p2 D 1\nstp p3 E 1\nstp p3 F 1\nsdp B C\nsdp D E\nsdp F A\nchild a2 p3\nchild a2 p1\nchild a1 p3\nchild a1 p1\nchild a1 p2\nchild a1 a2\n---\n",
     ),
     (
-        "A ring of two providers below an aggregator that is the only child of another.",
-        "agent p1 provider 60\nagent p2 provider 60\nagent a1 aggregator\nagent a2 aggregator\nstp p1 A 1\nstp p1 B 1\nstp p1 E 1\nstp p2 C 1\nstp p2 D 1\nsdp B C\nsdp D E\nchild a2 p1\nchild a2 p2\nchild a1 a2\n---\n",
+        "A ring of two providers below an aggregator, and a third provider beside it: a way round to the same point is no segment.",
+        "agent p1 provider 60\nagent p2 provider 60\nagent p3 provider 60\nagent a1 aggregator\nagent a2 aggregator\nstp p1 A 1\nstp p1 B 1\nstp p1 E 1\nstp p2 C 1\nstp p2 D 1\nstp p3 Y 1\nstp p3 Z 1\nsdp B C\nsdp D E\nsdp Z A\nchild a2 p1\nchild a2 p2\nchild a1 a2\nchild a1 p3\n---\n",
     ),
     (
         "Three providers in a row, of which two aggregators have two each.",
