@@ -10,7 +10,7 @@ use stp_topology::Topology;
 const RANKS: usize = 5;
 
 /// All agents in their order.
-pub fn agents(alloc: Global, topology: &Topology) -> Result<Vec<AgentNo>, AllocError> {
+pub(crate) fn agents(alloc: Global, topology: &Topology) -> Result<Vec<AgentNo>, AllocError> {
     let mut agents = Vec::new(alloc);
     let count = topology.agents() as u16;
     for place in 0..count {
@@ -22,7 +22,7 @@ pub fn agents(alloc: Global, topology: &Topology) -> Result<Vec<AgentNo>, AllocE
 }
 
 /// All points in their order.
-pub fn points(alloc: Global, topology: &Topology) -> Result<Vec<StpNo>, AllocError> {
+pub(crate) fn points(alloc: Global, topology: &Topology) -> Result<Vec<StpNo>, AllocError> {
     let mut points = Vec::new(alloc);
     let count = topology.stps() as u16;
     for place in 0..count {
@@ -68,7 +68,7 @@ fn first_segment(
 }
 
 /// For each entry and each exit in order the segment of the first child that offers it.
-pub fn segments(
+pub(crate) fn segments(
     alloc: Global,
     points: &[StpNo],
     children: &[AgentNo],
@@ -169,7 +169,7 @@ fn with_one_rank_more(
 }
 
 /// The ways that the agents offer, each with its agent as the child.
-pub fn offered(
+pub(crate) fn offered(
     alloc: Global,
     topology: &Topology,
     points: &[StpNo],
@@ -225,7 +225,7 @@ fn push_path(
 }
 
 /// The least path. It enters no point twice, so it has no more segments than there are points.
-pub fn least(
+pub(crate) fn least(
     alloc: Global,
     topology: &Topology,
     segments: &[Segment],
