@@ -1,13 +1,12 @@
--- The bookings as a map from records, and a load as a sum over the numbers of records.
-use Rattle.std.proofs.Common.{◌≡◌, ◌≢◌, ◌≤◌, ◌<◌, ◌+◌, ℕ, zero, suc, ◌⊎◌, inl, inr, List, [], ◌∷◌, ◌++◌, Bool, true, false, cond, not, eqb, sum_by, is_some, Option, Some, None, option_map, arith, refl, sym, ap, ◌∙◌, subst}
-use Rattle.std.specs.Option.{option_map_or}
+-- The bookings as a map from numbers of records.
+use Rattle.std.proofs.Common.{◌≡◌, ◌≢◌, ◌<◌, ℕ, ◌⊎◌, inl, inr, List, [], ◌∷◌, ◌++◌, Bool, true, false, cond, not, eqb, ltb, filter, Option, Some, None, option_map, arith, refl, sym, ap, ◌∙◌, subst}
 use Rattle.std.proofs.lemmas.Bool.Decides.{nat_tests}
 use Rattle.capacity_calendar.specs.declared.booking.Booking.{Booking}
 use Rattle.capacity_calendar.specs.declared.booking.Slot.{Slot}
 use Rattle.capacity_calendar.specs.Load.{others}
-use Rattle.capacity_calendar.specs.Plan.{HasOneEach, booking_of, changed, with_pending}
-use Rattle.capacity_calendar.proofs.Within.{none_left_out, sum_is}
-use Rattle.capacity_calendar.proofs.Sound.{KeepsNumber, one_each_of_others, set_if_booked, pushed_if_new}
+use Rattle.capacity_calendar.specs.Lack.{or_else}
+use Rattle.capacity_calendar.specs.Plan.{HasNoneFrom, booking_of, committed_of, placed, changed, pending_set, with_pending, settled}
+use Rattle.capacity_calendar.proofs.Sound.{KeepsNumber}
 
 -- among the others a record has no booking
 pub booking_of-others_same : (number : ℕ) (bs : List Booking) → booking_of number (others number bs) ≡ None
@@ -52,107 +51,121 @@ booking_of-changed_other n number g k (b ∷ bs) d = by_test (eqb b.number numbe
         ∙ sym (ap (λ c. cond c (Some b) (booking_of n bs)) (differ b.number n number e d))
     by_test false e h = ap (cond (eqb b.number n) (Some b)) h
 
--- one more booking behind the others is found where none was
-pushed : (n : ℕ) (b : Booking) (bs : List Booking) → booking_of n bs ≡ None → booking_of n (bs ++ b ∷ []) ≡ cond (eqb b.number n) (Some b) None
-pushed n b [] h = refl
-pushed n b (x ∷ bs) h = by_test (eqb x.number n) h (pushed n b bs)
-  where
-    by_test : (c : Bool) → cond c (Some x) (booking_of n bs) ≡ None → (booking_of n bs ≡ None → booking_of n (bs ++ b ∷ []) ≡ cond (eqb b.number n) (Some b) None)
-        → cond c (Some x) (booking_of n (bs ++ b ∷ [])) ≡ cond (eqb b.number n) (Some b) None
-    by_test true h next = absurd (cc)
-    by_test false h next = next h
-
-unpushed : (n : ℕ) (b : Booking) (bs : List Booking) → eqb b.number n ≡ false → booking_of n (bs ++ b ∷ []) ≡ booking_of n bs
-unpushed n b [] e = ap (λ c. cond {A = Option Booking} c (Some b) None) e
-unpushed n b (x ∷ bs) e = ap (cond (eqb x.number n) (Some x)) (unpushed n b bs e)
-
 same_is : (n : ℕ) → eqb n n ≡ true
 same_is n = grind (arith, nat_tests)
 
 apart : (n number : ℕ) → n ≢ number → eqb number n ≡ false
 apart n number d = grind (arith, nat_tests)
 
--- a slot more: of the record
-pub booking_of-with_pending_same : (number source dest : ℕ) (both_ways : Bool) (slot : Slot) (bs : List Booking)
-    → booking_of number (with_pending number source dest both_ways slot bs)
-    ≡ Some (option_map_or (λ (b : Booking). record b { pending = Some slot }) (booking_of number bs) (record { number = number; source = source; dest = dest; both_ways = both_ways; committed = None; pending = Some slot }))
-booking_of-with_pending_same number source dest both_ways slot bs = by_booking (booking_of number bs) refl
+-- a booking that a filter keeps is found, and one that it drops isn't
+kept_by : (k : ℕ) (p : Booking → Bool) (bs : List Booking) → ((b : Booking) → eqb b.number k ≡ true → p b ≡ true) → booking_of k (filter p bs) ≡ booking_of k bs
+kept_by k p [] keeps = refl
+kept_by k p (b ∷ bs) keeps = by_tests (p b) refl (eqb b.number k) refl (kept_by k p bs keeps)
   where
-    new : Booking
-    new = record { number = number; source = source; dest = dest; both_ways = both_ways; committed = None; pending = Some slot }
+    by_tests : (d : Bool) → p b ≡ d → (c : Bool) → eqb b.number k ≡ c → booking_of k (filter p bs) ≡ booking_of k bs → booking_of k (cond d (b ∷ filter p bs) (filter p bs)) ≡ cond c (Some b) (booking_of k bs)
+    by_tests true q c e h = ap (λ x. cond x (Some b) (booking_of k (filter p bs))) e ∙ ap (cond c (Some b)) h
+    by_tests false q true e h = absurd (let t = keeps b e in cc)
+    by_tests false q false e h = h
 
-    set : Booking → Booking
-    set b = record b { pending = Some slot }
+dropped_by : (k : ℕ) (p : Booking → Bool) (bs : List Booking) → ((b : Booking) → eqb b.number k ≡ true → p b ≡ false) → booking_of k (filter p bs) ≡ None
+dropped_by k p [] drops = refl
+dropped_by k p (b ∷ bs) drops = by_tests (p b) refl (eqb b.number k) refl (dropped_by k p bs drops)
+  where
+    by_tests : (d : Bool) → p b ≡ d → (c : Bool) → eqb b.number k ≡ c → booking_of k (filter p bs) ≡ None → booking_of k (cond d (b ∷ filter p bs) (filter p bs)) ≡ None
+    by_tests false q c e h = h
+    by_tests true q true e h = absurd (let t = drops b e in cc)
+    by_tests true q false e h = ap (λ x. cond x (Some b) (booking_of k (filter p bs))) e ∙ h
 
-    by_booking : (o : Option Booking) → booking_of number bs ≡ o → booking_of number (with_pending number source dest both_ways slot bs) ≡ Some (option_map_or set o new)
-    by_booking (Some b) e = ap (booking_of number) (set_if_booked number source dest both_ways slot bs (ap is_some e)) ∙ booking_of-changed_same number set (λ x. refl) bs ∙ ap (option_map set) e
-    by_booking None e =
-        ap (booking_of number) (pushed_if_new number source dest both_ways slot bs (ap is_some e)) ∙ pushed number new bs e ∙ ap (λ c. cond c (Some new) None) (same_is number)
+joined : (k : ℕ) (xs ys : List Booking) → booking_of k (xs ++ ys) ≡ or_else (booking_of k xs) (booking_of k ys)
+joined k [] ys = refl
+joined k (x ∷ xs) ys = by_test (eqb x.number k) (joined k xs ys)
+  where
+    by_test : (c : Bool) → booking_of k (xs ++ ys) ≡ or_else (booking_of k xs) (booking_of k ys) → cond c (Some x) (booking_of k (xs ++ ys)) ≡ or_else (cond c (Some x) (booking_of k xs)) (booking_of k ys)
+    by_test true h = refl
+    by_test false h = h
+
+alone : {X : Type 0} (o : Option X) → or_else o None ≡ o
+alone None = refl
+alone (Some x) = refl
+
+-- a booking that is placed: of its record
+pub booking_of-placed_same : (b : Booking) (bs : List Booking) → booking_of b.number (placed b bs) ≡ Some b
+booking_of-placed_same b bs =
+    joined b.number (filter (λ x. ltb x.number b.number) bs) (b ∷ filter (λ x. ltb b.number x.number) bs)
+    ∙ ap (λ o. or_else o (booking_of b.number (b ∷ filter (λ x. ltb b.number x.number) bs))) (dropped_by b.number (λ x. ltb x.number b.number) bs (λ x e. not_less x.number b.number e))
+    ∙ ap (λ c. cond c (Some b) (booking_of b.number (filter (λ x. ltb b.number x.number) bs))) (same_is b.number)
+  where
+    not_less : (a n : ℕ) → eqb a n ≡ true → ltb a n ≡ false
+    not_less a n e = grind (arith, nat_tests)
+
+less_or_greater : (k n : ℕ) → k ≢ n → (k < n) ⊎ (n < k)
+less_or_greater k n d = grind arith
 
 -- and of another
-pub booking_of-with_pending_other : (n number source dest : ℕ) (both_ways : Bool) (slot : Slot) (bs : List Booking) → n ≢ number → booking_of n (with_pending number source dest both_ways slot bs) ≡ booking_of n bs
-booking_of-with_pending_other n number source dest both_ways slot bs d = by_test (is_some (booking_of number bs)) refl
+pub booking_of-placed_other : (k : ℕ) (b : Booking) (bs : List Booking) → k ≢ b.number → booking_of k (placed b bs) ≡ booking_of k bs
+booking_of-placed_other k b bs d = joined k below (b ∷ above) ∙ ap (or_else (booking_of k below)) (ap (λ c. cond c (Some b) (booking_of k above)) (apart k b.number d)) ∙ by_order (less_or_greater k b.number d)
   where
-    by_test : (c : Bool) → is_some (booking_of number bs) ≡ c → booking_of n (with_pending number source dest both_ways slot bs) ≡ booking_of n bs
-    by_test true e = ap (booking_of n) (set_if_booked number source dest both_ways slot bs e) ∙ booking_of-changed_other n number (λ b. record b { pending = Some slot }) (λ x. refl) bs d
-    by_test false e = ap (booking_of n) (pushed_if_new number source dest both_ways slot bs e) ∙ unpushed n _ bs (apart n number d)
+    below : List Booking
+    below = filter (λ x. ltb x.number b.number) bs
 
--- what a record's booking counts, or nothing
-abbrev pub counted : (Booking → ℕ) → List Booking → ℕ → ℕ
-counted f bs n = option_map_or f (booking_of n bs) 0
+    above : List Booking
+    above = filter (λ x. ltb b.number x.number) bs
 
--- the sum over so many numbers, from one on
-unfoldable pub sum_from : (ℕ → ℕ) → ℕ → ℕ → ℕ
-sum_from f k zero = 0
-sum_from f k (suc m) = f k + sum_from f (suc k) m
+    is_less : (a n m : ℕ) → eqb a n ≡ true → n < m → ltb a m ≡ true
+    is_less a n m e lt = grind (arith, nat_tests)
 
-pub sum_from-same : (f g : ℕ → ℕ) (k m : ℕ) → ((n : ℕ) → k ≤ n → n < k + m → f n ≡ g n) → sum_from f k m ≡ sum_from g k m
-unfolding sum_from
-sum_from-same f g k zero h = refl
-sum_from-same f g k (suc m) h = omega (arith, h k (omega arith) (omega arith), sum_from-same f g (suc k) m (λ n a b. h n (omega arith) (omega arith)))
+    isnt_less : (a n m : ℕ) → eqb a n ≡ true → m < n → ltb a m ≡ false
+    isnt_less a n m e lt = grind (arith, nat_tests)
 
-one_left_out : (f : Booking → ℕ) (number : ℕ) (bs : List Booking) → HasOneEach bs → sum_by f bs ≡ counted f bs number + sum_by f (others number bs)
-one_left_out f number bs one = by_booking (booking_of number bs) refl
-  where
-    by_booking : (o : Option Booking) → booking_of number bs ≡ o → sum_by f bs ≡ option_map_or f o 0 + sum_by f (others number bs)
-    by_booking (Some b) e = sum_is f number bs b one e
-    by_booking None e = omega (arith, none_left_out f number bs e)
+    is_greater : (a n m : ℕ) → eqb a n ≡ true → m < n → ltb m a ≡ true
+    is_greater a n m e lt = grind (arith, nat_tests)
 
--- where no number has a booking there is none
-none_at_all : (f : Booking → ℕ) (bs : List Booking) → ((n : ℕ) → booking_of n bs ≡ None) → sum_by f bs ≡ 0
-none_at_all f [] h = refl
-none_at_all f (b ∷ bs) h = absurd (let found : Some b ≡ None = sym (ap (λ c. cond c (Some b) (booking_of b.number bs)) (same_is b.number)) ∙ h b.number in cc)
+    isnt_greater : (a n m : ℕ) → eqb a n ≡ true → n < m → ltb m a ≡ false
+    isnt_greater a n m e lt = grind (arith, nat_tests)
 
-below_or_here : (n k : ℕ) → n < suc k → (n ≡ k) ⊎ (n < k)
-below_or_here n k h = grind arith
+    by_order : (k < b.number) ⊎ (b.number < k) → or_else (booking_of k (filter (λ x. ltb x.number b.number) bs)) (booking_of k (filter (λ x. ltb b.number x.number) bs)) ≡ booking_of k bs
+    by_order (inl lt) =
+        ap (or_else (booking_of k (filter (λ x. ltb x.number b.number) bs))) (dropped_by k (λ x. ltb b.number x.number) bs (λ x e. isnt_greater x.number k b.number e lt))
+        ∙ alone (booking_of k (filter (λ x. ltb x.number b.number) bs)) ∙ kept_by k (λ x. ltb x.number b.number) bs (λ x e. is_less x.number k b.number e lt)
+    by_order (inr gt) =
+        ap (λ o. or_else o (booking_of k (filter (λ x. ltb b.number x.number) bs))) (dropped_by k (λ x. ltb x.number b.number) bs (λ x e. isnt_less x.number k b.number e gt))
+        ∙ kept_by k (λ x. ltb b.number x.number) bs (λ x e. is_greater x.number k b.number e gt)
+
+-- a slot more: of the record
+pub booking_of-with_pending_same : (number : ℕ) (slot : Slot) (bs : List Booking) → booking_of number (with_pending number slot bs) ≡ Some (record { number = number; committed = committed_of number bs; pending = Some slot })
+booking_of-with_pending_same number slot bs = booking_of-placed_same (record { number = number; committed = committed_of number bs; pending = Some slot }) bs
+
+-- and of another
+pub booking_of-with_pending_other : (n number : ℕ) (slot : Slot) (bs : List Booking) → n ≢ number → booking_of n (with_pending number slot bs) ≡ booking_of n bs
+booking_of-with_pending_other n number slot bs d = booking_of-placed_other n (record { number = number; committed = committed_of number bs; pending = Some slot }) bs d
 
 other_than : (n k : ℕ) → (n ≡ k) ⊎ (n ≢ k)
 other_than n k = grind arith
 
--- A sum over bookings is a sum over the numbers that can have one.
-pub sum_by_number : (f : Booking → ℕ) (m k : ℕ) (bs : List Booking) → HasOneEach bs → ((n : ℕ) → n < k → booking_of n bs ≡ None) → ((n : ℕ) → k + m ≤ n → booking_of n bs ≡ None)
-    → sum_by f bs ≡ sum_from (counted f bs) k m
-unfolding sum_from
-sum_by_number f zero k bs one below above = none_at_all f bs (λ n. either n)
-  where
-    at : (n : ℕ) → (n < k) ⊎ (k + 0 ≤ n)
-    at n = grind arith
+-- Numbers stay below a number: where a booking is taken out,
+pub none_from_others : (n number : ℕ) (bs : List Booking) → HasNoneFrom n bs → HasNoneFrom n (others number bs)
+none_from_others n number bs h k le = elim (other_than k number) [
+  | inl e ↦ subst (λ (x : ℕ). booking_of x (others number bs) ≡ None) (sym e) (booking_of-others_same number bs)
+  | inr d ↦ booking_of-others_other k number bs d ∙ h k le
+]
 
-    either : (n : ℕ) → booking_of n bs ≡ None
-    either n = elim (at n) [ inl a ↦ below n a | inr b ↦ above n b ]
-sum_by_number f (suc m) k bs one below above =
-    let rest = sum_by_number f m (suc k) (others k bs) (one_each_of_others k bs one) still_below (λ n h. kept n (above n (omega arith))) in
-    let same = sum_from-same (counted f (others k bs)) (counted f bs) (suc k) m (λ n a b. ap (λ o. option_map_or f o 0) (booking_of-others_other n k bs (λ e. absurd (omega arith)))) in
-    omega (arith, one_left_out f k bs one, rest, same)
-  where
-    kept : (n : ℕ) → booking_of n bs ≡ None → booking_of n (others k bs) ≡ None
-    kept n h = elim (other_than n k) [
-      | inl e ↦ subst (λ (x : ℕ). booking_of x (others k bs) ≡ None) (sym e) (booking_of-others_same k bs)
-      | inr d ↦ booking_of-others_other n k bs d ∙ h
-    ]
+-- where one is changed,
+pub none_from_changed : (n number : ℕ) (g : Booking → Booking) → KeepsNumber g → (bs : List Booking) → HasNoneFrom n bs → HasNoneFrom n (changed number g bs)
+none_from_changed n number g keeps bs h k le = elim (other_than k number) [
+  | inl e ↦
+      let P : ℕ → Type 0 = λ x. booking_of x (changed number g bs) ≡ None in
+      subst P (sym e) (booking_of-changed_same number g keeps bs ∙ ap (λ m. option_map g (booking_of m bs)) (sym e) ∙ ap (option_map g) (h k le))
+  | inr d ↦ booking_of-changed_other k number g keeps bs d ∙ h k le
+]
 
-    still_below : (n : ℕ) → n < suc k → booking_of n (others k bs) ≡ None
-    still_below n h = elim (below_or_here n k h) [
-      | inl e ↦ subst (λ (x : ℕ). booking_of x (others k bs) ≡ None) (sym e) (booking_of-others_same k bs)
-      | inr l ↦ kept n (below n l)
-    ]
+-- where a slot is committed,
+pub none_from_settled : (n number : ℕ) (bs : List Booking) → HasNoneFrom n bs → HasNoneFrom n (settled number bs)
+none_from_settled n number bs = none_from_changed n number (λ b. record b { committed = b.pending; pending = None }) (λ b. refl) bs
+
+-- where a pending slot is set or taken,
+pub none_from_pending_set : (n number : ℕ) (slot : Option Slot) (bs : List Booking) → HasNoneFrom n bs → HasNoneFrom n (pending_set number slot bs)
+none_from_pending_set n number slot bs = none_from_changed n number (λ b. record b { pending = slot }) (λ b. refl) bs
+
+-- and where a record below it books.
+pub none_from_with_pending : (n number : ℕ) (slot : Slot) (bs : List Booking) → number < n → HasNoneFrom n bs → HasNoneFrom n (with_pending number slot bs)
+none_from_with_pending n number slot bs lt h k le = booking_of-with_pending_other k number slot bs (λ e. absurd (omega (arith, e, lt, le))) ∙ h k le

@@ -1,5 +1,5 @@
 -- The first lack as a function.
-use Rattle.std.proofs.Common.{◌≡◌, ◌≢◌, ◌⊎◌, inl, inr, ◌≤◌, ◌<◌, ◌+◌, ◌-◌, ℕ, zero, suc, Bool, true, false, cond, List, [], ◌∷◌, Option, Some, None, nat_lt, arith, refl, sym, ap, ◌∙◌, subst}
+use Rattle.std.proofs.Common.{◌≡◌, ◌≢◌, ◌⊎◌, inl, inr, ◌≤◌, ◌<◌, ◌+◌, ◌-◌, ℕ, zero, suc, Bool, true, false, cond, List, [], ◌∷◌, Option, Some, None, arith, refl, sym, ap, ◌∙◌, subst}
 use Rattle.std.proofs.lemmas.Bool.Decides.{nat_tests, eqb_tells}
 use Rattle.nsi_base.specs.Range.{Span, is_covered}
 use Rattle.nsi_base.specs.declared.flow.Flow.{Flow}
@@ -8,7 +8,7 @@ use Rattle.capacity_calendar.specs.declared.booking.Capacity.{Capacity}
 use Rattle.capacity_calendar.specs.declared.booking.Lack.{Lack}
 use Rattle.capacity_calendar.specs.declared.booking.Place.{Place}
 use Rattle.capacity_calendar.specs.Load.{load, others}
-use Rattle.capacity_calendar.specs.Lack.{or_else, is_lacking, lack_of, lack_at, first_from, first_lack_among}
+use Rattle.capacity_calendar.specs.Lack.{or_else, lacks_by, is_lacking, lack_of, lack_at, first_from, first_lack_by, first_lack_among, loads}
 use Rattle.capacity_calendar.specs.Plan.{capacity_at, place_if, first_lack_at}
 use Rattle.capacity_calendar.specs.Search.{IsFirst, HasRoom}
 
@@ -37,68 +37,50 @@ covered_bounds : (span : Span) (t : ℕ) → is_covered span t ≡ true → (spa
 covered_bounds span t h = grind (arith, nat_tests)
 
 -- the lack of one place at a second
-one_lack : (place : Place) (os : List Booking) (mbps t : ℕ) → lack_at (place ∷ []) os mbps t ≡ cond (is_lacking place os mbps t) (Some (lack_of place (load place.flow place.stp t os) t)) None
+one_lack : (place : Place) (l : Flow → ℕ → ℕ → ℕ) (mbps t : ℕ) → lack_at l (place ∷ []) mbps t ≡ cond (lacks_by l place mbps t) (Some (lack_of place (l place.flow place.stp t) t)) None
 unfolding lack_at
-one_lack place os mbps t = refl
+one_lack place l mbps t = refl
 
-lack_unless : (place : Place) (os : List Booking) (mbps t : ℕ) → is_lacking place os mbps t ≡ false → lack_at (place ∷ []) os mbps t ≡ None
-lack_unless place os mbps t h = one_lack place os mbps t ∙ ap (λ b. cond b (Some (lack_of place (load place.flow place.stp t os) t)) None) h
+lack_unless : (place : Place) (l : Flow → ℕ → ℕ → ℕ) (mbps t : ℕ) → lacks_by l place mbps t ≡ false → lack_at l (place ∷ []) mbps t ≡ None
+lack_unless place l mbps t h = one_lack place l mbps t ∙ ap (λ b. cond b (Some (lack_of place (l place.flow place.stp t) t)) None) h
 
-lack_where : (place : Place) (os : List Booking) (mbps t : ℕ) → is_lacking place os mbps t ≡ true → lack_at (place ∷ []) os mbps t ≡ Some (lack_of place (load place.flow place.stp t os) t)
-lack_where place os mbps t h = one_lack place os mbps t ∙ ap (λ b. cond b (Some (lack_of place (load place.flow place.stp t os) t)) None) h
+lack_where : (place : Place) (l : Flow → ℕ → ℕ → ℕ) (mbps t : ℕ) → lacks_by l place mbps t ≡ true → lack_at l (place ∷ []) mbps t ≡ Some (lack_of place (l place.flow place.stp t) t)
+lack_where place l mbps t h = one_lack place l mbps t ∙ ap (λ b. cond b (Some (lack_of place (l place.flow place.stp t) t)) None) h
 
 -- where none lacks, there is no first lack
-pub no_first_lack : (place : Place) (os : List Booking) (mbps : ℕ) (span : Span) → span.start < span.end → HasRoom (is_lacking place os mbps) span → first_lack_among (place ∷ []) os span mbps ≡ None
-unfolding first_lack_among
-no_first_lack place os mbps span w h = first_from-none (lack_at (place ∷ []) os mbps) (span.end - span.start) span.start (λ s a b. lack_unless place os mbps s (h s a (omega arith)))
+pub no_first_lack : (place : Place) (l : Flow → ℕ → ℕ → ℕ) (mbps : ℕ) (span : Span) → span.start < span.end → HasRoom (lacks_by l place mbps) span → first_lack_by l (place ∷ []) span mbps ≡ None
+unfolding first_lack_by
+no_first_lack place l mbps span w h = first_from-none (lack_at l (place ∷ []) mbps) (span.end - span.start) span.start (λ s a b. lack_unless place l mbps s (h s a (omega arith)))
 
 -- the first second that lacks gives the first lack
-pub first_lack_here : (place : Place) (os : List Booking) (mbps : ℕ) (span : Span) (t : ℕ) → span.start < span.end → IsFirst (is_lacking place os mbps) span t
-    → first_lack_among (place ∷ []) os span mbps ≡ Some (lack_of place (load place.flow place.stp t os) t)
-unfolding first_lack_among
-first_lack_here place os mbps span t w h =
+pub first_lack_here : (place : Place) (l : Flow → ℕ → ℕ → ℕ) (mbps : ℕ) (span : Span) (t : ℕ) → span.start < span.end → IsFirst (lacks_by l place mbps) span t
+    → first_lack_by l (place ∷ []) span mbps ≡ Some (lack_of place (l place.flow place.stp t) t)
+unfolding first_lack_by
+first_lack_here place l mbps span t w h =
     let c = covered_bounds span t h.covered in
-    first_from-some (lack_at (place ∷ []) os mbps) (span.end - span.start) span.start t _ c.0 (omega (arith, c.1)) (lack_where place os mbps t h.lacking) (λ s a b. lack_unless place os mbps s (h.before s a b))
+    first_from-some (lack_at l (place ∷ []) mbps) (span.end - span.start) span.start t _ c.0 (omega (arith, c.1)) (lack_where place l mbps t h.lacking) (λ s a b. lack_unless place l mbps s (h.before s a b))
 
 -- the answers of a check
 pub none_answer : (capacities : List Capacity) (bs : List Booking) (number stp : ℕ) (flow : Flow) (span : Span) (mbps capacity : ℕ) → capacity_at capacities stp flow ≡ Some capacity → span.start < span.end
     → HasRoom (is_lacking (record { stp = stp; flow = flow; capacity = capacity }) (others number bs) mbps) span → first_lack_at (record { capacities = capacities; bookings = bs }) number stp flow span mbps ≡ None
 none_answer capacities bs number stp flow span mbps capacity e w h =
-    ap (λ o. first_lack_among (place_if o stp flow true) (others number bs) span mbps) e ∙ no_first_lack (record { stp = stp; flow = flow; capacity = capacity }) (others number bs) mbps span w h
+    ap (λ o. first_lack_among (place_if o stp flow true) (others number bs) span mbps) e ∙ no_first_lack (record { stp = stp; flow = flow; capacity = capacity }) (loads (others number bs)) mbps span w h
 
 pub some_answer : (capacities : List Capacity) (bs : List Booking) (number stp : ℕ) (flow : Flow) (span : Span) (mbps capacity t : ℕ) → capacity_at capacities stp flow ≡ Some capacity → span.start < span.end
     → IsFirst (is_lacking (record { stp = stp; flow = flow; capacity = capacity }) (others number bs) mbps) span t
     → first_lack_at (record { capacities = capacities; bookings = bs }) number stp flow span mbps
     ≡ Some (record { stp = stp; flow = flow; second = t; load = load flow stp t (others number bs); capacity = capacity })
 some_answer capacities bs number stp flow span mbps capacity t e w h =
-    ap (λ o. first_lack_among (place_if o stp flow true) (others number bs) span mbps) e ∙ first_lack_here (record { stp = stp; flow = flow; capacity = capacity }) (others number bs) mbps span t w h
+    ap (λ o. first_lack_among (place_if o stp flow true) (others number bs) span mbps) e ∙ first_lack_here (record { stp = stp; flow = flow; capacity = capacity }) (loads (others number bs)) mbps span t w h
 
 -- no place lacks where there is none
-pub none_among : (os : List Booking) (span : Span) (mbps : ℕ) → first_lack_among [] os span mbps ≡ None
-unfolding first_lack_among lack_at
-none_among os span mbps = first_from-none {X = Lack} (λ t. None) (span.end - span.start) span.start (λ s a b. refl)
+pub none_among : (l : Flow → ℕ → ℕ → ℕ) (span : Span) (mbps : ℕ) → first_lack_by l [] span mbps ≡ None
+unfolding first_lack_by lack_at
+none_among l span mbps = first_from-none {X = Lack} (λ t. None) (span.end - span.start) span.start (λ s a b. refl)
 
-pub not_booked : (o : Option ℕ) (stp : ℕ) (flow : Flow) (booked : Bool) (os : List Booking) (span : Span) (mbps : ℕ) → booked ≡ false → first_lack_among (place_if o stp flow booked) os span mbps ≡ None
-not_booked None stp flow booked os span mbps h = none_among os span mbps
-not_booked (Some c) stp flow booked os span mbps h = ap (λ b. first_lack_among (place_if (Some c) stp flow b) os span mbps) h ∙ none_among os span mbps
+pub not_booked : (o : Option ℕ) (stp : ℕ) (flow : Flow) (booked : Bool) (l : Flow → ℕ → ℕ → ℕ) (span : Span) (mbps : ℕ) → booked ≡ false → first_lack_by l (place_if o stp flow booked) span mbps ≡ None
+not_booked None stp flow booked l span mbps h = none_among l span mbps
+not_booked (Some c) stp flow booked l span mbps h = ap (λ b. first_lack_by l (place_if (Some c) stp flow b) span mbps) h ∙ none_among l span mbps
 
-pub no_such_flow : (o : Option ℕ) (stp : ℕ) (flow : Flow) (booked : Bool) (os : List Booking) (span : Span) (mbps : ℕ) → o ≡ None → first_lack_among (place_if o stp flow booked) os span mbps ≡ None
-no_such_flow o stp flow booked os span mbps h = ap (λ x. first_lack_among (place_if x stp flow booked) os span mbps) h ∙ none_among os span mbps
-
-lack_at-same : (ps : List Place) (os qs : List Booking) (mbps t : ℕ) → ((flow : Flow) (stp : ℕ) → load flow stp t os ≡ load flow stp t qs) → lack_at ps os mbps t ≡ lack_at ps qs mbps t
-unfolding lack_at
-lack_at-same [] os qs mbps t h = refl
-lack_at-same (p ∷ ps) os qs mbps t h =
-    ap (λ l. cond (nat_lt p.capacity (l + mbps)) (Some (lack_of p l t)) (lack_at ps os mbps t)) (h p.flow p.stp)
-    ∙ ap (cond (is_lacking p qs mbps t) (Some (lack_of p (load p.flow p.stp t qs) t))) (lack_at-same ps os qs mbps t h)
-
-first_from-same : {X : Type 0} (f g : ℕ → Option X) (n t : ℕ) → ((s : ℕ) → f s ≡ g s) → first_from f n t ≡ first_from g n t
-unfolding first_from
-first_from-same f g zero t h = refl
-first_from-same f g (suc n) t h = ap (λ o. or_else o (first_from f n (suc t))) (h t) ∙ ap (or_else (g t)) (first_from-same f g n (suc t) h)
-
--- The first lack depends on the loads alone, not on how the bookings stand.
-pub first_lack_among-same : (ps : List Place) (os qs : List Booking) (span : Span) (mbps : ℕ) → ((flow : Flow) (stp t : ℕ) → load flow stp t os ≡ load flow stp t qs) → first_lack_among ps os span mbps ≡ first_lack_among ps qs span mbps
-unfolding first_lack_among
-first_lack_among-same ps os qs span mbps h =
-    first_from-same (lack_at ps os mbps) (lack_at ps qs mbps) (span.end - span.start) span.start (λ t. lack_at-same ps os qs mbps t (λ flow stp. h flow stp t))
+pub no_such_flow : (o : Option ℕ) (stp : ℕ) (flow : Flow) (booked : Bool) (l : Flow → ℕ → ℕ → ℕ) (span : Span) (mbps : ℕ) → o ≡ None → first_lack_by l (place_if o stp flow booked) span mbps ≡ None
+no_such_flow o stp flow booked l span mbps h = ap (λ x. first_lack_by l (place_if x stp flow booked) span mbps) h ∙ none_among l span mbps

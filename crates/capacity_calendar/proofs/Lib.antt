@@ -1,9 +1,16 @@
 pub mod First
-pub mod Changed
+pub mod FirstLack
+pub mod Places
 pub mod Function
 pub mod Sooner
 pub mod Within
 pub mod Fits
 pub mod Sound
 pub mod ByNumber
+pub mod SlotsByNumber
+pub mod Sums
+pub mod LoadByNumber
+pub mod Kept
+pub mod Indexed
+pub mod Listed
 pub mod Rows

@@ -3,21 +3,20 @@ use Rattle.std.proofs.Common.{◌≡◌, ◌≤◌, ◌<◌, ◌-◌, ℕ, zero,
 use Rattle.std.proofs.lemmas.Bool.Decides.{nat_tests}
 use Rattle.std.specs.Option.{IfSome}
 use Rattle.nsi_base.specs.Range.{Span}
-use Rattle.capacity_calendar.specs.declared.booking.Booking.{Booking}
+use Rattle.nsi_base.specs.declared.flow.Flow.{Flow}
 use Rattle.capacity_calendar.specs.declared.booking.Lack.{Lack}
 use Rattle.capacity_calendar.specs.declared.booking.Place.{Place}
-use Rattle.capacity_calendar.specs.Load.{load}
-use Rattle.capacity_calendar.specs.Lack.{or_else, is_lacking, lack_of, lack_at, first_from, first_lack_among}
+use Rattle.capacity_calendar.specs.Lack.{or_else, lacks_by, lack_of, lack_at, first_from, first_lack_by}
 use Rattle.capacity_calendar.specs.Search.{sooner}
 
 -- of the places joined, those in front come first
-pub lack_at-append : (ps qs : List Place) (os : List Booking) (mbps t : ℕ) → lack_at (ps ++ qs) os mbps t ≡ or_else (lack_at ps os mbps t) (lack_at qs os mbps t)
+pub lack_at-append : (ps qs : List Place) (l : Flow → ℕ → ℕ → ℕ) (mbps t : ℕ) → lack_at l (ps ++ qs) mbps t ≡ or_else (lack_at l ps mbps t) (lack_at l qs mbps t)
 unfolding lack_at
-lack_at-append [] qs os mbps t = refl
-lack_at-append (p ∷ ps) qs os mbps t = either (is_lacking p os mbps t) (lack_at-append ps qs os mbps t)
+lack_at-append [] qs l mbps t = refl
+lack_at-append (p ∷ ps) qs l mbps t = either (lacks_by l p mbps t) (lack_at-append ps qs l mbps t)
   where
-    either : (b : Bool) → lack_at (ps ++ qs) os mbps t ≡ or_else (lack_at ps os mbps t) (lack_at qs os mbps t)
-        → cond b (Some (lack_of p (load p.flow p.stp t os) t)) (lack_at (ps ++ qs) os mbps t) ≡ or_else (cond b (Some (lack_of p (load p.flow p.stp t os) t)) (lack_at ps os mbps t)) (lack_at qs os mbps t)
+    either : (b : Bool) → lack_at l (ps ++ qs) mbps t ≡ or_else (lack_at l ps mbps t) (lack_at l qs mbps t)
+        → cond b (Some (lack_of p (l p.flow p.stp t) t)) (lack_at l (ps ++ qs) mbps t) ≡ or_else (cond b (Some (lack_of p (l p.flow p.stp t) t)) (lack_at l ps mbps t)) (lack_at l qs mbps t)
     either true h = refl
     either false h = h
 
@@ -25,12 +24,12 @@ lack_at-append (p ∷ ps) qs os mbps t = either (is_lacking p os mbps t) (lack_a
 IsAt : ℕ → Option Lack → Type 0
 IsAt t o = IfSome o (λ x. x.second ≡ t)
 
-lack_is_at : (ps : List Place) (os : List Booking) (mbps t : ℕ) → IsAt t (lack_at ps os mbps t)
+lack_is_at : (ps : List Place) (l : Flow → ℕ → ℕ → ℕ) (mbps t : ℕ) → IsAt t (lack_at l ps mbps t)
 unfolding lack_at IsAt
-lack_is_at [] os mbps t = tt
-lack_is_at (p ∷ ps) os mbps t = either (is_lacking p os mbps t) (lack_is_at ps os mbps t)
+lack_is_at [] l mbps t = tt
+lack_is_at (p ∷ ps) l mbps t = either (lacks_by l p mbps t) (lack_is_at ps l mbps t)
   where
-    either : (b : Bool) → IsAt t (lack_at ps os mbps t) → IsAt t (cond b (Some (lack_of p (load p.flow p.stp t os) t)) (lack_at ps os mbps t))
+    either : (b : Bool) → IsAt t (lack_at l ps mbps t) → IsAt t (cond b (Some (lack_of p (l p.flow p.stp t) t)) (lack_at l ps mbps t))
     either true h = refl
     either false h = h
 
@@ -74,12 +73,12 @@ either_first f g h e p q (suc n) t =
     ∙ sooner_step t (f t) (g t) (first_from f n (suc t)) (first_from g n (suc t)) (p t) (q t) (first_is_from f p n (suc t)) (first_is_from g q n (suc t))
 
 -- the first lack of places joined
-pub first_lack_among-append : (ps qs : List Place) (os : List Booking) (span : Span) (mbps : ℕ)
-    → first_lack_among (ps ++ qs) os span mbps ≡ sooner (first_lack_among ps os span mbps) (first_lack_among qs os span mbps)
-unfolding first_lack_among
-first_lack_among-append ps qs os span mbps =
-    either_first (lack_at ps os mbps) (lack_at qs os mbps) (lack_at (ps ++ qs) os mbps) (lack_at-append ps qs os mbps) (lack_is_at ps os mbps) (lack_is_at qs os mbps) (span.end - span.start) span.start
+pub first_lack_by-append : (ps qs : List Place) (l : Flow → ℕ → ℕ → ℕ) (span : Span) (mbps : ℕ)
+    → first_lack_by l (ps ++ qs) span mbps ≡ sooner (first_lack_by l ps span mbps) (first_lack_by l qs span mbps)
+unfolding first_lack_by
+first_lack_by-append ps qs l span mbps =
+    either_first (lack_at l ps mbps) (lack_at l qs mbps) (lack_at l (ps ++ qs) mbps) (lack_at-append ps qs l mbps) (lack_is_at ps l mbps) (lack_is_at qs l mbps) (span.end - span.start) span.start
 
-pub first_lack_among-three : (ps qs rs : List Place) (os : List Booking) (span : Span) (mbps : ℕ)
-    → first_lack_among (ps ++ (qs ++ rs)) os span mbps ≡ sooner (first_lack_among ps os span mbps) (sooner (first_lack_among qs os span mbps) (first_lack_among rs os span mbps))
-first_lack_among-three ps qs rs os span mbps = first_lack_among-append ps (qs ++ rs) os span mbps ∙ ap (sooner (first_lack_among ps os span mbps)) (first_lack_among-append qs rs os span mbps)
+pub first_lack_by-three : (ps qs rs : List Place) (l : Flow → ℕ → ℕ → ℕ) (span : Span) (mbps : ℕ)
+    → first_lack_by l (ps ++ (qs ++ rs)) span mbps ≡ sooner (first_lack_by l ps span mbps) (sooner (first_lack_by l qs span mbps) (first_lack_by l rs span mbps))
+first_lack_by-three ps qs rs l span mbps = first_lack_by-append ps (qs ++ rs) l span mbps ∙ ap (sooner (first_lack_by l ps span mbps)) (first_lack_by-append qs rs l span mbps)

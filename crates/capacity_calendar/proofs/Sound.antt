@@ -1,19 +1,15 @@
 -- What each change of a plan keeps.
-use Rattle.std.proofs.Common.{◌≡◌, ◌≤◌, ◌+◌, ℕ, ◌||◌, List, [], ◌∷◌, ◌++◌, Bool, true, false, cond, not, eqb, max, sum_by, is_some, Option, Some, None, arith, refl, sym, ap, ◌∙◌, subst}
-use Rattle.std.specs.List.{list_any}
-use Rattle.std.specs.Option.{ForSome}
-use Rattle.std.proofs.lemmas.List.Sums.{sum_by-cons, sum_by_push}
-use Rattle.std.proofs.lemmas.Bool.Decides.{nat_tests}
+use Rattle.std.proofs.Common.{◌≡◌, ◌≤◌, ◌+◌, ℕ, ◌&&◌, List, [], ◌∷◌, Bool, true, false, cond, not, eqb, max, sum_by, Some, None, arith, refl, sym, ap, ◌∙◌, subst}
+use Rattle.std.proofs.lemmas.List.Sums.{sum_by-cons}
 use Rattle.nsi_base.specs.Range.{is_covered}
-use Rattle.nsi_base.specs.Flows.{books}
 use Rattle.nsi_base.specs.declared.flow.Flow.{Flow}
 use Rattle.capacity_calendar.specs.declared.booking.Booking.{Booking}
 use Rattle.capacity_calendar.specs.declared.booking.Capacity.{Capacity}
 use Rattle.capacity_calendar.specs.declared.booking.Slot.{Slot}
-use Rattle.capacity_calendar.specs.Load.{taken, claim, others}
-use Rattle.capacity_calendar.specs.Plan.{Plan, first_lack, HasOneEach, IsSound, booking_of, IsBetween, changed, pending_set, with_pending, settled}
+use Rattle.capacity_calendar.specs.Load.{books_slot, taken, larger_taken, claim, others}
+use Rattle.capacity_calendar.specs.Plan.{first_lack, HasOneEach, IsSound, booking_of, committed_of, pending_of, counted, changed, pending_set, with_pending, settled}
 use Rattle.capacity_calendar.proofs.Fits.{fits_where_booked}
-use Rattle.capacity_calendar.proofs.Within.{others_le, none_left_out, sum_changed, sum_is}
+use Rattle.capacity_calendar.proofs.Within.{others_le, one_out, claim_counted, sum_placed}
 
 -- a sum doesn't rise where what is changed claims no more
 changed_le : (f : Booking → ℕ) (number : ℕ) (g : Booking → Booking) → ((b : Booking) → f (g b) ≤ f b) → (bs : List Booking) → sum_by f (changed number g bs) ≤ sum_by f bs
@@ -69,26 +65,6 @@ one_each_changed number g k (b ∷ bs) h =
     let P : ℕ → Type 0 = λ n. booking_of n (changed number g bs) ≡ None in
     (subst P (sym (change_keeps number g k b)) (still_none_changed b.number number g k bs h.0), one_each_changed number g k bs h.1)
 
--- one more booking, of a record that has none
-still_none_pushed : (n : ℕ) (b : Booking) (bs : List Booking) → eqb b.number n ≡ false → booking_of n bs ≡ None → booking_of n (bs ++ b ∷ []) ≡ None
-still_none_pushed n b [] e h = ap (λ c. cond {A = Option Booking} c (Some b) None) e
-still_none_pushed n b (x ∷ bs) e h = by_test (eqb x.number n) h (still_none_pushed n b bs e)
-  where
-    by_test : (c : Bool) → cond c (Some x) (booking_of n bs) ≡ None → (booking_of n bs ≡ None → booking_of n (bs ++ b ∷ []) ≡ None) → cond c (Some x) (booking_of n (bs ++ b ∷ [])) ≡ None
-    by_test true h next = absurd (cc)
-    by_test false h next = next h
-
-other_way : (a b : ℕ) → eqb a b ≡ false → eqb b a ≡ false
-other_way a b h = grind (arith, nat_tests)
-
-one_each_pushed : (b : Booking) (bs : List Booking) → booking_of b.number bs ≡ None → HasOneEach bs → HasOneEach (bs ++ b ∷ [])
-one_each_pushed b [] h q = (refl, tt)
-one_each_pushed b (x ∷ bs) h q = by_test (eqb x.number b.number) refl h (one_each_pushed b bs)
-  where
-    by_test : (c : Bool) → eqb x.number b.number ≡ c → cond c (Some x) (booking_of b.number bs) ≡ None → (booking_of b.number bs ≡ None → HasOneEach bs → HasOneEach (bs ++ b ∷ [])) → HasOneEach (x ∷ (bs ++ b ∷ []))
-    by_test true e h next = absurd (cc)
-    by_test false e h next = (still_none_pushed x.number b bs (other_way x.number b.number e) q.0, next h q.1)
-
 -- taking a record's booking away
 pub sound_others : (capacities : List Capacity) (number : ℕ) (bs : List Booking) → IsSound (record { capacities = capacities; bookings = bs }) → IsSound (record { capacities = capacities; bookings = others number bs })
 sound_others capacities number bs s = record {
@@ -104,106 +80,49 @@ sound_changed capacities number g bs k less s = record {
   one_each = one_each_changed number g k bs s.one_each;
 }
 
-larger_of_fewer : (e : Bool) (m n : ℕ) → (cond e (max n 0) 0 ≤ cond e (max m n) 0) × (cond e (max m 0) 0 ≤ cond e (max m n) 0)
-larger_of_fewer true m n = (omega arith, omega arith)
-larger_of_fewer false m n = (omega arith, omega arith)
+larger_of_fewer : (m n : ℕ) → (max n 0 ≤ max m n) × (max m 0 ≤ max m n)
+larger_of_fewer m n = (omega arith, omega arith)
 
 -- settling
 pub sound_settled : (capacities : List Capacity) (number : ℕ) (bs : List Booking) → IsSound (record { capacities = capacities; bookings = bs }) → IsSound (record { capacities = capacities; bookings = settled number bs })
-unfolding claim
+unfolding larger_taken
 sound_settled capacities number bs s =
     sound_changed capacities number (λ b. record b { committed = b.pending; pending = None }) bs (λ b. refl)
-    (λ flow stp t b. (larger_of_fewer (books flow b.both_ways (eqb b.source stp) (eqb b.dest stp)) (taken b.committed t) (taken b.pending t)).0) s
+    (λ flow stp t b. (larger_of_fewer (taken flow stp t b.committed) (taken flow stp t b.pending)).0) s
 
 -- taking the pending slot away
 pub sound_unset : (capacities : List Capacity) (number : ℕ) (bs : List Booking) → IsSound (record { capacities = capacities; bookings = bs }) → IsSound (record { capacities = capacities; bookings = pending_set number None bs })
-unfolding claim
+unfolding larger_taken
 sound_unset capacities number bs s =
     sound_changed capacities number (λ b. record b { pending = None }) bs (λ b. refl)
-    (λ flow stp t b. (larger_of_fewer (books flow b.both_ways (eqb b.source stp) (eqb b.dest stp)) (taken b.committed t) (taken b.pending t)).1) s
+    (λ flow stp t b. (larger_of_fewer (taken flow stp t b.committed) (taken flow stp t b.pending)).1) s
 
 -- What is claimed with a slot pending is what is committed, or the slot's bandwidth where it fits.
 claim_fits : (flow : Flow) (stp t : ℕ) (b : Booking) (slot : Slot) (rest capacity : ℕ) → rest + claim flow stp t b ≤ capacity
-    → (books flow b.both_ways (eqb b.source stp) (eqb b.dest stp) ≡ true → is_covered slot.interval t ≡ true → rest + slot.mbps ≤ capacity) → rest + claim flow stp t (record b { pending = Some slot }) ≤ capacity
-unfolding claim
-claim_fits flow stp t b slot rest capacity = either (books flow b.both_ways (eqb b.source stp) (eqb b.dest stp)) (is_covered slot.interval t) (taken b.committed t) (taken b.pending t)
+    → (books_slot flow stp slot ≡ true → is_covered slot.interval t ≡ true → rest + slot.mbps ≤ capacity) → rest + claim flow stp t (record b { pending = Some slot }) ≤ capacity
+unfolding larger_taken
+claim_fits flow stp t b slot rest capacity = either (books_slot flow stp slot) (is_covered slot.interval t) (taken flow stp t b.committed) (taken flow stp t b.pending)
   where
-    either : (e d : Bool) (m n : ℕ) → rest + cond e (max m n) 0 ≤ capacity → (e ≡ true → d ≡ true → rest + slot.mbps ≤ capacity) → rest + cond e (max m (cond d slot.mbps 0)) 0 ≤ capacity
+    either : (e d : Bool) (m n : ℕ) → rest + max m n ≤ capacity → (e ≡ true → d ≡ true → rest + slot.mbps ≤ capacity) → rest + max m (cond (e && d) slot.mbps 0) ≤ capacity
     either true true m n h f = omega (arith, h, f refl refl)
     either true false m n h f = omega (arith, h)
     either false d m n h f = omega (arith, h)
 
--- a slot more of a record that has a booking
-sound_set : (capacities : List Capacity) (number : ℕ) (b : Booking) (slot : Slot) (bs : List Booking) → booking_of number bs ≡ Some b
-    → first_lack (record { capacities = capacities; bookings = bs }) number b.source b.dest b.both_ways slot.interval slot.mbps ≡ None
-    → IsSound (record { capacities = capacities; bookings = bs }) → IsSound (record { capacities = capacities; bookings = pending_set number (Some slot) bs })
-sound_set capacities number b slot bs h free s = record {
+-- The slot has room beside the other records.
+abbrev pub FitsIn : List Capacity → ℕ → Slot → List Booking → Type 0
+FitsIn capacities number slot bs = first_lack (record { capacities = capacities; bookings = bs }) number slot.source slot.dest slot.both_ways slot.interval slot.mbps ≡ None
+
+-- a slot more that fits, where each record has one booking still
+pub sound_with_pending : (capacities : List Capacity) (number : ℕ) (slot : Slot) (bs : List Booking) → FitsIn capacities number slot bs → HasOneEach (with_pending number slot bs)
+    → IsSound (record { capacities = capacities; bookings = bs }) → IsSound (record { capacities = capacities; bookings = with_pending number slot bs })
+sound_with_pending capacities number slot bs free one s = record {
   within = λ flow stp t capacity e.
       let f = claim flow stp t in
-      let fits = fits_where_booked (record { capacities = capacities; bookings = bs }) number b.source b.dest b.both_ways slot.interval slot.mbps free flow stp t capacity e in
-      let before : sum_by f (others number bs) + f b ≤ capacity = omega (arith, s.within flow stp t capacity e, sum_is f number bs b s.one_each h) in
-      let after = claim_fits flow stp t b slot (sum_by f (others number bs)) capacity before fits in
-      omega (arith, after, sum_changed f number (λ x. record x { pending = Some slot }) bs b s.one_each h);
-  one_each = one_each_changed number (λ x. record x { pending = Some slot }) (λ x. refl) bs s.one_each;
+      let former : Booking = record { number = number; committed = committed_of number bs; pending = pending_of number bs } in
+      let fits = fits_where_booked (record { capacities = capacities; bookings = bs }) number slot.source slot.dest slot.both_ways slot.interval slot.mbps free flow stp t capacity e in
+      let own : counted f bs number ≡ f former = claim_counted flow stp t number bs in
+      let before : sum_by f (others number bs) + f former ≤ capacity = omega (arith, s.within flow stp t capacity e, one_out f number bs s.one_each, own) in
+      let after = claim_fits flow stp t former slot (sum_by f (others number bs)) capacity before fits in
+      omega (arith, after, sum_placed f (record former { pending = Some slot }) bs);
+  one_each = one;
 }
-
--- a slot of a record that has none
-sound_pushed : (capacities : List Capacity) (number source dest : ℕ) (both_ways : Bool) (slot : Slot) (bs : List Booking) → booking_of number bs ≡ None
-    → first_lack (record { capacities = capacities; bookings = bs }) number source dest both_ways slot.interval slot.mbps ≡ None
-    → IsSound (record { capacities = capacities; bookings = bs })
-    → IsSound (record { capacities = capacities; bookings = bs ++ record { number = number; source = source; dest = dest; both_ways = both_ways; committed = None; pending = Some slot } ∷ [] })
-unfolding claim
-sound_pushed capacities number source dest both_ways slot bs h free s = record {
-  within = λ flow stp t capacity e.
-      let f = claim flow stp t in
-      let empty : Booking = record { number = number; source = source; dest = dest; both_ways = both_ways; committed = None; pending = None } in
-      let fits = fits_where_booked (record { capacities = capacities; bookings = bs }) number source dest both_ways slot.interval slot.mbps free flow stp t capacity e in
-      let rest = none_left_out f number bs h in
-      let nothing : f empty ≡ 0 = claims_nothing (books flow both_ways (eqb source stp) (eqb dest stp)) in
-      let before : sum_by f (others number bs) + f empty ≤ capacity = omega (arith, s.within flow stp t capacity e, rest, nothing) in
-      let after = claim_fits flow stp t empty slot (sum_by f (others number bs)) capacity before fits in
-      omega (arith, after, rest, sum_by_push f bs (record empty { pending = Some slot }));
-  one_each = one_each_pushed (record { number = number; source = source; dest = dest; both_ways = both_ways; committed = None; pending = Some slot }) bs h s.one_each;
-}
-  where
-    claims_nothing : (e : Bool) → cond e (max 0 0) 0 ≡ 0
-    claims_nothing true = refl
-    claims_nothing false = refl
-
--- whether a record has a booking
-pub any_is_some : (number : ℕ) (bs : List Booking) → list_any (λ b. eqb b.number number) bs ≡ is_some (booking_of number bs)
-any_is_some number [] = refl
-any_is_some number (b ∷ bs) = either (eqb b.number number) (any_is_some number bs)
-  where
-    either : (c : Bool) → list_any (λ b. eqb b.number number) bs ≡ is_some (booking_of number bs) → (c || list_any (λ b. eqb b.number number) bs) ≡ is_some (cond c (Some b) (booking_of number bs))
-    either true h = refl
-    either false h = h
-
-pub set_if_booked : (number source dest : ℕ) (both_ways : Bool) (slot : Slot) (bs : List Booking) → is_some (booking_of number bs) ≡ true → with_pending number source dest both_ways slot bs ≡ pending_set number (Some slot) bs
-set_if_booked number source dest both_ways slot bs h = ap (λ c. cond c (pending_set number (Some slot) bs) (bs ++ record { number = number; source = source; dest = dest; both_ways = both_ways; committed = None; pending = Some slot } ∷ [])) h
-
-pub pushed_if_new : (number source dest : ℕ) (both_ways : Bool) (slot : Slot) (bs : List Booking) → is_some (booking_of number bs) ≡ false
-    → with_pending number source dest both_ways slot bs ≡ bs ++ record { number = number; source = source; dest = dest; both_ways = both_ways; committed = None; pending = Some slot } ∷ []
-pushed_if_new number source dest both_ways slot bs h = ap (λ c. cond c (pending_set number (Some slot) bs) (bs ++ record { number = number; source = source; dest = dest; both_ways = both_ways; committed = None; pending = Some slot } ∷ [])) h
-
--- a slot more that fits
-pub sound_with_pending : (capacities : List Capacity) (number source dest : ℕ) (both_ways : Bool) (slot : Slot) (bs : List Booking)
-    → first_lack (record { capacities = capacities; bookings = bs }) number source dest both_ways slot.interval slot.mbps ≡ None
-    → ForSome (booking_of number bs) (IsBetween source dest both_ways)
-    → IsSound (record { capacities = capacities; bookings = bs }) → IsSound (record { capacities = capacities; bookings = with_pending number source dest both_ways slot bs })
-sound_with_pending capacities number source dest both_ways slot bs free ends s = by_booking (booking_of number bs) refl
-  where
-    plan : Plan
-    plan = record { capacities = capacities; bookings = bs }
-
-    P : List Booking → Type 0
-    P l = IsSound (record { capacities = capacities; bookings = l })
-
-    own : (b : Booking) → IsBetween source dest both_ways b → first_lack plan number b.source b.dest b.both_ways slot.interval slot.mbps ≡ None
-    own b e =
-        ap (λ x. first_lack plan number x b.dest b.both_ways slot.interval slot.mbps) e.source_is ∙ ap (λ x. first_lack plan number source x b.both_ways slot.interval slot.mbps) e.dest_is
-        ∙ ap (λ x. first_lack plan number source dest x slot.interval slot.mbps) e.both_ways_is ∙ free
-
-    by_booking : (o : Option Booking) → booking_of number bs ≡ o → P (with_pending number source dest both_ways slot bs)
-    by_booking (Some b) e = subst P (sym (set_if_booked number source dest both_ways slot bs (ap is_some e))) (sound_set capacities number b slot bs e (own b (ends b e)) s)
-    by_booking None e = subst P (sym (pushed_if_new number source dest both_ways slot bs (ap is_some e))) (sound_pushed capacities number source dest both_ways slot bs e free s)

@@ -1,4 +1,6 @@
 pub mod Load
 pub mod Lack
 pub mod Plan
+pub mod Kept
 pub mod Search
+pub mod Sums

@@ -1,5 +1,6 @@
 -- What a calendar stands for.
-use Rattle.std.specs.Prelude.{◌≡◌, ◌≤◌, ◌<◌, ℕ, ◌+◌, ◌==◌, ◌&&◌, Bool, true, false, List, [], ◌∷◌, ◌++◌, map, find, is_some, if◌then◌else◌, Option, Some, None, option_and_then}
+use Rattle.std.specs.Prelude.{◌≡◌, ◌≤◌, ◌<◌, ℕ, ◌+◌, ◌==◌, ◌&&◌, Bool, true, false, List, [], ◌∷◌, ◌++◌, map, find, filter, nat_lt, if◌then◌else◌, Option, Some, None, option_and_then}
+use Rattle.std.specs.Option.{option_map_or}
 use Rattle.nsi_base.specs.Range.{Span, is_covered}
 use Rattle.nsi_base.specs.Flows.{books}
 use Rattle.nsi_base.specs.declared.flow.Flow.{Flow}
@@ -9,7 +10,7 @@ use Rattle.capacity_calendar.specs.declared.booking.Capacity.{Capacity}
 use Rattle.capacity_calendar.specs.declared.booking.Lack.{Lack}
 use Rattle.capacity_calendar.specs.declared.booking.Place.{Place}
 use Rattle.capacity_calendar.specs.declared.booking.Slot.{Slot}
-use Rattle.capacity_calendar.specs.Load.{load, others}
+use Rattle.capacity_calendar.specs.Load.{larger_taken, load, others}
 use Rattle.capacity_calendar.specs.Lack.{first_lack_among}
 
 -- the capacities of termination points, and what each record has booked of them
@@ -88,15 +89,25 @@ pub record IsSound (plan : Plan) : Type 0 where
   pub within : IsWithin plan
   pub one_each : HasOneEach plan.bookings
 
+-- the slot that a record has committed, where it has one
+abbrev pub committed_of : ℕ → List Booking → Option Slot
+committed_of number bookings = option_and_then (λ b. b.committed) (booking_of number bookings)
+
 -- the slot that a record has pending, where it has one
 abbrev pub pending_of : ℕ → List Booking → Option Slot
 pending_of number bookings = option_and_then (λ b. b.pending) (booking_of number bookings)
 
--- a booking between these points, with this direction
-pub record IsBetween (source dest : ℕ) (both_ways : Bool) (b : Booking) : Type 0 where
-  pub source_is : b.source ≡ source
-  pub dest_is : b.dest ≡ dest
-  pub both_ways_is : b.both_ways ≡ both_ways
+-- what a record claims of a flow of a termination point at a second
+abbrev pub claim_of : Flow → ℕ → ℕ → ℕ → List Booking → ℕ
+claim_of flow stp t number bookings = larger_taken flow stp t (committed_of number bookings) (pending_of number bookings)
+
+-- what a record's booking counts, and else nothing
+abbrev pub counted : (Booking → ℕ) → List Booking → ℕ → ℕ
+counted f bookings number = option_map_or f (booking_of number bookings) 0
+
+-- No record from this number on has a booking.
+abbrev pub HasNoneFrom : ℕ → List Booking → Type 0
+HasNoneFrom n bookings = (k : ℕ) → n ≤ k → booking_of k bookings ≡ None
 
 -- the bookings, of which the record's is changed
 abbrev pub changed : ℕ → (Booking → Booking) → List Booking → List Booking
@@ -106,11 +117,13 @@ changed number f bookings = map (λ b. if b.number == number then f b else b) bo
 abbrev pub pending_set : ℕ → Option Slot → List Booking → List Booking
 pending_set number slot bookings = changed number (λ b. record b { pending = slot }) bookings
 
--- the bookings with a slot more, pending for the record: in its booking, or in a new one behind the others
-abbrev pub with_pending : (number source dest : ℕ) → (both_ways : Bool) → Slot → List Booking → List Booking
-with_pending number source dest both_ways slot bookings =
-    if is_some (booking_of number bookings) then pending_set number (Some slot) bookings
-    else bookings ++ record { number = number; source = source; dest = dest; both_ways = both_ways; committed = None; pending = Some slot } ∷ []
+-- the bookings with this one between those of lesser and of greater numbers, in place of the record's former
+abbrev pub placed : Booking → List Booking → List Booking
+placed b bookings = filter (λ x. nat_lt x.number b.number) bookings ++ b ∷ filter (λ x. nat_lt b.number x.number) bookings
+
+-- the bookings with a slot more, pending for the record beside what it has committed
+abbrev pub with_pending : (number : ℕ) → Slot → List Booking → List Booking
+with_pending number slot bookings = placed (record { number = number; committed = committed_of number bookings; pending = Some slot }) bookings
 
 -- the bookings, of which the record's pending slot is committed in place of the former
 abbrev pub settled : ℕ → List Booking → List Booking

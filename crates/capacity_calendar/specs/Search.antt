@@ -3,13 +3,8 @@ use Rattle.std.specs.Prelude.{◌≡◌, ◌≤◌, ◌<◌, ℕ, ◌&&◌, List
 use Rattle.nsi_base.specs.Range.{Span, is_covered}
 use Rattle.capacity_calendar.specs.declared.booking.Booking.{Booking}
 use Rattle.capacity_calendar.specs.declared.booking.Lack.{Lack}
-use Rattle.capacity_calendar.specs.declared.booking.Place.{Place}
 use Rattle.capacity_calendar.specs.declared.booking.Slot.{Slot}
-use Rattle.capacity_calendar.specs.Load.{load}
-
--- At no second do these bookings pass the capacity of the place.
-abbrev pub StaysWithin : Place → List Booking → Type 0
-StaysWithin place bookings = (t : ℕ) → load place.flow place.stp t bookings ≤ place.capacity
+use Rattle.capacity_calendar.specs.Plan.{booking_of}
 
 -- a second that lacks, and none before it in the span does
 pub record IsFirst (lacks : ℕ → Bool) (span : Span) (t : ℕ) : Type 0 where
@@ -36,9 +31,14 @@ start_if lacks span (Some slot) = if is_covered span slot.interval.start && lack
 abbrev pub booking_start : (ℕ → Bool) → Span → Booking → Option ℕ
 booking_start lacks span b = earlier (start_if lacks span b.committed) (start_if lacks span b.pending)
 
--- the first start that lacks
-unfoldable pub first_start : (ℕ → Bool) → Span → List Booking → Option ℕ
-first_start lacks span bookings = fold (λ o b. earlier o (booking_start lacks span b)) None bookings
+-- the same of a record, where it has a booking
+abbrev pub record_start : (ℕ → Bool) → Span → Option Booking → Option ℕ
+record_start lacks span None = None
+record_start lacks span (Some b) = booking_start lacks span b
+
+-- the first start that lacks, of the bookings of these records
+unfoldable pub first_start : (ℕ → Bool) → Span → List Booking → List ℕ → Option ℕ
+first_start lacks span bookings numbers = fold (λ o n. earlier o (record_start lacks span (booking_of n bookings))) None numbers
 
 -- the lack at the lesser second, of two that may be there; the first where they are at the same
 abbrev pub sooner : Option Lack → Option Lack → Option Lack

@@ -1,4 +1,4 @@
-//! What is booked between two service termination points.
+//! What is booked between service termination points.
 
 use nsi_base::{Flow, Interval, Mbps, RecordNo, Second, StpNo};
 
@@ -10,20 +10,20 @@ pub struct Capacity {
     pub mbps: Mbps,
 }
 
-/// A bandwidth over an interval.
+/// A bandwidth over an interval, between two points.
 #[derive(Clone, Copy, Debug, PartialEq, Eq)]
 pub struct Slot {
+    pub source: StpNo,
+    pub dest: StpNo,
+    pub both_ways: bool,
     pub interval: Interval,
     pub mbps: Mbps,
 }
 
-/// All that one record books: at most one committed and one pending slot, both between the same points.
+/// All that one record books: at most one committed and one pending slot, each between points of its own.
 #[derive(Clone, Copy, Debug, PartialEq, Eq)]
 pub struct Booking {
     pub number: RecordNo,
-    pub source: StpNo,
-    pub dest: StpNo,
-    pub both_ways: bool,
     pub committed: Option<Slot>,
     pub pending: Option<Slot>,
 }
@@ -40,19 +40,24 @@ pub struct Lack {
 
 /// A flow of a service termination point, with its capacity.
 #[derive(Clone, Copy, Debug, PartialEq, Eq)]
-pub(crate) struct Place {
-    pub(crate) stp: StpNo,
-    pub(crate) flow: Flow,
-    pub(crate) capacity: Mbps,
+pub struct Place {
+    pub stp: StpNo,
+    pub flow: Flow,
+    pub capacity: Mbps,
 }
 
 /// What a record asks for.
 #[derive(Clone, Copy, Debug, PartialEq, Eq)]
 pub(crate) struct Wish {
     pub(crate) number: RecordNo,
-    pub(crate) source: StpNo,
-    pub(crate) dest: StpNo,
-    pub(crate) both_ways: bool,
+    pub(crate) slot: Slot,
+}
+
+/// What a record asks for at one place.
+#[derive(Clone, Copy, Debug, PartialEq, Eq)]
+pub(crate) struct Demand {
+    pub(crate) number: RecordNo,
+    pub(crate) place: Place,
     pub(crate) interval: Interval,
     pub(crate) mbps: Mbps,
 }

@@ -1,14 +1,16 @@
-//! The bookings of a provider, as a plain list.
+//! The bookings of a provider.
 
 ghost use Rattle.std.specs.Prelude.{◌≡◌, ℕ, ◌≤◌, ◌<◌, IfSome, IfNone, IsSome, OnOk, OnErr, IfOk, Some, None, true, [], ◌∷◌, ◌++◌};
-ghost use Rattle.std.specs.Option.{ForSome, option_copied};
+ghost use Rattle.std.specs.Option.{option_copied};
 ghost use Rattle.capacity_calendar.specs.Load.{load, others};
 ghost use Rattle.capacity_calendar.specs.Lack.{first_lack_among};
-ghost use Rattle.capacity_calendar.specs.Plan.{capacity_at, is_same_flow, booked_place, places_at, booking_of, pending_of, pending_set, with_pending, settled};
+ghost use Rattle.capacity_calendar.specs.Plan.{capacity_at, is_same_flow, booked_place, places_at, booking_of, committed_of, pending_of, pending_set, with_pending, settled};
 
-use crate::booking::{Booking, Capacity, Lack, Place, Slot, Wish};
+use crate::booking::{Booking, Capacity, Demand, Lack, Place, Slot, Wish};
+use crate::bookings::Bookings;
 use crate::lack::{first_second, sooner};
-use crate::load::{load, load_of_others};
+use crate::load::{books, load, load_of_others};
+use crate::points::{Points, forget};
 use nsi_base::{Flow, Interval, List, Mbps, RecordNo, Second, StpNo};
 use std::alloc::{AllocError, Global};
 use std::marker::Model;
@@ -17,21 +19,24 @@ use std::marker::Model;
 #[derive(Debug, Drop)]
 pub struct Calendar {
     capacities: List<Capacity>,
-    bookings: Vec<Booking>,
+    bookings: Bookings,
+    points: Points,
 }
 
 impl Model for Calendar {
+    ghost use Rattle.capacity_calendar.specs.Kept.{IsIndexed};
     ghost use Rattle.capacity_calendar.specs.Plan.{Plan, IsSound};
 
     ghost Value = { Plan };
 
-    ghost view = { λ c. record { capacities = c.capacities; bookings = c.bookings.items } };
+    ghost view = { λ c. record { capacities = c.capacities; bookings = c.bookings } };
 
-    ghost invariant = { λ c. IsSound (record { capacities = c.capacities; bookings = c.bookings.items }) };
+    ghost invariant = { λ c. IsSound (record { capacities = c.capacities; bookings = c.bookings })
+        × IsIndexed c.bookings c.points };
 }
 
 impl Calendar {
-    ghost use Rattle.capacity_calendar.specs.Plan.{Plan, IsSound, capacity_at, Fits, IsFirstLack, IsBetween, first_lack, first_lack_at};
+    ghost use Rattle.capacity_calendar.specs.Plan.{Plan, IsSound, capacity_at, Fits, IsFirstLack, first_lack, first_lack_at};
 
     pub fn new(alloc: Global, capacities: List<Capacity>) -> Result<Calendar, AllocError>
         ensures empty { IfOk result (λ c. c ≡ record { capacities = capacities; bookings = [] }) }
@@ -39,8 +44,16 @@ impl Calendar {
     {
         Ok(Calendar {
             capacities,
-            bookings: Vec::new(alloc),
+            bookings: Bookings::new(alloc),
+            points: Points::new(alloc)?,
         })
+    }
+
+    /// It costs nothing, and tells what is true of every calendar.
+    pub fn facts(&self)
+        ensures { IsSound self.now }
+    {
+        let _bookings = &self.bookings;
     }
 
     /// The capacity of a flow of a service termination point, where the point has the flow.
@@ -54,7 +67,7 @@ impl Calendar {
     pub fn booking(&self, number: RecordNo) -> Option<&Booking>
         ensures { option_copied result ≡ booking_of number self.now.bookings }
     {
-        booking_of(&self.bookings, number)
+        self.bookings.of(number)
     }
 
     /// The Mbps that are booked of a flow at a second.
@@ -71,7 +84,7 @@ impl Calendar {
             flow,
             capacity,
         };
-        load(&self.bookings, &place, t)
+        load(&self.bookings, self.points.at(stp), &place, t)
     }
 
     /// The first second at which the other records leave too little of a flow for what a record asks.
@@ -94,8 +107,15 @@ impl Calendar {
             flow,
             capacity,
         };
-        let second = first_second(&self.bookings, number, &place, mbps, interval)?;
-        let load = load_of_others(&self.bookings, number, &place, second);
+        let demand = Demand {
+            number,
+            place,
+            interval,
+            mbps,
+        };
+        let numbers = self.points.at(stp);
+        let second = first_second(&self.bookings, numbers, &demand)?;
+        let load = load_of_others(&self.bookings, numbers, &demand, second);
         Some(Lack {
             stp,
             flow,
@@ -118,23 +138,24 @@ impl Calendar {
     ) -> Option<Lack>
         ensures { result ≡ first_lack self.now number source dest both_ways interval mbps }
     {
-        let wish = Wish {
-            number,
+        let slot = Slot {
             source,
             dest,
             both_ways,
             interval,
             mbps,
         };
+        let wish = Wish { number, slot };
         let at_source = self.lack_at_point(&wish, source);
         let at_dest = self.lack_at_point(&wish, dest);
         sooner(at_source, at_dest)
     }
 
     fn lack_at_point(&self, wish: &Wish, stp: StpNo) -> Option<Lack>
-        ensures { let w = wish.now in
-            let places = places_at self.now.capacities w.source w.dest w.both_ways stp in
-            result ≡ first_lack_among places (others w.number self.now.bookings) w.interval w.mbps }
+        ensures { let s = wish.now.slot in
+            let places = places_at self.now.capacities s.source s.dest s.both_ways stp in
+            let rest = others wish.now.number self.now.bookings in
+            result ≡ first_lack_among places rest s.interval s.mbps }
     {
         let both = self.lack_in_flow(wish, stp, Flow::Both);
         let inward = self.lack_in_flow(wish, stp, Flow::In);
@@ -143,15 +164,16 @@ impl Calendar {
     }
 
     fn lack_in_flow(&self, wish: &Wish, stp: StpNo, flow: Flow) -> Option<Lack>
-        ensures { let w = wish.now in
-            let place = booked_place self.now.capacities w.source w.dest w.both_ways stp flow in
-            result ≡ first_lack_among place (others w.number self.now.bookings) w.interval w.mbps }
+        ensures { let s = wish.now.slot in
+            let place = booked_place self.now.capacities s.source s.dest s.both_ways stp flow in
+            let rest = others wish.now.number self.now.bookings in
+            result ≡ first_lack_among place rest s.interval s.mbps }
     {
-        if !flow.is_booked(wish.both_ways, wish.source == stp, wish.dest == stp) {
+        if !books(&wish.slot, flow, stp) {
             return None;
         }
         capacity_of(self.capacities.items(), stp, flow)?;
-        self.check(stp, flow, wish.interval, wish.mbps, wish.number)
+        self.check(stp, flow, wish.slot.interval, wish.slot.mbps, wish.number)
     }
 
     /// Adds a pending slot of a record, in its booking or in a new one. Where memory is wanting, nothing is changed.
@@ -166,23 +188,29 @@ impl Calendar {
     ) -> Result<(), AllocError>
         requires fits { first_lack self.old number source dest both_ways interval mbps ≡ None }
         requires free { pending_of number self.old.bookings ≡ None }
-        requires same_ends { let booking = booking_of number self.old.bookings in
-            ForSome booking (IsBetween source dest both_ways) }
-        ensures ok { let bookings = with_pending number source dest both_ways
-            (record { interval = interval; mbps = mbps }) self.old.bookings in
+        ensures ok { let bookings = with_pending number (record {
+          source = source;
+          dest = dest;
+          both_ways = both_ways;
+          interval = interval;
+          mbps = mbps;
+        }) self.old.bookings in
             OnOk result (self.new ≡ record self.old { bookings = bookings }) }
         ensures err { OnErr result (self.new ≡ self.old) }
         ensures sound { IsSound self.new }
     {
-        let wish = Wish {
-            number,
+        let slot = Slot {
             source,
             dest,
             both_ways,
             interval,
             mbps,
         };
-        add_pending(&mut self.bookings, &wish)?;
+        self.points.add(source, number)?;
+        self.points.add(dest, number)?;
+        let wish = Wish { number, slot };
+        let booking = booking_with(&self.bookings, &wish);
+        self.bookings.put(&booking)?;
         Ok(())
     }
 
@@ -192,7 +220,9 @@ impl Calendar {
         ensures settled { self.new ≡ record self.old { bookings = settled number self.old.bookings } }
         ensures sound { IsSound self.new }
     {
-        settle(&mut self.bookings, number);
+        let former = self.bookings.committed_of(number);
+        self.bookings.settle(number);
+        forget(&mut self.points, &self.bookings, number, &former);
     }
 
     /// Takes the pending slot of a record away, where it has one. The booking stays.
@@ -200,7 +230,9 @@ impl Calendar {
         ensures taken { self.new ≡ record self.old { bookings = pending_set number None self.old.bookings } }
         ensures sound { IsSound self.new }
     {
-        set_pending(&mut self.bookings, number, &None);
+        let former = self.bookings.pending_of(number);
+        self.bookings.take_pending(number);
+        forget(&mut self.points, &self.bookings, number, &former);
     }
 
     /// Takes the booking of a record away, where it has one.
@@ -208,60 +240,23 @@ impl Calendar {
         ensures taken { self.new ≡ record self.old { bookings = others number self.old.bookings } }
         ensures sound { IsSound self.new }
     {
-        self.bookings.retain(|b| b.number != number);
+        let committed = self.bookings.committed_of(number);
+        let pending = self.bookings.pending_of(number);
+        self.bookings.take_all(number);
+        forget(&mut self.points, &self.bookings, number, &committed);
+        forget(&mut self.points, &self.bookings, number, &pending);
     }
 }
 
-fn booking_of(bookings: &[Booking], number: RecordNo) -> Option<&Booking>
-    ensures { option_copied result ≡ booking_of number bookings.now }
+/// The booking of a record with a slot more.
+fn booking_with(bookings: &Bookings, wish: &Wish) -> Booking
+    ensures { let committed = committed_of wish.now.number bookings.now in
+        result ≡ record { number = wish.now.number; committed = committed; pending = Some wish.now.slot } }
 {
-    bookings.iter().find(|b| b.number == number)
-}
-
-fn add_pending(bookings: &mut Vec<Booking>, wish: &Wish) -> Result<(), AllocError>
-    ensures ok { let w = wish.now in
-        let new = with_pending w.number w.source w.dest w.both_ways
-        (record { interval = w.interval; mbps = w.mbps }) bookings.old.items in
-        OnOk result (bookings.new.items ≡ new) }
-    ensures err { OnErr result (bookings.new.items ≡ bookings.old.items) }
-{
-    let pending = Some(Slot {
-        interval: wish.interval,
-        mbps: wish.mbps,
-    });
-    if booking_of(bookings, wish.number).is_some() {
-        set_pending(bookings, wish.number, &pending);
-        return Ok(());
-    }
-    bookings.push(Booking {
+    Booking {
         number: wish.number,
-        source: wish.source,
-        dest: wish.dest,
-        both_ways: wish.both_ways,
-        committed: None,
-        pending,
-    })?;
-    Ok(())
-}
-
-fn set_pending(bookings: &mut [Booking], number: RecordNo, slot: &Option<Slot>)
-    ensures { bookings.new ≡ pending_set number slot.now bookings.old }
-{
-    for b in bookings.iter_mut() {
-        if b.number == number {
-            b.pending = *slot;
-        }
-    }
-}
-
-fn settle(bookings: &mut [Booking], number: RecordNo)
-    ensures { bookings.new ≡ settled number bookings.old }
-{
-    for b in bookings.iter_mut() {
-        if b.number == number {
-            b.committed = b.pending;
-            b.pending = None;
-        }
+        committed: bookings.committed_of(wish.number),
+        pending: Some(wish.slot),
     }
 }
 

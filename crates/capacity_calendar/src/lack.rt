@@ -1,20 +1,24 @@
 //! The first second at which a place lacks bandwidth.
 
 ghost use Rattle.std.specs.Prelude.{◌≡◌, ℕ, ◌≤◌, ◌<◌, MatchOption};
-ghost use Rattle.capacity_calendar.specs.Load.{load, others};
+ghost use Rattle.capacity_calendar.specs.Kept.{IsListed};
+ghost use Rattle.capacity_calendar.specs.Load.{others};
 ghost use Rattle.capacity_calendar.specs.Lack.{is_lacking};
-ghost use Rattle.capacity_calendar.specs.Search.{StaysWithin, IsFirst, HasRoom, earlier, start_if, first_start, sooner};
+ghost use Rattle.capacity_calendar.specs.Plan.{booking_of};
+ghost use Rattle.capacity_calendar.specs.Search.{IsFirst, HasRoom, earlier, start_if, record_start, first_start, sooner};
 
-use crate::booking::{Booking, Lack, Place, Slot};
-use crate::load::load_of_others;
-use nsi_base::{Interval, Mbps, RecordNo, Second};
+use crate::booking::{Demand, Lack, Slot};
+use crate::bookings::Bookings;
+use crate::load::{load_of_others, other};
+use nsi_base::{RecordNo, Second};
 
-fn is_lacking(bookings: &[Booking], number: RecordNo, place: &Place, mbps: Mbps, t: Second) -> bool
-    requires { load place.now.flow place.now.stp t (others number bookings.now) ≤ place.now.capacity }
-    ensures { result ≡ is_lacking place.now (others number bookings.now) mbps t }
+fn is_lacking(bookings: &Bookings, numbers: &[RecordNo], demand: &Demand, t: Second) -> bool
+    requires { IsListed demand.now.place bookings.now numbers.now }
+    ensures { let rest = others demand.now.number bookings.now in
+        result ≡ is_lacking demand.now.place rest demand.now.mbps t }
 {
-    let capacity = place.capacity.get();
-    load_of_others(bookings, number, place, t) + mbps.get() > capacity
+    let capacity = demand.place.capacity.get();
+    load_of_others(bookings, numbers, demand, t) + demand.mbps.get() > capacity
 }
 
 fn earlier(first: Option<Second>, other: Option<Second>) -> Option<Second>
@@ -29,22 +33,21 @@ fn earlier(first: Option<Second>, other: Option<Second>) -> Option<Second>
 
 #[tactic(auto, unfolding(crate::specs::Search::start_if))]
 fn start_if(
-    bookings: &[Booking],
-    number: RecordNo,
-    place: &Place,
-    mbps: Mbps,
-    interval: Interval,
+    bookings: &Bookings,
+    numbers: &[RecordNo],
+    demand: &Demand,
     slot: &Option<Slot>,
 ) -> Option<Second>
-    requires { StaysWithin place.now (others number bookings.now) }
-    ensures { result
-        ≡ start_if (is_lacking place.now (others number bookings.now) mbps) interval slot.now }
+    requires { IsListed demand.now.place bookings.now numbers.now }
+    ensures { let rest = others demand.now.number bookings.now in
+        let lacks = is_lacking demand.now.place rest demand.now.mbps in
+        result ≡ start_if lacks demand.now.interval slot.now }
 {
     match slot {
         None => None,
         Some(slot) => {
             let start = slot.interval.start();
-            if interval.covers(start) && is_lacking(bookings, number, place, mbps, start) {
+            if demand.interval.covers(start) && is_lacking(bookings, numbers, demand, start) {
                 Some(start)
             } else {
                 None
@@ -53,45 +56,55 @@ fn start_if(
     }
 }
 
-#[tactic(auto, unfolding(crate::specs::Search::first_start))]
-fn first_start(
-    bookings: &[Booking],
-    number: RecordNo,
-    place: &Place,
-    mbps: Mbps,
-    interval: Interval,
+fn record_start(
+    bookings: &Bookings,
+    numbers: &[RecordNo],
+    demand: &Demand,
+    n: RecordNo,
 ) -> Option<Second>
-    requires { StaysWithin place.now (others number bookings.now) }
-    ensures { let lacks = is_lacking place.now (others number bookings.now) mbps in
-        result ≡ first_start lacks interval bookings.now }
+    requires { IsListed demand.now.place bookings.now numbers.now }
+    ensures { let rest = others demand.now.number bookings.now in
+        let lacks = is_lacking demand.now.place rest demand.now.mbps in
+        result ≡ record_start lacks demand.now.interval (booking_of n rest) }
+{
+    let booking = other(bookings, demand.number, n)?;
+    let committed = start_if(bookings, numbers, demand, &booking.committed);
+    let pending = start_if(bookings, numbers, demand, &booking.pending);
+    earlier(committed, pending)
+}
+
+#[tactic(auto, unfolding(crate::specs::Search::first_start))]
+fn first_start(bookings: &Bookings, numbers: &[RecordNo], demand: &Demand) -> Option<Second>
+    requires { IsListed demand.now.place bookings.now numbers.now }
+    ensures { let rest = others demand.now.number bookings.now in
+        let lacks = is_lacking demand.now.place rest demand.now.mbps in
+        result ≡ first_start lacks demand.now.interval rest numbers.now }
 {
     let mut first = None;
-    for b in bookings {
-        let committed = start_if(bookings, number, place, mbps, interval, &b.committed);
-        let pending = start_if(bookings, number, place, mbps, interval, &b.pending);
-        first = earlier(first, earlier(committed, pending));
+    for n in numbers {
+        first = earlier(first, record_start(bookings, numbers, demand, *n));
     }
     first
 }
 
-/// The first second of the interval at which the bookings of the other records leave too little.
+/// The first second of the interval at which the bookings of the other records leave too little, where these
+/// records book.
 pub(crate) fn first_second(
-    bookings: &[Booking],
-    number: RecordNo,
-    place: &Place,
-    mbps: Mbps,
-    interval: Interval,
+    bookings: &Bookings,
+    numbers: &[RecordNo],
+    demand: &Demand,
 ) -> Option<Second>
-    requires { StaysWithin place.now (others number bookings.now) }
-    ensures ordered { interval.start < interval.end }
-    ensures first { let lacks = is_lacking place.now (others number bookings.now) mbps in
-        MatchOption result (HasRoom lacks interval) (λ t. IsFirst lacks interval t) }
+    requires { IsListed demand.now.place bookings.now numbers.now }
+    ensures ordered { demand.now.interval.start < demand.now.interval.end }
+    ensures first { let rest = others demand.now.number bookings.now in
+        let lacks = is_lacking demand.now.place rest demand.now.mbps in
+        MatchOption result (HasRoom lacks demand.now.interval) (λ t. IsFirst lacks demand.now.interval t) }
 {
-    let start = interval.start();
-    if is_lacking(bookings, number, place, mbps, start) {
+    let start = demand.interval.start();
+    if is_lacking(bookings, numbers, demand, start) {
         return Some(start);
     }
-    first_start(bookings, number, place, mbps, interval)
+    first_start(bookings, numbers, demand)
 }
 
 /// The lack at the lesser second, the first where both are at the same.

@@ -2,11 +2,13 @@
 #![tactic(auto)]
 
 pub mod booking;
+mod bookings;
 mod calendar;
 mod lack;
 mod load;
+mod points;
 #[cfg(test)]
 mod tests;
 
-pub use booking::{Booking, Capacity, Lack, Slot};
+pub use booking::{Booking, Capacity, Lack, Place, Slot};
 pub use calendar::Calendar;

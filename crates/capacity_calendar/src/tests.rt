@@ -1,8 +1,7 @@
 //! Bookings with their loads and lacks, worked by hand.
 
 ghost use Rattle.std.specs.Prelude.{◌≡◌, IsTrue, None};
-ghost use Rattle.std.specs.Option.{ForSome};
-ghost use Rattle.capacity_calendar.specs.Plan.{IsBetween, booking_of, pending_of};
+ghost use Rattle.capacity_calendar.specs.Plan.{pending_of};
 
 use crate::{Booking, Calendar, Capacity, Lack};
 use nsi_base::{Flow, Interval, List, Mbps, RecordNo, Second, StpNo};
@@ -53,22 +52,12 @@ fn calendar(alloc: Global, capacities: &[(u16, Flow, u64)]) -> Result<Calendar, 
     Ok(Calendar::new(alloc, list)?)
 }
 
-fn may_put(
-    calendar: &Calendar,
-    number: RecordNo,
-    source: StpNo,
-    dest: StpNo,
-    both_ways: bool,
-) -> bool
-    ensures free { IsTrue result → pending_of number calendar.now.bookings ≡ None }
-    ensures same_ends { IsTrue result
-        → ForSome (booking_of number calendar.now.bookings) (IsBetween source dest both_ways) }
+fn may_put(calendar: &Calendar, number: RecordNo) -> bool
+    ensures { IsTrue result → pending_of number calendar.now.bookings ≡ None }
 {
     match calendar.booking(number) {
         None => true,
-        Some(b) => {
-            b.pending.is_none() && b.source == source && b.dest == dest && b.both_ways == both_ways
-        }
+        Some(b) => b.pending.is_none(),
     }
 }
 
@@ -92,7 +81,7 @@ fn book(calendar: &mut Calendar, ask: Ask) -> Result<Option<Lacking>, Fail> {
     let dest = stp_no(ask.dest)?;
     let interval = interval(ask.start, ask.end)?;
     let mbps = mbps(ask.mbps)?;
-    if !may_put(calendar, number, source, dest, ask.both_ways) {
+    if !may_put(calendar, number) {
         return Err(Fail::from("booked already"));
     }
     match calendar.first_lack(number, source, dest, ask.both_ways, interval, mbps) {
@@ -261,4 +250,82 @@ fn checks_one_flow(rt: HostRuntime) -> Result<(), Fail> {
     };
     assert_eq!(rt; found.map(numbers), Some((0, Flow::Out, 100, 300, 400)));
     Ok(())
+}
+
+const THREE: [(u16, Flow, u64); 3] = [
+    (0, Flow::Both, 1000),
+    (1, Flow::Both, 1000),
+    (2, Flow::Both, 1000),
+];
+
+fn between(source: u16, dest: u16, ask: Ask) -> Ask {
+    Ask {
+        source,
+        dest,
+        ..ask
+    }
+}
+
+#[test]
+fn each_slot_keeps_its_points(rt: HostRuntime) -> Result<(), Fail> {
+    let mut calendar = calendar(rt.alloc(), &THREE)?;
+    let number = record_no(0)?;
+    book(&mut calendar, asked(0, 600, 100, 200))?;
+    settle(&mut calendar, number)?;
+    book(&mut calendar, between(1, 2, asked(0, 300, 100, 400)))?;
+    let held = [
+        (0, Flow::Both, 150, 600),
+        (1, Flow::Both, 150, 600),
+        (1, Flow::Both, 250, 300),
+        (2, Flow::Both, 150, 300),
+    ];
+    expect_loads(&rt, &calendar, &held)?;
+    let beside = between(0, 2, asked(1, 500, 150, 160));
+    let lacks = Some((0, Flow::Both, 150, 600, 1000));
+    expect_answers(&rt, &mut calendar, &[(beside, lacks)])?;
+    settle(&mut calendar, number)?;
+    let settled = [
+        (0, Flow::Both, 150, 0),
+        (1, Flow::Both, 150, 300),
+        (2, Flow::Both, 150, 300),
+    ];
+    expect_loads(&rt, &calendar, &settled)
+}
+
+#[test]
+fn takes_what_another_holds(rt: HostRuntime) -> Result<(), Fail> {
+    let mut calendar = calendar(rt.alloc(), &THREE)?;
+    let other = record_no(1)?;
+    let rows = [
+        (between(1, 2, asked(0, 300, 100, 400)), None),
+        (between(0, 2, asked(1, 700, 150, 160)), None),
+    ];
+    expect_answers(&rt, &mut calendar, &rows)?;
+    expect_loads(&rt, &calendar, &[(2, Flow::Both, 150, 1000)])?;
+    calendar.take_pending(other);
+    let taken = [
+        (0, Flow::Both, 150, 0),
+        (1, Flow::Both, 150, 300),
+        (2, Flow::Both, 150, 300),
+    ];
+    expect_loads(&rt, &calendar, &taken)
+}
+
+#[test]
+fn takes_records_in_any_order(rt: HostRuntime) -> Result<(), Fail> {
+    let mut calendar = calendar(rt.alloc(), &SHARED)?;
+    let later = record_no(7)?;
+    let rows = [
+        (asked(7, 300, 100, 200), None),
+        (asked(2, 600, 150, 300), None),
+        (
+            asked(9, 200, 150, 160),
+            Some((0, Flow::Both, 150, 900, 1000)),
+        ),
+    ];
+    expect_answers(&rt, &mut calendar, &rows)?;
+    calendar.take_all(later);
+    expect_answers(&rt, &mut calendar, &[(asked(9, 200, 150, 160), None)])?;
+    let loads = [(0, Flow::Both, 120, 0), (1, Flow::Both, 150, 800)];
+    expect_loads(&rt, &calendar, &loads)
 }

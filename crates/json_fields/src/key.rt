@@ -20,7 +20,10 @@ pub enum Key {
     GlobalReservationId,
     Kind,
     Load,
+    NotificationId,
     NsaId,
+    OriginatingConnectionId,
+    OriginatingNsa,
     ProviderNsa,
     RequesterNsa,
     Second,
@@ -28,6 +31,8 @@ pub enum Key {
     StartTime,
     Stp,
     SymmetricPath,
+    TimeStamp,
+    TimeoutValue,
     Version,
 }
 
@@ -55,7 +60,10 @@ impl Key {
             Key::GlobalReservationId => "globalReservationId",
             Key::Kind => "kind",
             Key::Load => "load",
+            Key::NotificationId => "notificationId",
             Key::NsaId => "nsaId",
+            Key::OriginatingConnectionId => "originatingConnectionId",
+            Key::OriginatingNsa => "originatingNSA",
             Key::ProviderNsa => "providerNSA",
             Key::RequesterNsa => "requesterNSA",
             Key::Second => "second",
@@ -63,6 +71,8 @@ impl Key {
             Key::StartTime => "startTime",
             Key::Stp => "stp",
             Key::SymmetricPath => "symmetricPath",
+            Key::TimeStamp => "timeStamp",
+            Key::TimeoutValue => "timeoutValue",
             Key::Version => "version",
         }
     }

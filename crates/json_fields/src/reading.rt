@@ -164,6 +164,30 @@ pub fn required_name(alloc: Global, value: &Value, key: Key) -> Result<Name, Lin
 }
 
 #[tactic(auto, unfolding(crate::specs::Fields::optional))]
+pub fn optional_id(value: &Value, key: Key) -> Result<Option<Id>, LineFault>
+    ensures { Gives result (optional id_from key (view value.now)) }
+{
+    match at(value, key) {
+        None => Ok(None),
+        Some(found) => match id_from(found) {
+            Some(id) => Ok(Some(id)),
+            None => Err(LineFault::Bad(key)),
+        },
+    }
+}
+
+#[tactic(auto, unfolding(crate::specs::Fields::optional))]
+pub fn optional_name(alloc: Global, value: &Value, key: Key) -> Result<Option<Name>, LineFault>
+    ensures { Gives result (optional name_from key (view value.now)) }
+{
+    let Some(found) = at(value, key) else {
+        return Ok(None);
+    };
+    let name = name_from(alloc, found, key)?;
+    Ok(Some(name))
+}
+
+#[tactic(auto, unfolding(crate::specs::Fields::optional))]
 pub fn optional_version(value: &Value, key: Key) -> Result<Option<Version>, LineFault>
     ensures { Gives result (optional version_from key (view value.now)) }
 {

@@ -10,6 +10,7 @@ use Rattle.nsi_primitive.specs.declared.kind.ErrorName.{ErrorName}
 use Rattle.nsi_primitive.specs.declared.message.Header.{Header}
 use Rattle.nsi_primitive.specs.declared.message.ReserveRequest.{ReserveRequest}
 use Rattle.nsi_primitive.specs.declared.message.ReserveConfirmation.{ReserveConfirmation}
+use Rattle.nsi_primitive.specs.declared.message.HoldTimeout.{HoldTimeout}
 use Rattle.nsi_primitive.specs.declared.message.Cause.{Cause}
 use Rattle.nsi_primitive.specs.declared.message.Exception.{Exception}
 use Rattle.nsi_primitive.specs.declared.message.Body.{Body}
@@ -88,13 +89,34 @@ cause_fields (Cause.Child child error) =
 abbrev pub exception_fields : Exception → List Field
 exception_fields e = (Key.NsaId, Some (words e.nsa)) ∷ cause_fields e.cause
 
+-- the connection, and why it was refused
+abbrev pub refusal_fields : ℕ → Exception → List Field
+refusal_fields connection e = (Key.ConnectionId, Some (id_scalar connection)) ∷ exception_fields e
+
+-- what a reserveTimeout has besides
+abbrev pub timeout_fields : HoldTimeout → List Field
+timeout_fields t =
+    (Key.ConnectionId, Some (id_scalar t.connection))
+    ∷ (Key.NotificationId, Some (digits t.notification))
+    ∷ (Key.OriginatingConnectionId, Some (id_scalar t.originating_connection))
+    ∷ (Key.OriginatingNsa, Some (words t.originating_nsa))
+    ∷ (Key.TimeStamp, Some (digits t.time))
+    ∷ (Key.TimeoutValue, Some (digits t.value))
+    ∷ []
+
 -- what a line of its kind has besides the header
 abbrev pub body_fields : Body → List Field
 body_fields (Body.Reserve r) = reserve_fields r
 body_fields (Body.ReserveResponse connection) = connection_fields connection
 body_fields (Body.ReserveConfirmed r) = confirmation_fields r
-body_fields (Body.ReserveFailed connection e) = connection_fields connection ++ exception_fields e
+body_fields (Body.ReserveFailed connection e) = refusal_fields connection e
+body_fields (Body.ReserveCommit connection) = connection_fields connection
+body_fields (Body.ReserveCommitConfirmed connection) = connection_fields connection
+body_fields (Body.ReserveCommitFailed connection e) = refusal_fields connection e
+body_fields (Body.ReserveAbort connection) = connection_fields connection
+body_fields (Body.ReserveAbortConfirmed connection) = connection_fields connection
 body_fields (Body.Error connection e) = (Key.ConnectionId, option_map id_scalar connection) ∷ exception_fields e
+body_fields (Body.ReserveTimeout t) = timeout_fields t
 
 -- all keys of a message's line, each with what stands there, if anything
 abbrev pub fields_of : Message → List Field

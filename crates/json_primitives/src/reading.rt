@@ -2,16 +2,16 @@
 
 ghost use Rattle.std.specs.Prelude.{◌≡◌, IfOk, Some};
 ghost use Rattle.serde_json.specs.View.{view};
-ghost use Rattle.nsi_primitive.specs.Printable.{IsPrintable, IsFirstReserve};
+ghost use Rattle.nsi_primitive.specs.Printable.{IsPrintable, IsRequest};
 ghost use Rattle.json_fields.specs.Faults.{Gives};
-ghost use Rattle.json_primitives.specs.Lines.{line_of, object_of, message_from, of_kind, first_reserve, reserve_from, is_kind};
+ghost use Rattle.json_primitives.specs.Lines.{line_of, object_of, message_from, of_text, of_kind};
 
-use json_fields::reading::{
-    at, optional_directionality, optional_empty_list, optional_flag, optional_text,
-    optional_version, read_json, required_capacity, required_id, required_name, required_second,
-};
+mod requests;
+
+use json_fields::reading::{at, read_json};
 use json_fields::{Key, LineFault};
-use nsi_primitive::{Body, Header, Kind, Message, ReserveRequest};
+use nsi_primitive::{Kind, Message};
+use requests::{abort_from, commit_from, reserve_from};
 use serde_json::Value;
 use std::alloc::Global;
 
@@ -22,7 +22,7 @@ const LONGEST_LINE: usize = 65_536;
 pub fn read_line(alloc: Global, bytes: &[u8]) -> Result<Message, LineFault>
     ensures gives { Gives result (line_of bytes.now) }
     ensures printable { IfOk result IsPrintable }
-    ensures first { IfOk result IsFirstReserve }
+    ensures request { IfOk result IsRequest }
 {
     if bytes.len() > LONGEST_LINE {
         return Err(LineFault::TooLong);
@@ -35,7 +35,7 @@ pub fn read_line(alloc: Global, bytes: &[u8]) -> Result<Message, LineFault>
 pub fn read_object(alloc: Global, bytes: &[u8]) -> Result<Message, LineFault>
     ensures gives { Gives result (object_of bytes.now) }
     ensures printable { IfOk result IsPrintable }
-    ensures first { IfOk result IsFirstReserve }
+    ensures request { IfOk result IsRequest }
 {
     match read_json(alloc, bytes) {
         Ok(value) => message_from(alloc, &value),
@@ -46,7 +46,7 @@ pub fn read_object(alloc: Global, bytes: &[u8]) -> Result<Message, LineFault>
 fn message_from(alloc: Global, value: &Value) -> Result<Message, LineFault>
     ensures gives { Gives result (message_from (view value.now)) }
     ensures printable { IfOk result IsPrintable }
-    ensures first { IfOk result IsFirstReserve }
+    ensures request { IfOk result IsRequest }
 {
     if !value.is_object() {
         return Err(LineFault::NotObject);
@@ -56,81 +56,31 @@ fn message_from(alloc: Global, value: &Value) -> Result<Message, LineFault>
     };
     match kind.as_str() {
         None => Err(LineFault::Bad(Key::Kind)),
-        Some(name) => of_kind(alloc, value, name.as_bytes()),
+        Some(name) => of_name(alloc, value, name.as_bytes()),
     }
 }
 
-fn is_kind(name: &[u8]) -> bool
-    ensures { result ≡ is_kind name.now }
-{
-    Kind::named(name).is_some() || name == b"ack".as_slice()
-}
-
-fn of_kind(alloc: Global, value: &Value, kind: &[u8]) -> Result<Message, LineFault>
-    ensures gives { Gives result (of_kind (view value.now) (Some kind.now)) }
+fn of_name(alloc: Global, value: &Value, name: &[u8]) -> Result<Message, LineFault>
+    ensures gives { Gives result (of_text (view value.now) (Some name.now)) }
     ensures printable { IfOk result IsPrintable }
-    ensures first { IfOk result IsFirstReserve }
+    ensures request { IfOk result IsRequest }
 {
-    if kind == Kind::Reserve.name().as_bytes() {
-        first_reserve(alloc, value)
-    } else if is_kind(kind) {
-        Err(LineFault::Unbuilt)
-    } else {
-        Err(LineFault::Bad(Key::Kind))
+    match Kind::named(name) {
+        Some(kind) => of_kind(alloc, value, kind),
+        None if name == b"ack".as_slice() => Err(LineFault::Unbuilt),
+        None => Err(LineFault::Bad(Key::Kind)),
     }
 }
 
-fn first_reserve(alloc: Global, value: &Value) -> Result<Message, LineFault>
-    ensures gives { Gives result (first_reserve (view value.now)) }
+fn of_kind(alloc: Global, value: &Value, kind: Kind) -> Result<Message, LineFault>
+    ensures gives { Gives result (of_kind (view value.now) kind) }
     ensures printable { IfOk result IsPrintable }
-    ensures first { IfOk result IsFirstReserve }
+    ensures request { IfOk result IsRequest }
 {
-    if at(value, Key::ConnectionId).is_some() {
-        return Err(LineFault::Unbuilt);
+    match kind {
+        Kind::Reserve => reserve_from(alloc, value),
+        Kind::ReserveCommit => commit_from(alloc, value),
+        Kind::ReserveAbort => abort_from(alloc, value),
+        _ => Err(LineFault::Unbuilt),
     }
-    reserve_from(alloc, value)
-}
-
-#[tactic(auto, unfolding(crate::specs::Lines::reserve_from))]
-fn reserve_from(alloc: Global, value: &Value) -> Result<Message, LineFault>
-    ensures gives { Gives result (reserve_from (view value.now)) }
-    ensures printable { IfOk result IsPrintable }
-    ensures first { IfOk result IsFirstReserve }
-{
-    let capacity = required_capacity(value, Key::Capacity)?;
-    let correlation = required_id(value, Key::CorrelationId)?;
-    let description = optional_text(alloc, value, Key::Description, 256)?;
-    let dest = required_name(alloc, value, Key::DestStp)?;
-    let directionality = optional_directionality(value, Key::Directionality)?;
-    let end = required_second(value, Key::EndTime)?;
-    let _ero = optional_empty_list(value, Key::Ero)?;
-    let global = optional_text(alloc, value, Key::GlobalReservationId, 128)?;
-    let provider = required_name(alloc, value, Key::ProviderNsa)?;
-    let requester = required_name(alloc, value, Key::RequesterNsa)?;
-    let source = required_name(alloc, value, Key::SourceStp)?;
-    let start = required_second(value, Key::StartTime)?;
-    let symmetric = optional_flag(value, Key::SymmetricPath)?;
-    let version = optional_version(value, Key::Version)?;
-    if source.is(&dest) {
-        return Err(LineFault::Bad(Key::DestStp));
-    }
-    let body = Body::Reserve(ReserveRequest {
-        capacity,
-        connection: None,
-        description,
-        dest: Some(dest),
-        directionality,
-        end,
-        global,
-        source: Some(source),
-        start,
-        symmetric,
-        version,
-    });
-    let header = Header {
-        correlation,
-        requester,
-        provider,
-    };
-    Ok(Message { header, body })
 }

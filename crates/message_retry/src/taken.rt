@@ -1,36 +1,34 @@
 //! The requests that were taken.
 
-ghost use Rattle.std.specs.Prelude.{◌≡◌, [], IfOk, OnOk, OnErr, not};
+ghost use Rattle.std.specs.Prelude.{◌≡◌, [], ◌∷◌, ◌++◌, IfOk, OnOk, OnErr, not};
+ghost use Rattle.std.specs.Prelude.{List as Sequence};
 ghost use Rattle.nsi_primitive.specs.declared.message.Header.{Header};
 ghost use Rattle.message_retry.specs.Taken.{is_taken, with_taken};
 
+use crate::exchange::Exchange;
+use crate::names::Names;
 use indexmap::IndexSet;
 use nsi_primitive::Header;
 use std::alloc::{AllocError, Global};
 use std::marker::Model;
 
-/// By which a request is known.
-#[derive(Debug, PartialEq, Eq, Hash, Drop)]
-struct Exchange {
-    requester: String,
-    provider: String,
-    correlation: u128,
-}
-
 /// The requests that an agent has taken, in order.
 #[derive(Drop)]
 pub struct TakenRequests {
+    names: Names,
     exchanges: IndexSet<Exchange>,
 }
 
 impl Model for TakenRequests {
-    ghost use Rattle.std.specs.Prelude.{List};
+    ghost use Rattle.std.specs.Prelude.{List, All};
     ghost use Rattle.nsi_primitive.specs.declared.message.Header.{Header};
-    ghost use Rattle.message_retry.specs.Exchanges.{headers};
+    ghost use Rattle.message_retry.specs.Exchanges.{headers, IsPlaced};
 
     ghost Value = { List Header };
 
-    ghost view = { λ t. headers t.exchanges.keys };
+    ghost view = { λ t. headers t.names t.exchanges.keys };
+
+    ghost invariant = { λ t. All (IsPlaced t.names) t.exchanges.keys };
 }
 
 impl TakenRequests {
@@ -38,6 +36,7 @@ impl TakenRequests {
         ensures { result ≡ [] }
     {
         TakenRequests {
+            names: Names::new(alloc),
             exchanges: IndexSet::new(alloc),
         }
     }
@@ -48,12 +47,25 @@ impl TakenRequests {
         ensures taken { OnOk result (self.new ≡ with_taken header.now self.old) }
         ensures err { OnErr result (self.new ≡ self.old) }
     {
-        let exchange = Exchange {
-            requester: String::from_str(alloc, header.requester.as_str())?,
-            provider: String::from_str(alloc, header.provider.as_str())?,
-            correlation: header.correlation.number(),
-        };
-        let (_, is_new) = self.exchanges.insert_full(exchange)?;
+        let exchange = Exchange::noted(&mut self.names, alloc, header)?;
+        let is_new = self.exchanges.insert(exchange)?;
         Ok(is_new)
+    }
+
+    /// Whether a request was taken. It takes no memory.
+    pub fn has(&self, header: &Header) -> bool
+        ensures { result ≡ is_taken header.now self.now }
+    {
+        match Exchange::known(&self.names, header) {
+            Some(exchange) => self.exchanges.contains(&exchange),
+            None => false,
+        }
+    }
+
+    /// Takes the last one back. It takes no memory.
+    pub fn take_back(&mut self)
+        ensures { (headers : Sequence Header) (h : Header) → self.old ≡ headers ++ h ∷ [] → self.new ≡ headers }
+    {
+        let _last = self.exchanges.pop();
     }
 }

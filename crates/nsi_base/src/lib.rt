@@ -12,7 +12,7 @@ pub mod text;
 pub use flow::Flow;
 pub use interval::Interval;
 pub use list::List;
-pub use number::{AgentNo, Mbps, RecordNo, Second, StpNo, Version};
+pub use number::{AgentNo, HoldTime, Mbps, RecordNo, Second, StpNo, Version};
 pub use text::{Name, NameFault, Text, TextFault, is_name};
 
 #[cfg(test)]

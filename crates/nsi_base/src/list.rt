@@ -1,6 +1,7 @@
 //! A list that contracts see as one.
 
 ghost use Rattle.std.specs.Prelude.{◌≡◌, [], ◌∷◌, ◌++◌, OnOk, OnErr};
+ghost use Rattle.std.specs.Prelude.{List as Sequence};
 
 use std::alloc::{AllocError, Global};
 use std::marker::Model;
@@ -42,6 +43,15 @@ impl<T> List<T> {
     {
         self.items.push(item)?;
         Ok(())
+    }
+
+    /// Takes back what was pushed last. It takes no memory.
+    pub fn take_back(&mut self)
+    where
+        T: Drop,
+        ensures { (xs : Sequence T) (x : T) → self.old ≡ xs ++ x ∷ [] → self.new ≡ xs }
+    {
+        let _ = self.items.pop();
     }
 
     pub fn items(&self) -> &[T]

@@ -24,6 +24,13 @@ impl Model for Second {
 }
 
 impl Second {
+    /// The second at which every clock begins.
+    pub fn first() -> Self
+        ensures { result ≡ 0 }
+    {
+        Second { value: 0 }
+    }
+
     /// The last second. An interval ends here at the latest.
     pub const MAX: u64 = 253_370_764_799;
 
@@ -247,6 +254,47 @@ impl RecordNo {
 
     pub fn get(self) -> u32
         ensures value { result ≡ self }
+        ensures in_range { self ≤ Self.MAX }
+    {
+        self.value
+    }
+}
+
+/// For how many seconds a provider holds what it reserved until it is committed (GFD.237, the reservation hold timeout).
+#[derive(Clone, Copy, Debug, PartialEq, Eq, PartialOrd, Ord)]
+pub struct HoldTime {
+    value: u32,
+}
+
+impl Model for HoldTime {
+    ghost use Rattle.std.specs.Prelude.{ℕ, ◌≤◌};
+
+    ghost Value = { ℕ };
+
+    ghost view = { λ n. n.value };
+
+    ghost invariant = { λ n. (1 ≤ n.value) × (n.value ≤ 86400) };
+
+    ghost inverse = { λ n. record { value = n } };
+}
+
+impl HoldTime {
+    /// A day.
+    pub const MAX: u32 = 86_400;
+
+    pub fn new(n: u32) -> Option<Self>
+        ensures { result ≡ within 1 Self.MAX n }
+    {
+        if 1 <= n && n <= Self::MAX {
+            Some(HoldTime { value: n })
+        } else {
+            None
+        }
+    }
+
+    pub fn get(self) -> u32
+        ensures value { result ≡ self }
+        ensures positive { 1 ≤ self }
         ensures in_range { self ≤ Self.MAX }
     {
         self.value

@@ -3,8 +3,8 @@
 use crate::digits::number_of;
 use crate::line::{feed_at, without_return};
 use crate::{
-    AgentNo, Flow, Interval, Mbps, Name, NameFault, RecordNo, Second, StpNo, Text, TextFault,
-    Version,
+    AgentNo, Flow, HoldTime, Interval, Mbps, Name, NameFault, RecordNo, Second, StpNo, Text,
+    TextFault, Version,
 };
 use std::test::Fail;
 
@@ -31,6 +31,9 @@ fn numbers_end_with_their_ranges(rt: HostRuntime) {
             (is_version, is_record),
             "at {n}"
         );
+    }
+    for (n, is_hold) in [(0, false), (1, true), (86_400, true), (86_401, false)] {
+        assert_eq!(rt; HoldTime::new(n).is_some(), is_hold, "at {n}");
     }
     for (n, is_agent, is_point) in [(63, true, true), (64, false, true), (4_096, false, false)] {
         assert_eq!(rt;

@@ -1,4 +1,6 @@
 -- Messages: their kinds and identities.
+use Rattle.std.specs.Prelude.{ℕ, Bool, Option, Some, None}
+use Rattle.nsi_primitive.specs.Kinds.{is_request_kind}
 use Rattle.nsi_primitive.specs.declared.kind.Kind.{Kind}
 use Rattle.nsi_primitive.specs.declared.message.Body.{Body}
 use Rattle.nsi_primitive.specs.declared.message.Identity.{Identity}
@@ -10,7 +12,24 @@ kind_of (Body.Reserve _) = Kind.Reserve
 kind_of (Body.ReserveResponse _) = Kind.ReserveResponse
 kind_of (Body.ReserveConfirmed _) = Kind.ReserveConfirmed
 kind_of (Body.ReserveFailed _ _) = Kind.ReserveFailed
+kind_of (Body.ReserveCommit _) = Kind.ReserveCommit
+kind_of (Body.ReserveCommitConfirmed _) = Kind.ReserveCommitConfirmed
+kind_of (Body.ReserveCommitFailed _ _) = Kind.ReserveCommitFailed
+kind_of (Body.ReserveAbort _) = Kind.ReserveAbort
+kind_of (Body.ReserveAbortConfirmed _) = Kind.ReserveAbortConfirmed
 kind_of (Body.Error _ _) = Kind.Error
+kind_of (Body.ReserveTimeout _) = Kind.ReserveTimeout
+
+-- whether it asks for something
+abbrev pub is_request : Body → Bool
+is_request body = is_request_kind (kind_of body)
+
+-- the connection that a request is about, where it names one
+unfoldable pub connection_of : Body → Option ℕ
+connection_of (Body.Reserve r) = r.connection
+connection_of (Body.ReserveCommit connection) = Some connection
+connection_of (Body.ReserveAbort connection) = Some connection
+connection_of _ = None
 
 -- the two agents, the correlation and the kind
 abbrev pub identity : Message → Identity

@@ -1,6 +1,7 @@
 -- Which messages have a spelling as a line.
 use Rattle.std.specs.Prelude.{◌≡◌, ◌≤◌, ℕ, List, Bool, true, false, length, Option, None, IfSome, IfNone, IsSome}
 use Rattle.std.specs.Str.{bytes_eq}
+use Rattle.nsi_primitive.specs.Messages.{is_request}
 use Rattle.nsi_primitive.specs.declared.kind.ErrorName.{ErrorName}
 use Rattle.nsi_primitive.specs.declared.message.Cause.{Cause}
 use Rattle.nsi_primitive.specs.declared.message.ReserveRequest.{ReserveRequest}
@@ -39,11 +40,21 @@ IsPrintableBody (Body.Reserve r) = IsPrintableReserve r
 IsPrintableBody (Body.ReserveResponse connection) = Unit {0}
 IsPrintableBody (Body.ReserveConfirmed r) = IsShort 256 r.description × IsShort 128 r.global
 IsPrintableBody (Body.ReserveFailed connection exception) = IsPrintableCause exception.cause
+IsPrintableBody (Body.ReserveCommit connection) = Unit {0}
+IsPrintableBody (Body.ReserveCommitConfirmed connection) = Unit {0}
+IsPrintableBody (Body.ReserveCommitFailed connection exception) = IsPrintableCause exception.cause
+IsPrintableBody (Body.ReserveAbort connection) = Unit {0}
+IsPrintableBody (Body.ReserveAbortConfirmed connection) = Unit {0}
 IsPrintableBody (Body.Error connection exception) = IsPrintableCause exception.cause
+IsPrintableBody (Body.ReserveTimeout t) = Unit {0}
 
 -- what the types of a message leave open, so that it can be written and read again
 abbrev pub IsPrintable : Message → Type 0
 IsPrintable m = IsPrintableBody m.body
+
+-- a request that is read from a line
+abbrev pub IsRequest : Message → Type 0
+IsRequest m = is_request m.body ≡ true
 
 -- a reserve that names both points and no connection
 abbrev pub IsFirstRequest : ReserveRequest → Type 0

@@ -25,6 +25,13 @@ impl Model for Id {
 }
 
 impl Id {
+    /// The id that is nobody's (RFC 9562, section 5.9).
+    pub fn nil() -> Id
+        ensures { result ≡ 0 }
+    {
+        Id { value: 0 }
+    }
+
     /// The id as a number, of which the first byte of the UUID is the highest.
     pub fn number(self) -> u128
         ensures { result ≡ self }

@@ -1,16 +1,20 @@
 //! The primitives of the Connection Service as plain data, and the ids that they carry.
 #![tactic(auto)]
 
+pub mod entry;
 pub mod id;
 pub mod kind;
 pub mod message;
+pub mod state;
 
+pub use entry::{Entry, Input};
 pub use id::{Id, IdFault, agent_and_n, id_of, print_id, read_id};
 pub use kind::{Directionality, ErrorName, Kind};
 pub use message::{
-    Body, Cause, Criteria, Exception, Header, Identity, Message, ReserveConfirmation,
-    ReserveRequest, Service,
+    Body, Cause, Criteria, Exception, Header, HoldTimeout, Identity, Message, Notice, Outcome,
+    ReserveConfirmation, ReserveRequest, Service,
 };
+pub use state::{Lsm, Machine, Psm, Rsm};
 
 #[cfg(test)]
 mod tests;

@@ -1,11 +1,11 @@
 //! Messages: a header and a body (GFD.237, section 8).
 
 ghost use Rattle.std.specs.Prelude.{◌≡◌, IfOk};
-ghost use Rattle.nsi_primitive.specs.Messages.{kind_of, identity};
+ghost use Rattle.nsi_primitive.specs.Messages.{kind_of, is_request, connection_of, identity};
 
 use crate::id::Id;
 use crate::kind::{Directionality, ErrorName, Kind};
-use nsi_base::{Flow, Interval, Mbps, Name, Second, Text, Version};
+use nsi_base::{Flow, HoldTime, Interval, Mbps, Name, Second, Text, Version};
 use std::alloc::AllocError;
 
 /// Who asks whom, and under which correlationId. An answer has the header of its request.
@@ -26,6 +26,24 @@ impl Header {
             provider: self.provider.copy()?,
         })
     }
+}
+
+/// A notification that was sent of a connection (GFD.237, queryNotification): its number, counted from 1, and when.
+#[derive(Clone, Copy, Debug, PartialEq, Eq)]
+pub struct Notice {
+    pub number: u64,
+    pub kind: Kind,
+    pub correlation: Id,
+    pub second: Second,
+}
+
+/// A request that was answered (GFD.237, queryResult): its number, counted from 1, by what, and when.
+#[derive(Clone, Copy, Debug, PartialEq, Eq)]
+pub struct Outcome {
+    pub number: u64,
+    pub kind: Kind,
+    pub correlation: Id,
+    pub second: Second,
 }
 
 /// When, and how much, under which version.
@@ -106,6 +124,17 @@ pub struct ReserveConfirmation {
     pub version: Version,
 }
 
+/// A hold that ended before it was committed, where that was, and after how many seconds.
+#[derive(Debug, Drop)]
+pub struct HoldTimeout {
+    pub connection: Id,
+    pub notification: u64,
+    pub originating_connection: Id,
+    pub originating_nsa: Name,
+    pub time: Second,
+    pub value: HoldTime,
+}
+
 /// What a message says, by its kind.
 #[derive(Debug, Drop)]
 pub enum Body {
@@ -118,10 +147,27 @@ pub enum Body {
         connection: Id,
         exception: Exception,
     },
+    ReserveCommit {
+        connection: Id,
+    },
+    ReserveCommitConfirmed {
+        connection: Id,
+    },
+    ReserveCommitFailed {
+        connection: Id,
+        exception: Exception,
+    },
+    ReserveAbort {
+        connection: Id,
+    },
+    ReserveAbortConfirmed {
+        connection: Id,
+    },
     Error {
         connection: Option<Id>,
         exception: Exception,
     },
+    ReserveTimeout(HoldTimeout),
 }
 
 /// A primitive on its way from one agent to another.
@@ -140,6 +186,21 @@ pub struct Identity {
     pub kind: Kind,
 }
 
+impl Body {
+    /// The connection that a request is about, where it names one.
+    #[tactic(auto, unfolding(crate::specs::Messages::connection_of))]
+    pub fn connection(&self) -> Option<Id>
+        ensures { result ≡ connection_of self.now }
+    {
+        match self {
+            Body::Reserve(request) => request.connection,
+            Body::ReserveCommit { connection } => Some(*connection),
+            Body::ReserveAbort { connection } => Some(*connection),
+            _ => None,
+        }
+    }
+}
+
 impl Message {
     pub fn kind(&self) -> Kind
         ensures { result ≡ kind_of self.now.body }
@@ -149,8 +210,21 @@ impl Message {
             Body::ReserveResponse { .. } => Kind::ReserveResponse,
             Body::ReserveConfirmed(_) => Kind::ReserveConfirmed,
             Body::ReserveFailed { .. } => Kind::ReserveFailed,
+            Body::ReserveCommit { .. } => Kind::ReserveCommit,
+            Body::ReserveCommitConfirmed { .. } => Kind::ReserveCommitConfirmed,
+            Body::ReserveCommitFailed { .. } => Kind::ReserveCommitFailed,
+            Body::ReserveAbort { .. } => Kind::ReserveAbort,
+            Body::ReserveAbortConfirmed { .. } => Kind::ReserveAbortConfirmed,
             Body::Error { .. } => Kind::Error,
+            Body::ReserveTimeout(_) => Kind::ReserveTimeout,
         }
+    }
+
+    /// Whether it asks for something.
+    pub fn is_request(&self) -> bool
+        ensures { result ≡ is_request self.now.body }
+    {
+        self.kind().is_request()
     }
 
     pub fn identity(&self) -> Result<Identity, AllocError>

@@ -1,7 +1,5 @@
 -- Records that aren't made yet have no booking.
 use Rattle.std.proofs.Common.{◌≡◌, ◌≤◌, ◌+◌, ℕ, suc, add-one, List, [], ◌∷◌, ◌++◌, Bool, true, false, cond, eqb, Some, None, is_some, not, refl, ap, sym, ◌∙◌, arith}
-use Rattle.std.specs.Option.{option_or}
-use Rattle.std.proofs.lemmas.List.Folds.{find-append}
 use Rattle.std.proofs.lemmas.Bool.Decides.{nat_tests}
 use Rattle.nsi_base.specs.Range.{within}
 use Rattle.nsi_primitive.specs.declared.message.Header.{Header}
@@ -14,18 +12,10 @@ use Rattle.capacity_calendar.specs.declared.booking.Booking.{Booking}
 use Rattle.capacity_calendar.specs.declared.booking.Slot.{Slot}
 use Rattle.capacity_calendar.specs.Plan.{booking_of, with_pending}
 use Rattle.nsi_program.specs.Serving.{Serving, answer, asked}
-use Rattle.capacity_calendar.proofs.Sound.{pushed_if_new}
+use Rattle.capacity_calendar.proofs.ByNumber.{none_from_with_pending}
 
-pub still_free : (made source dest : ℕ) (both_ways : Bool) (slot : Slot) (bs : List Booking) → ((n : ℕ) → made ≤ n → booking_of n bs ≡ None)
-    → (n : ℕ) → made + 1 ≤ n → booking_of n (with_pending made source dest both_ways slot bs) ≡ None
-still_free made source dest both_ways slot bs free n later =
-    let b : Booking = record { number = made; source = source; dest = dest; both_ways = both_ways; committed = None; pending = Some slot } in
-    ap (booking_of n) (pushed_if_new made source dest both_ways slot bs (ap is_some (free made (omega arith))))
-    ∙ (find-append (λ (x : Booking). eqb x.number n) bs (b ∷ [])
-    ∙ (ap (λ o. option_or o (booking_of n (b ∷ []))) (free n (omega arith)) ∙ ap (λ t. cond t (Some b) None) (apart made n later)))
-  where
-    apart : (a c : ℕ) → a + 1 ≤ c → eqb a c ≡ false
-    apart a c l = grind (arith, nat_tests)
+pub still_free : (made : ℕ) (slot : Slot) (bs : List Booking) → ((n : ℕ) → made ≤ n → booking_of n bs ≡ None) → (n : ℕ) → made + 1 ≤ n → booking_of n (with_pending made slot bs) ≡ None
+still_free made slot bs free n later = none_from_with_pending (made + 1) made slot bs (omega arith) (λ k l. free k (omega arith)) n later
 
 -- a request that was taken before changes nothing
 pub taken_before : (s : Serving) (m : Message) (is_new : Bool) (taken : List Header) → is_new ≡ not (is_taken m.header s.taken) → is_new ≡ false → taken ≡ with_taken m.header s.taken → record s { taken = taken } ≡ (answer s m).serving

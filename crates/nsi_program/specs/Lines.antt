@@ -1,6 +1,7 @@
 -- What a line behind the topology is answered.
-use Rattle.std.specs.Prelude.{ℕ, List, [], ◌∷◌, ◌++◌, ◌==◌, nat_eq, map, length, codes, if◌then◌else◌, Result, Ok, Err}
+use Rattle.std.specs.Prelude.{ℕ, List, [], ◌∷◌, ◌++◌, ◌==◌, nat_eq, map, length, codes, Bool, false, is_none, if◌then◌else◌, Result, Ok, Err}
 use Rattle.std.specs.List.{concat, starts_with}
+use Rattle.nsi_primitive.specs.declared.message.Body.{Body}
 use Rattle.nsi_primitive.specs.declared.message.Message.{Message}
 use Rattle.json_fields.specs.Faults.{fault_name, fault_key}
 use Rattle.json_fields.specs.declared.fault.LineFault.{LineFault}
@@ -33,9 +34,15 @@ faulty s number fault = record { serving = s; text = payload number fault }
 abbrev pub spelled : Answered → Served
 spelled a = record { serving = a.serving; text = lines_of_messages a.messages }
 
+-- whether it asks for a new connection
+abbrev pub is_first : Body → Bool
+is_first (Body.Reserve r) = is_none r.connection
+is_first _ = false
+
+-- other requests than for a new connection aren't taken yet
 abbrev pub read : Result Message LineFault → Serving → ℕ → Served
 read (Err fault) s number = faulty s number fault
-read (Ok m) s number = spelled (answer s m)
+read (Ok m) s number = if is_first m.body then spelled (answer s m) else faulty s number LineFault.Unbuilt
 
 -- empty lines are skipped; a line of the clock isn't taken yet
 unfoldable pub serve : Serving → ℕ → List ℕ → Served

@@ -107,7 +107,15 @@ made_one s = record s { made = s.made + 1 }
 
 abbrev pub holding : Serving → ReserveRequest → Wish → Serving
 holding s q w =
-    record s { plan = record s.plan { bookings = with_pending s.made w.source w.dest (is_both_ways (direction_or q.directionality)) (record { interval = w.interval; mbps = q.capacity }) s.plan.bookings } }
+    record s {
+      plan =
+          record s.plan {
+            bookings =
+                with_pending s.made
+                (record { source = w.source; dest = w.dest; both_ways = is_both_ways (direction_or q.directionality); interval = w.interval; mbps = q.capacity })
+                s.plan.bookings;
+          };
+    }
 
 abbrev pub next_id : Serving → ℕ
 next_id s = id_of s.provider (s.made + 1)

@@ -1,11 +1,11 @@
 //! The command `provide`: a topology, and then one line after another.
 
-ghost use Rattle.std.specs.Prelude.{◌≡◌, ◌<◌, ◌≤◌, ◌+◌, ◌++◌, ◌∷◌, [], ℕ, List, All, IfOk, IfSome, IsErrOf, OnOk, OnErr, Some, codes, decimal, map, take, true, nat_eq};
+ghost use Rattle.std.specs.Prelude.{◌≡◌, ◌<◌, ◌≤◌, ◌+◌, ◌++◌, ◌∷◌, [], ℕ, List, All, IfOk, IfSome, IsErrOf, OnOk, OnErr, Some, Ok, codes, decimal, map, take, true, nat_eq};
 ghost use Rattle.std.specs.List.{concat};
-ghost use Rattle.nsi_primitive.specs.Printable.{IsPrintable};
+ghost use Rattle.nsi_primitive.specs.Printable.{IsPrintable, IsPrintableBody, IsFirstReserveBody};
 ghost use Rattle.json_fields.specs.Faults.{fault_name, fault_key};
 ghost use Rattle.stp_topology.specs.Faults.{fault_name as topology_fault_name};
-ghost use Rattle.nsi_program.specs.Lines.{as_line, lines_of_messages, serve, payload};
+ghost use Rattle.nsi_program.specs.Lines.{as_line, lines_of_messages, serve, read, is_first, payload};
 ghost use Rattle.stp_topology.specs.Network.{first_provider};
 ghost use Rattle.stp_topology.specs.Text.{of_line};
 ghost use Rattle.nsi_program.specs.Outcome.{topology_fault, move_of, end_of, declared, opened};
@@ -14,7 +14,7 @@ use crate::service::Service;
 use crate::status::Ending;
 use json_fields::LineFault;
 use json_primitives::{print_line, print_payload, read_line};
-use nsi_primitive::Message;
+use nsi_primitive::{Body, Message};
 use std::alloc::{AllocError, Global};
 use stp_topology::{LineRefusal, Taken, Topology, TopologyFault};
 
@@ -100,13 +100,42 @@ impl Service {
             return payload(alloc, number, LineFault::Unbuilt);
         }
         match read_line(alloc, line) {
-            Ok(message) => {
-                let messages = self.answer(alloc, message)?;
-                lines_of_messages(alloc, &messages)
-            }
+            Ok(message) => self.serve_message(alloc, number, message),
             Err(LineFault::NoMemory) => Err(AllocError),
             Err(fault) => payload(alloc, number, fault),
         }
+    }
+}
+
+impl Service {
+    /// Answers a request for a new connection. Others aren't taken yet.
+    fn serve_message(
+        &mut self,
+        alloc: Global,
+        number: u64,
+        message: Message,
+    ) -> Result<Vec<u8>, AllocError>
+        requires { IsPrintable message }
+        ensures text { IfOk result (λ text. text.items ≡ (read (Ok message) self.old number).text) }
+        ensures serving { OnOk result (self.new ≡ (read (Ok message) self.old number).serving) }
+    {
+        if is_first(&message.body) {
+            let messages = self.answer(alloc, message)?;
+            lines_of_messages(alloc, &messages)
+        } else {
+            payload(alloc, number, LineFault::Unbuilt)
+        }
+    }
+}
+
+/// Whether it asks for a new connection.
+fn is_first(body: &Body) -> bool
+    ensures first { result ≡ is_first body.now }
+    ensures points { result ≡ true → IsPrintableBody body.now → IsFirstReserveBody body.now }
+{
+    match body {
+        Body::Reserve(request) => request.connection.is_none(),
+        _ => false,
     }
 }
 

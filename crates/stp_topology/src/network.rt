@@ -3,13 +3,13 @@
 use crate::children::ChildLines;
 use crate::names::Names;
 use crate::partners::Partners;
-use nsi_base::{AgentNo, List, Mbps};
+use nsi_base::{AgentNo, HoldTime, List, Mbps};
 
 /// What an agent is.
 #[derive(Clone, Copy, Debug, PartialEq, Eq)]
 pub enum AgentKind {
     /// It has STPs, and holds what is reserved for so many seconds until it is committed.
-    Provider { hold: u32 },
+    Provider { hold: HoldTime },
     /// It passes requests on to its children.
     Aggregator,
     /// It asks one provider or aggregator.

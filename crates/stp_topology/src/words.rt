@@ -7,7 +7,7 @@ ghost use Rattle.stp_topology.specs.Words.{is_blank, words_of, name_form, number
 
 use crate::fault::{LineRefusal, TopologyFault};
 use nsi_base::digits::number_of;
-use nsi_base::{Mbps, is_name};
+use nsi_base::{HoldTime, Mbps, is_name};
 use std::alloc::{AllocError, Global};
 
 fn is_blank(b: u8) -> bool
@@ -70,11 +70,14 @@ pub fn number(low: u64, high: u64, word: &[u8]) -> Result<u64, LineRefusal>
 }
 
 /// A hold time in seconds.
-pub fn hold(word: &[u8]) -> Result<u32, LineRefusal>
+pub fn hold(word: &[u8]) -> Result<HoldTime, LineRefusal>
     ensures { Gives (λ n. n) result (number_form 1 86400 word.now) }
 {
     let seconds = number(1, 86_400, word)?;
-    Ok(seconds as u32)
+    match HoldTime::new(seconds as u32) {
+        Some(hold) => Ok(hold),
+        None => unreachable!(),
+    }
 }
 
 pub fn capacity(word: &[u8]) -> Result<Mbps, LineRefusal>

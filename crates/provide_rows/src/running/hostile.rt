@@ -51,8 +51,12 @@ const REFUSED: [(&str, &str); 40] = [
         r#"{"errorId":"PAYLOAD","fault":"Unbuilt","kind":"error","line":6}"#,
     ),
     (
-        r#"{"kind":"reserveCommit"}"#,
+        r#"{"kind":"provision"}"#,
         r#"{"errorId":"PAYLOAD","fault":"Unbuilt","kind":"error","line":6}"#,
+    ),
+    (
+        r#"{"kind":"reserveCommit"}"#,
+        r#"{"errorId":"PAYLOAD","fault":"Missing","key":"connectionId","kind":"error","line":6}"#,
     ),
     (
         r#"{"kind":"reserve",}"#,

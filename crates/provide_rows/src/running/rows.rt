@@ -215,16 +215,18 @@ const ROWS: [(&str, &str, &str); 18] = [
 "#,
     ),
     (
-        "Ticks aren't taken yet, nor modifications.",
+        "Ticks aren't taken yet, nor modifications and commits.",
         r#"tick 5
 ticket
  tick 5
 {"kind":"reserve","correlationId":"R#1","requesterNSA":"r1","providerNSA":"p1","capacity":600,"startTime":100,"endTime":200,"sourceSTP":"A","destSTP":"B","connectionId":"P#1"}
+{"kind":"reserveCommit","correlationId":"R#2","requesterNSA":"r1","providerNSA":"p1","connectionId":"P#1"}
 "#,
         r#"{"errorId":"PAYLOAD","fault":"Unbuilt","kind":"error","line":6}
 {"errorId":"PAYLOAD","fault":"Unbuilt","kind":"error","line":7}
 {"errorId":"PAYLOAD","fault":"NotJson","kind":"error","line":8}
 {"errorId":"PAYLOAD","fault":"Unbuilt","kind":"error","line":9}
+{"errorId":"PAYLOAD","fault":"Unbuilt","kind":"error","line":10}
 "#,
     ),
 ];

@@ -1,18 +1,18 @@
-use Rattle.std.proofs.Common.{List, sym, ap, ◌∙◌, subst, arith}
-use Rattle.std.proofs.lemmas.List.{with_items_is}
+use Rattle.std.proofs.Common.{List, sym, subst}
 use Rattle.capacity_calendar.specs.declared.booking.Booking.{Booking}
-use Rattle.capacity_calendar.specs.Plan.{IsSound, settled}
+use Rattle.capacity_calendar.specs.Kept.{IsIndexed}
+use Rattle.capacity_calendar.specs.Plan.{IsSound}
+use Rattle.capacity_calendar.proofs.Indexed.{indexed_settled}
 use Rattle.capacity_calendar.proofs.Sound.{sound_settled}
 use Rattle.capacity_calendar.proofs.calendar.Calendar.settle.Goals as goal
 
 pub invariant_of-self : goal.invariant_of-self
 invariant_of-self c =
     let P : List Booking → Type 0 = λ bs. IsSound (record { capacities = c.self.inside.capacities; bookings = bs }) in
-    let new = with_items_is c.self.inside.bookings c.settle.new.bookings (omega (arith, c.settle.auto.bookings, c.deref_mut.ensures.len)) ∙ c.settle.ensures ∙ ap (settled c.args.number) c.deref_mut.ensures.value in
-    subst P (sym new) (sound_settled _ c.args.number _ c.self.invariant)
+    let Q : List Booking → Type 0 = λ bs. IsIndexed bs c.self.inside.points in
+    (subst P (sym c.settle.ensures) (sound_settled _ c.args.number _ c.self.invariant.0), c.forget.ensures (subst Q (sym c.settle.ensures) (indexed_settled c.args.number _ _ c.self.invariant.1)))
 
 pub returns-clause-sound : goal.returns-clause-sound
 returns-clause-sound c =
     let P : List Booking → Type 0 = λ bs. IsSound (record { capacities = c.self.inside.capacities; bookings = bs }) in
-    let new = with_items_is c.self.inside.bookings c.settle.new.bookings (omega (arith, c.settle.auto.bookings, c.deref_mut.ensures.len)) ∙ c.settle.ensures ∙ ap (settled c.args.number) c.deref_mut.ensures.value in
-    subst P (sym new) (sound_settled _ c.args.number _ c.self.invariant)
+    subst P (sym c.settle.ensures) (sound_settled _ c.args.number _ c.self.invariant.0)

@@ -1,0 +1,5 @@
+pub mod Replies
+pub mod Demand
+pub mod Rising
+pub mod Moves
+pub mod Refusal

@@ -1,0 +1,413 @@
+//! The moves of the reservation machine, done to a record.
+
+ghost use Rattle.std.specs.Prelude.{◌≡◌, ℕ, IfOk, OnOk, OnErr, ◌++◌, ◌∷◌, [], option_to_list, if◌then◌else◌, Some, None};
+ghost use Rattle.connection_record.specs.Demand.{last};
+ghost use Rattle.connection_record.specs.Replies.{Moved, stays, id_or};
+ghost use Rattle.connection_record.specs.Moves.{event_of, asked, dropped, checking, answered, fits, fails, times_out, timeout_reply, notified, lapsed, commits, committed_with, spoils, frees, asked_criteria, asked_version, is_due, reserve_move};
+
+use crate::record::Record;
+use crate::reply::{confirmation, id_or};
+use nsi_base::{HoldTime, Interval, Name, Second, Version};
+use nsi_primitive::{
+    Body, Criteria, Exception, HoldTimeout, Id, Kind, Lsm, Machine, ReserveRequest, Rsm,
+};
+use reserve_machine::RsmEvent;
+use std::alloc::AllocError;
+
+/// What a record says: the header is put on by the agent.
+#[derive(Debug, Drop)]
+pub struct Reply {
+    pub correlation: Id,
+    pub body: Body,
+}
+
+/// Where a notification came from, and after how many seconds a hold ends there.
+#[derive(Debug, Drop)]
+pub struct Origin {
+    pub connection: Id,
+    pub nsa: Name,
+    pub value: HoldTime,
+}
+
+/// The events of the reservation machine, with what a record needs for each.
+#[derive(Debug, Drop)]
+pub enum ReservationMove {
+    Reserve { correlation: Id, criteria: Criteria },
+    /// An agent that ends holds by itself gives the second at which this one ends.
+    Fit { deadline: Option<u64> },
+    Lack { exception: Exception },
+    Commit { correlation: Id },
+    Abort { correlation: Id },
+    HoldEnd { origin: Origin },
+    Done,
+    /// Mixed where the commit may stand elsewhere.
+    Spoiled { exception: Exception, mixed: bool },
+    Freed,
+}
+
+impl ReservationMove {
+    /// The event of the machine's table.
+    #[tactic(auto, unfolding(crate::specs::Moves::event_of))]
+    pub fn event(&self) -> RsmEvent
+        ensures { result ≡ event_of self.now }
+    {
+        match self {
+            ReservationMove::Reserve { .. } => RsmEvent::Reserve,
+            ReservationMove::Fit { .. } => RsmEvent::Fit,
+            ReservationMove::Lack { .. } => RsmEvent::Lack,
+            ReservationMove::Commit { .. } => RsmEvent::Commit,
+            ReservationMove::Abort { .. } => RsmEvent::Abort,
+            ReservationMove::HoldEnd { .. } => RsmEvent::HoldEnd,
+            ReservationMove::Done => RsmEvent::Done,
+            ReservationMove::Spoiled { .. } => RsmEvent::Spoiled,
+            ReservationMove::Freed => RsmEvent::Freed,
+        }
+    }
+}
+
+impl Record {
+    ghost use Rattle.connection_record.specs.Moves.{reserves, requested, hold_end, ticking, is_over, is_live, is_working, waits};
+
+    /// Does what the table's row for its state and the move says, and gives what is then said. Where the table has no
+    /// row, or memory is wanting, nothing changes.
+    #[tactic(auto, unfolding(crate::specs::Moves::reserves))]
+    pub fn advance(
+        &mut self,
+        event: ReservationMove,
+        now: Second,
+    ) -> Result<Option<Reply>, AllocError>
+        ensures rec { IfOk result (λ _. self.new ≡ (reserves self.old.rsm event now self.old).rec) }
+        ensures out { IfOk result (λ out. option_to_list out ≡ (reserves self.old.rsm event now self.old).out) }
+        ensures err { OnErr result (self.new ≡ self.old) }
+    {
+        match (self.rsm, event) {
+            (
+                Rsm::ReserveStart,
+                ReservationMove::Reserve {
+                    correlation,
+                    criteria,
+                },
+            ) => Ok(Some(self.check(correlation, criteria))),
+            (Rsm::ReserveChecking, ReservationMove::Fit { deadline }) => self.fit(deadline, now),
+            (Rsm::ReserveChecking, ReservationMove::Lack { exception }) => {
+                self.fail(exception, now)
+            }
+            (Rsm::ReserveHeld, ReservationMove::Commit { correlation }) => {
+                self.rsm = Rsm::ReserveCommitting;
+                self.reserve_request = Some(correlation);
+                Ok(None)
+            }
+            (Rsm::ReserveHeld, ReservationMove::Abort { correlation }) => {
+                self.abort(correlation);
+                Ok(None)
+            }
+            (Rsm::ReserveFailed, ReservationMove::Abort { correlation }) => {
+                self.abort(correlation);
+                Ok(None)
+            }
+            (Rsm::ReserveTimeout, ReservationMove::Abort { correlation }) => {
+                self.abort(correlation);
+                Ok(None)
+            }
+            (Rsm::ReserveHeld, ReservationMove::HoldEnd { origin }) => self.time_out(origin, now),
+            (Rsm::ReserveCommitting, ReservationMove::Done) => self.commit(now),
+            (Rsm::ReserveCommitting, ReservationMove::Spoiled { exception, mixed }) => {
+                self.spoil(exception, mixed, now)
+            }
+            (Rsm::ReserveAborting, ReservationMove::Freed) => self.free(now),
+            _ => Ok(None),
+        }
+    }
+
+    fn check(&mut self, correlation: Id, criteria: Criteria) -> Reply
+        ensures rec { self.new ≡ checking correlation criteria self.old }
+        ensures out { result ≡ record { correlation = correlation; body = Body.ReserveResponse self.old.id } }
+    {
+        self.rsm = Rsm::ReserveChecking;
+        self.pending = Some(criteria);
+        self.attempt = Some(correlation);
+        self.reserve_request = Some(correlation);
+        Reply {
+            correlation,
+            body: Body::ReserveResponse {
+                connection: self.id,
+            },
+        }
+    }
+
+    /// Answers the request in the work, and counts the outcome.
+    fn answer(&mut self, kind: Kind, now: Second, state: Rsm) -> Result<Id, AllocError>
+        ensures rec { IfOk result (λ _. self.new ≡ answered kind now state self.old) }
+        ensures correlation { IfOk result (λ c. c ≡ id_or self.old.reserve_request) }
+        ensures err { OnErr result (self.new ≡ self.old) }
+    {
+        let correlation = id_or(self.reserve_request);
+        self.add_outcome(kind, correlation, now)?;
+        self.rsm = state;
+        self.reserve_request = None;
+        Ok(correlation)
+    }
+
+    fn fit(&mut self, deadline: Option<u64>, now: Second) -> Result<Option<Reply>, AllocError>
+        ensures rec { IfOk result (λ _. self.new ≡ (fits self.old.pending deadline now self.old).rec) }
+        ensures out { IfOk result (λ out. option_to_list out ≡ (fits self.old.pending deadline now self.old).out) }
+        ensures err { OnErr result (self.new ≡ self.old) }
+    {
+        let Some(criteria) = self.pending else {
+            return Ok(None);
+        };
+        let confirmed = confirmation(self.id, &self.service, criteria)?;
+        let correlation = self.answer(Kind::ReserveConfirmed, now, Rsm::ReserveHeld)?;
+        self.deadline = deadline;
+        Ok(Some(Reply {
+            correlation,
+            body: Body::ReserveConfirmed(confirmed),
+        }))
+    }
+
+    fn fail(&mut self, exception: Exception, now: Second) -> Result<Option<Reply>, AllocError>
+        ensures rec { IfOk result (λ _. self.new ≡ (fails exception now self.old).rec) }
+        ensures out { IfOk result (λ out. option_to_list out ≡ (fails exception now self.old).out) }
+        ensures err { OnErr result (self.new ≡ self.old) }
+    {
+        let correlation = self.answer(Kind::ReserveFailed, now, Rsm::ReserveFailed)?;
+        self.pending = None;
+        Ok(Some(Reply {
+            correlation,
+            body: Body::ReserveFailed {
+                connection: self.id,
+                exception,
+            },
+        }))
+    }
+
+    fn abort(&mut self, correlation: Id)
+        ensures { self.new ≡ dropped (asked correlation Rsm.ReserveAborting self.old) }
+    {
+        self.rsm = Rsm::ReserveAborting;
+        self.pending = None;
+        self.reserve_request = Some(correlation);
+    }
+
+    fn time_out(&mut self, origin: Origin, now: Second) -> Result<Option<Reply>, AllocError>
+        ensures rec { IfOk result (λ _. self.new ≡ (times_out origin now self.old).rec) }
+        ensures out { IfOk result (λ out. option_to_list out ≡ (times_out origin now self.old).out) }
+        ensures err { OnErr result (self.new ≡ self.old) }
+    {
+        let reply = self.timeout_reply(origin, now)?;
+        self.note_hold_end(now)?;
+        self.end_hold();
+        Ok(Some(reply))
+    }
+
+    /// What the owner is told when the hold ends, before that is noted.
+    pub fn timeout_reply(&self, origin: Origin, now: Second) -> Result<Reply, AllocError>
+        ensures { IfOk result (λ reply. reply ≡ timeout_reply origin now self.now) }
+    {
+        let notification = self.next_notice()?;
+        Ok(Reply {
+            correlation: id_or(self.attempt),
+            body: Body::ReserveTimeout(HoldTimeout {
+                connection: self.id,
+                notification,
+                originating_connection: origin.connection,
+                originating_nsa: origin.nsa,
+                time: now,
+                value: origin.value,
+            }),
+        })
+    }
+
+    /// Counts the end of the hold as a notice.
+    pub fn note_hold_end(&mut self, now: Second) -> Result<(), AllocError>
+        ensures ok { OnOk result (self.new ≡ notified now self.old) }
+        ensures err { OnErr result (self.new ≡ self.old) }
+    {
+        let correlation = id_or(self.attempt);
+        self.add_notice(Kind::ReserveTimeout, correlation, now)?;
+        Ok(())
+    }
+
+    /// Takes back the notice of the end of the hold, where it was the last. It takes no memory.
+    pub fn take_back_hold_end(&mut self)
+        ensures { (r : Record) (now : ℕ) → self.old ≡ notified now r → self.new ≡ r }
+    {
+        self.notices.take_back();
+    }
+
+    /// What was held isn't any more. It takes no memory.
+    pub fn end_hold(&mut self)
+        ensures { self.new ≡ lapsed self.old }
+    {
+        self.rsm = Rsm::ReserveTimeout;
+        self.pending = None;
+    }
+
+    fn commit(&mut self, now: Second) -> Result<Option<Reply>, AllocError>
+        ensures rec { IfOk result (λ _. self.new ≡ (commits now self.old).rec) }
+        ensures out { IfOk result (λ out. option_to_list out ≡ (commits now self.old).out) }
+        ensures err { OnErr result (self.new ≡ self.old) }
+    {
+        self.push_pending()?;
+        match self.answer(Kind::ReserveCommitConfirmed, now, Rsm::ReserveStart) {
+            Ok(correlation) => {
+                self.pending = None;
+                Ok(Some(Reply {
+                    correlation,
+                    body: Body::ReserveCommitConfirmed {
+                        connection: self.id,
+                    },
+                }))
+            }
+            Err(error) => {
+                self.take_back_pending();
+                Err(error)
+            }
+        }
+    }
+
+    fn push_pending(&mut self) -> Result<(), AllocError>
+        ensures ok { IfOk result (λ _. self.new ≡ record self.old { committed = committed_with self.old.committed self.old.pending }) }
+        ensures err { OnErr result (self.new ≡ self.old) }
+    {
+        match self.pending {
+            None => Ok(()),
+            Some(criteria) => self.committed.push(criteria),
+        }
+    }
+
+    fn take_back_pending(&mut self)
+        ensures { (r : Record) → self.old ≡ record r { committed = committed_with r.committed r.pending } → self.new ≡ r }
+    {
+        if self.pending.is_some() {
+            self.committed.take_back();
+        }
+    }
+
+    fn spoil(
+        &mut self,
+        exception: Exception,
+        mixed: bool,
+        now: Second,
+    ) -> Result<Option<Reply>, AllocError>
+        ensures rec { IfOk result (λ _. self.new ≡ (spoils exception mixed now self.old).rec) }
+        ensures out { IfOk result (λ out. option_to_list out ≡ (spoils exception mixed now self.old).out) }
+        ensures err { OnErr result (self.new ≡ self.old) }
+    {
+        let correlation = self.answer(Kind::ReserveCommitFailed, now, Rsm::ReserveStart)?;
+        self.pending = None;
+        self.mixed = self.mixed || mixed;
+        Ok(Some(Reply {
+            correlation,
+            body: Body::ReserveCommitFailed {
+                connection: self.id,
+                exception,
+            },
+        }))
+    }
+
+    fn free(&mut self, now: Second) -> Result<Option<Reply>, AllocError>
+        ensures rec { IfOk result (λ _. self.new ≡ (frees now self.old).rec) }
+        ensures out { IfOk result (λ out. option_to_list out ≡ (frees now self.old).out) }
+        ensures err { OnErr result (self.new ≡ self.old) }
+    {
+        let correlation = self.answer(Kind::ReserveAbortConfirmed, now, Rsm::ReserveStart)?;
+        Ok(Some(Reply {
+            correlation,
+            body: Body::ReserveAbortConfirmed {
+                connection: self.id,
+            },
+        }))
+    }
+
+    /// The move that a request is.
+    #[tactic(auto, unfolding(crate::specs::Moves::requested))]
+    pub fn requested(&self, body: &Body, correlation: Id) -> Option<ReservationMove>
+        ensures { result ≡ requested body.now correlation self.now }
+    {
+        match body {
+            Body::Reserve(request) => {
+                let criteria = self.asked_criteria(request)?;
+                Some(ReservationMove::Reserve {
+                    correlation,
+                    criteria,
+                })
+            }
+            Body::ReserveCommit { .. } => Some(ReservationMove::Commit { correlation }),
+            Body::ReserveAbort { .. } => Some(ReservationMove::Abort { correlation }),
+            _ => None,
+        }
+    }
+
+    fn asked_criteria(&self, request: &ReserveRequest) -> Option<Criteria>
+        ensures { result ≡ asked_criteria request.now self.now.committed }
+    {
+        let interval = Interval::new(request.start, request.end)?;
+        let version = self.asked_version(request.version)?;
+        Some(Criteria {
+            version,
+            interval,
+            capacity: request.capacity,
+        })
+    }
+
+    /// The version that is given, or the one after the last committed, where there is one.
+    fn asked_version(&self, given: Option<Version>) -> Option<Version>
+        ensures { result ≡ asked_version given (last self.now.committed) }
+    {
+        if given.is_some() {
+            return given;
+        }
+        match self.last() {
+            None => Some(Version::first()),
+            Some(criteria) => Version::new(criteria.version.get() + 1),
+        }
+    }
+
+    /// Whether a machine has work to do.
+    #[tactic(auto, unfolding(crate::specs::Moves::waits))]
+    pub fn waits(&self, machine: Machine) -> bool
+        ensures { result ≡ waits machine self.now }
+    {
+        match machine {
+            Machine::Reserve => self.is_live() && self.is_working(),
+            Machine::Provision | Machine::Lifecycle => false,
+        }
+    }
+
+    #[tactic(auto, unfolding(crate::specs::Moves::is_working))]
+    fn is_working(&self) -> bool
+        ensures { result ≡ is_working self.now.rsm }
+    {
+        matches!(
+            self.rsm,
+            Rsm::ReserveChecking | Rsm::ReserveCommitting | Rsm::ReserveAborting
+        )
+    }
+
+    /// Whether the connection hasn't ended, nor is about to.
+    #[tactic(auto, unfolding(crate::specs::Moves::is_live))]
+    pub fn is_live(&self) -> bool
+        ensures { result ≡ is_live self.now.lsm }
+    {
+        !matches!(self.lsm, Lsm::Terminating | Lsm::Terminated)
+    }
+
+    /// Whether a tick at that second ends its hold.
+    #[tactic(auto, unfolding(crate::specs::Moves::hold_end))]
+    pub fn is_hold_over(&self, now: Second) -> bool
+        ensures over { result ≡ is_over now self.now }
+        ensures ticking { (origin : Origin) → ticking now origin self.now ≡ (if result then Some (ReservationMove.HoldEnd origin) else None) }
+    {
+        self.is_live() && self.rsm == Rsm::ReserveHeld && is_due(self.deadline, now)
+    }
+}
+
+fn is_due(deadline: Option<u64>, now: Second) -> bool
+    ensures { result ≡ is_due deadline now }
+{
+    match deadline {
+        None => false,
+        Some(deadline) => deadline <= now.get(),
+    }
+}

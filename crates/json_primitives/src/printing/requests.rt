@@ -1,0 +1,33 @@
+//! What requests have besides their header, key by key in byte order.
+
+ghost use Rattle.std.specs.Prelude.{◌≡◌, OnOk};
+ghost use Rattle.json_fields.specs.Objects.{with_fields};
+ghost use Rattle.json_fields.specs.Written.{members_of};
+ghost use Rattle.json_primitives.specs.Spelling.{reserve_fields};
+ghost use Rattle.json_primitives.specs.Valid.{IsValidReserve};
+
+use json_fields::{JsonObject, Key};
+use nsi_primitive::ReserveRequest;
+use std::alloc::{AllocError, Global};
+
+#[tactic(auto, unfolding(json_fields::specs::Objects::with_fields))]
+pub fn put_reserve(
+    alloc: Global,
+    object: &mut JsonObject,
+    reserve: &ReserveRequest,
+) -> Result<(), AllocError>
+    ensures put { OnOk result (members_of object.new ≡ with_fields (members_of object.old) (reserve_fields reserve.now)) }
+    ensures valid { OnOk result (IsValidReserve reserve.now) }
+{
+    object.put_capacity(alloc, Key::Capacity, reserve.capacity)?;
+    object.put_optional_id(alloc, Key::ConnectionId, reserve.connection)?;
+    object.put_optional_text(alloc, Key::Description, &reserve.description)?;
+    object.put_optional_name(alloc, Key::DestStp, &reserve.dest)?;
+    object.put_optional_directionality(alloc, Key::Directionality, reserve.directionality)?;
+    object.put_second(alloc, Key::EndTime, reserve.end)?;
+    object.put_optional_text(alloc, Key::GlobalReservationId, &reserve.global)?;
+    object.put_optional_name(alloc, Key::SourceStp, &reserve.source)?;
+    object.put_second(alloc, Key::StartTime, reserve.start)?;
+    object.put_optional_flag(alloc, Key::SymmetricPath, reserve.symmetric)?;
+    object.put_optional_version(alloc, Key::Version, reserve.version)
+}

@@ -1,0 +1,130 @@
+//! The requests, key by key in byte order.
+
+ghost use Rattle.std.specs.Prelude.{◌≡◌, false, IfOk, IfNone, IsSome};
+ghost use Rattle.serde_json.specs.View.{view};
+ghost use Rattle.nsi_primitive.specs.Printable.{IsPrintable, IsRequest, AreApart};
+ghost use Rattle.json_fields.specs.Faults.{Gives};
+ghost use Rattle.json_primitives.specs.Requests.{reserve_from, point_from, is_one_point, connected_from, commit_from, abort_from};
+
+use json_fields::reading::{
+    optional_directionality, optional_empty_list, optional_flag, optional_id, optional_name,
+    optional_text, optional_version, required_capacity, required_id, required_name,
+    required_second,
+};
+use json_fields::{Key, LineFault};
+use nsi_base::Name;
+use nsi_primitive::{Body, Header, Id, Message, ReserveRequest};
+use serde_json::Value;
+use std::alloc::Global;
+
+/// A first reserve, or with a connection a modification.
+#[tactic(auto, unfolding(crate::specs::Requests::reserve_from))]
+pub fn reserve_from(alloc: Global, value: &Value) -> Result<Message, LineFault>
+    ensures gives { Gives result (reserve_from (view value.now)) }
+    ensures printable { IfOk result IsPrintable }
+    ensures request { IfOk result IsRequest }
+{
+    let capacity = required_capacity(value, Key::Capacity)?;
+    let connection = optional_id(value, Key::ConnectionId)?;
+    let correlation = required_id(value, Key::CorrelationId)?;
+    let description = optional_text(alloc, value, Key::Description, 256)?;
+    let dest = point_from(alloc, value, Key::DestStp, &connection)?;
+    let directionality = optional_directionality(value, Key::Directionality)?;
+    let end = required_second(value, Key::EndTime)?;
+    let _ero = optional_empty_list(value, Key::Ero)?;
+    let global = optional_text(alloc, value, Key::GlobalReservationId, 128)?;
+    let provider = required_name(alloc, value, Key::ProviderNsa)?;
+    let requester = required_name(alloc, value, Key::RequesterNsa)?;
+    let source = point_from(alloc, value, Key::SourceStp, &connection)?;
+    let start = required_second(value, Key::StartTime)?;
+    let symmetric = optional_flag(value, Key::SymmetricPath)?;
+    let version = optional_version(value, Key::Version)?;
+    if is_one_point(&source, &dest) {
+        return Err(LineFault::Bad(Key::DestStp));
+    }
+    let body = Body::Reserve(ReserveRequest {
+        capacity,
+        connection,
+        description,
+        dest,
+        directionality,
+        end,
+        global,
+        source,
+        start,
+        symmetric,
+        version,
+    });
+    let header = Header {
+        correlation,
+        requester,
+        provider,
+    };
+    Ok(Message { header, body })
+}
+
+/// A point, which a reserve has to name where it names no connection.
+fn point_from(
+    alloc: Global,
+    value: &Value,
+    key: Key,
+    connection: &Option<Id>,
+) -> Result<Option<Name>, LineFault>
+    ensures gives { Gives result (point_from connection.now key (view value.now)) }
+    ensures complete { IfOk result (λ point. IfNone connection.now (IsSome point)) }
+{
+    if connection.is_some() {
+        return optional_name(alloc, value, key);
+    }
+    let point = required_name(alloc, value, key)?;
+    Ok(Some(point))
+}
+
+fn is_one_point(source: &Option<Name>, dest: &Option<Name>) -> bool
+    ensures value { result ≡ is_one_point source.now dest.now }
+    ensures apart { result ≡ false → AreApart source.now dest.now }
+{
+    match (source, dest) {
+        (Some(source), Some(dest)) => source.is(dest),
+        _ => false,
+    }
+}
+
+#[tactic(auto, unfolding(crate::specs::Requests::commit_from))]
+pub fn commit_from(alloc: Global, value: &Value) -> Result<Message, LineFault>
+    ensures gives { Gives result (commit_from (view value.now)) }
+    ensures printable { IfOk result IsPrintable }
+    ensures request { IfOk result IsRequest }
+{
+    let (connection, header) = connected_from(alloc, value)?;
+    let body = Body::ReserveCommit { connection };
+    Ok(Message { header, body })
+}
+
+#[tactic(auto, unfolding(crate::specs::Requests::abort_from))]
+pub fn abort_from(alloc: Global, value: &Value) -> Result<Message, LineFault>
+    ensures gives { Gives result (abort_from (view value.now)) }
+    ensures printable { IfOk result IsPrintable }
+    ensures request { IfOk result IsRequest }
+{
+    let (connection, header) = connected_from(alloc, value)?;
+    let body = Body::ReserveAbort { connection };
+    Ok(Message { header, body })
+}
+
+/// The connection and the header, where there is nothing else.
+#[tactic(auto, unfolding(crate::specs::Requests::connected_from))]
+fn connected_from(alloc: Global, value: &Value) -> Result<(Id, Header), LineFault>
+    ensures { Gives result (connected_from (view value.now)) }
+{
+    let connection = required_id(value, Key::ConnectionId)?;
+    let correlation = required_id(value, Key::CorrelationId)?;
+    let provider = required_name(alloc, value, Key::ProviderNsa)?;
+    let requester = required_name(alloc, value, Key::RequesterNsa)?;
+    let header = Header {
+        correlation,
+        requester,
+        provider,
+    };
+    Ok((connection, header))
+}

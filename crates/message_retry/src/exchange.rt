@@ -1,0 +1,45 @@
+//! By what a request is known, with its agents as places of names.
+
+ghost use Rattle.std.specs.Prelude.{◌≡◌, Some, IfOk};
+ghost use Rattle.message_retry.specs.Names.{Keeps};
+ghost use Rattle.message_retry.specs.Exchanges.{exchange_of};
+
+use crate::names::Names;
+use nsi_primitive::Header;
+use std::alloc::{AllocError, Global};
+
+/// By which a request is known. It owns nothing, so that a look-up takes no memory.
+#[derive(Clone, Copy, Debug, PartialEq, Eq, Hash)]
+pub struct Exchange {
+    requester: usize,
+    provider: usize,
+    correlation: u128,
+}
+
+impl Exchange {
+    /// The exchange of a request whose agents both have a place.
+    pub fn known(names: &Names, header: &Header) -> Option<Exchange>
+        ensures { result ≡ exchange_of names.now header.now }
+    {
+        Some(Exchange {
+            requester: names.place(header.requester.as_str())?,
+            provider: names.place(header.provider.as_str())?,
+            correlation: header.correlation.number(),
+        })
+    }
+
+    /// The exchange of a request, whose agents get a place where they have none.
+    pub fn noted(names: &mut Names, alloc: Global, header: &Header) -> Result<Exchange, AllocError>
+        ensures exchange { IfOk result (λ exchange. exchange_of names.new header.now ≡ Some exchange) }
+        ensures kept { Keeps names.old names.new }
+    {
+        let requester = names.note(alloc, header.requester.as_str())?;
+        let provider = names.note(alloc, header.provider.as_str())?;
+        let correlation = header.correlation.number();
+        Ok(Exchange {
+            requester,
+            provider,
+            correlation,
+        })
+    }
+}

@@ -1,0 +1,113 @@
+-- What was committed stays, after an entry and after many.
+use Rattle.std.proofs.Common.{◌≡◌, ◌≤◌, ◌<◌, ◌+◌, inl, inr, ◌∙◌, ℕ, Bool, true, false, List, [], ◌∷◌, ◌++◌, Option, Some, arith, refl, sym, ap, subst, length, length-append, map, take, slice_get, slice_set, option_map}
+use Rattle.std.proofs.Math.Seq.{take-length}
+use Rattle.std.proofs.lemmas.Bool.{cases_eq}
+use Rattle.std.proofs.lemmas.List.{take-take, length-take}
+use Rattle.std.proofs.lemmas.Option.{slice_get-get_or, slice_get-map, slice_get_within, same_Some}
+use Rattle.nsi_primitive.specs.Messages.{is_request}
+use Rattle.nsi_primitive.specs.declared.message.Message.{Message}
+use Rattle.nsi_primitive.specs.declared.message.ReserveRequest.{ReserveRequest}
+use Rattle.nsi_primitive.specs.declared.entry.Entry.{Entry}
+use Rattle.nsi_primitive.specs.declared.entry.Input.{Input}
+use Rattle.message_retry.specs.Taken.{is_taken}
+use Rattle.connection_record.specs.declared.record.Record.{Record}
+use Rattle.connection_record.specs.Moves.{reserves_if, requested, worked, ticking}
+use Rattle.provider_agent.specs.Home.{Home}
+use Rattle.provider_agent.specs.Others.{lacking}
+use Rattle.provider_agent.specs.State.{State, record_at, no_record}
+use Rattle.provider_agent.specs.Steps.{step, hears, works, ticks, ticks_at, taken_at, with_new, is_waiting, may_take, after_if, after, own_origin}
+use Rattle.provider_agent.specs.Runs.{after_all}
+use Rattle.provider_agent.specs.Safety.{Keeps}
+use Rattle.provider_agent.proofs.RecordPlaces.{set_here, set_elsewhere, push_elsewhere}
+use Rattle.provider_agent.proofs.GoodMoves.{reserves_if_kept}
+use Rattle.provider_agent.proofs.GoodAfter.{waits_within}
+use Rattle.provider_agent.proofs.RequestCases.{seen_with, new_record, heard_by}
+
+-- what a record had committed is the front of what it has now
+abbrev IsLater : Record → Record → Type 0
+IsLater r later = take (length r.committed) later.committed ≡ r.committed
+
+-- each record is still at its place, and later
+abbrev KeepRecords : List Record → List Record → Type 0
+KeepRecords old new = (n : ℕ) (r : Record) → slice_get old n ≡ Some r → (later : Record) × (slice_get new n ≡ Some later) × IsLater r later
+
+keep_same : (records : List Record) → KeepRecords records records
+keep_same records n r h = (r, h, take-length r.committed)
+
+front_of_front : {X : Type 0} (a b c : List X) → take (length a) b ≡ a → take (length b) c ≡ b → take (length a) c ≡ a
+front_of_front a b c p q =
+    let short : length a ≤ length b = omega (arith, length-take (length a) b, ap (λ xs. length xs) p) in
+    sym (take-take (length a) (length b) c short) ∙ (ap (take (length a)) q ∙ p)
+
+keep_more : (a b c : List Record) → KeepRecords a b → KeepRecords b c → KeepRecords a c
+keep_more a b c p q n r h =
+    let x = p n r h in
+    let y = q n x.0 x.1 in
+    (y.0, y.1, front_of_front r.committed x.0.committed y.0.committed x.2 y.2)
+
+keep_set : (records : List Record) (n : ℕ) (r x : Record) → slice_get records n ≡ Some r → IsLater r x → KeepRecords records (slice_set records n x)
+keep_set records n r x h later k y g = elim (cases_eq k n) [
+  | inl e ↦
+      let same : r ≡ y = same_Some r y (sym h ∙ (ap (slice_get records) (sym e) ∙ g)) in
+      (x, ap (slice_get (slice_set records n x)) e ∙ set_here records n x (slice_get_within records n r h), subst (λ z. IsLater z x) same later)
+  | inr d ↦ (y, set_elsewhere records n k x d ∙ g, take-length y.committed)
+]
+
+keep_push : (records : List Record) (x : Record) → KeepRecords records (records ++ x ∷ [])
+keep_push records x n r h = (r, push_elsewhere records n x r h, take-length r.committed)
+
+keep_map : (records : List Record) (g : Record → Record) → ((r : Record) → IsLater r (g r)) → KeepRecords records (map g records)
+keep_map records g later n r h = (g r, slice_get-map g records n ∙ ap (option_map g) h, later r)
+
+---- Entries
+
+keep_taken : (home : Home) (s : State) (n : ℕ) (m : Message) → n < length s.records → KeepRecords s.records (taken_at home s n m).state.records
+keep_taken home s n m lt =
+    let r = record_at n s.records in
+    keep_set s.records n r (reserves_if (requested m.body m.header.correlation r) s.now r).rec (slice_get-get_or s.records n no_record lt) (reserves_if_kept (requested m.body m.header.correlation r) s.now r)
+
+keep_opened : (home : Home) (s : State) (m : Message) (q : ReserveRequest) (points : ℕ × ℕ) → KeepRecords s.records (taken_at home (with_new home s m q points) (length s.records) m).state.records
+keep_opened home s m q points =
+    keep_more s.records new.records (taken_at home new (length s.records) m).state.records (keep_push s.records (new_record home s m q points)) (keep_taken home new (length s.records) m (omega (arith, length-append s.records (new_record home s m q points ∷ []))))
+  where
+    new : State
+    new = with_new home s m q points
+
+keep_heard : (home : Home) (stp_of : List ℕ → Option ℕ) (s : State) (m : Message) → KeepRecords s.records (hears (is_request m.body) (is_taken m.header s.seen) home stp_of s m).state.records
+keep_heard home stp_of s m = heard_by home stp_of s m (λ x. KeepRecords s.records x.state.records) (record {
+  ignored = keep_same s.records;
+  unopened = keep_same s.records;
+  refused = λ error r. keep_same s.records;
+  opened = λ q points e. keep_opened home (seen_with s m) m q points;
+  moved = λ n lt fine. keep_taken home (seen_with s m) n m lt;
+})
+
+keep_worked : (b : Bool) (home : Home) (s : State) (n : ℕ) → (b ≡ true → n < length s.records) → KeepRecords s.records (works b home s n).state.records
+unfolding works
+keep_worked false home s n h = keep_same s.records
+keep_worked true home s n h =
+    let r = record_at n s.records in
+    let o = worked r.rsm (lacking home s n) home.name (s.now + home.hold) in
+    keep_set s.records n r (reserves_if o s.now r).rec (slice_get-get_or s.records n no_record (h refl)) (reserves_if_kept o s.now r)
+
+keep_step : (input : Input) (second : ℕ) (home : Home) (stp_of : List ℕ → Option ℕ) (s : State) → KeepRecords s.records (step input second home stp_of s).state.records
+unfolding step ticks
+keep_step (Input.Got m) second home stp_of s = keep_heard home stp_of s m
+keep_step (Input.Work n machine) second home stp_of s = keep_worked (is_waiting s n machine) home s n (waits_within s n machine)
+keep_step Input.Tick second home stp_of s = keep_map s.records (λ r. (ticks_at home second r).rec) (λ r. reserves_if_kept (ticking second (own_origin home r) r) second r)
+
+-- What was committed stays after an entry.
+pub keeps_after : (home : Home) (stp_of : List ℕ → Option ℕ) (s : State) (e : Entry) → Keeps s (after home stp_of s e).state
+unfolding after
+keeps_after home stp_of s e = by_may (may_take s e)
+  where
+    by_may : (b : Bool) → Keeps s (after_if b home stp_of s e).state
+    by_may false = keep_same s.records
+    by_may true = keep_step e.input e.second home stp_of s
+
+-- What was committed stays after entries.
+pub keeps_after_all : (home : Home) (stp_of : List ℕ → Option ℕ) (s : State) (es : List Entry) → Keeps s (after_all home stp_of s es).state
+unfolding after_all
+keeps_after_all home stp_of s [] = keep_same s.records
+keeps_after_all home stp_of s (e ∷ es) =
+    keep_more s.records (after home stp_of s e).state.records (after_all home stp_of (after home stp_of s e).state es).state.records (keeps_after home stp_of s e) (keeps_after_all home stp_of (after home stp_of s e).state es)

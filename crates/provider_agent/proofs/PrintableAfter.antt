@@ -1,0 +1,140 @@
+-- What a good provider says has a spelling.
+use Rattle.std.proofs.Common.{◌≡◌, ℕ, Bool, true, false, nat_le, ◌+◌, List, Option, Some, None, IfSome, arith, refl, subst, length}
+use Rattle.std.specs.List.{All}
+use Rattle.std.proofs.lemmas.Option.{slice_get-get_or}
+use Rattle.nsi_primitive.specs.Messages.{is_request}
+use Rattle.nsi_primitive.specs.Printable.{IsPrintable, IsPrintableBody, IsPrintableCause, IsShort, has_further_keys}
+use Rattle.nsi_primitive.specs.declared.kind.ErrorName.{ErrorName}
+use Rattle.nsi_primitive.specs.declared.state.Machine.{Machine}
+use Rattle.nsi_primitive.specs.declared.state.Rsm.{Rsm}
+use Rattle.nsi_primitive.specs.declared.message.Body.{Body}
+use Rattle.nsi_primitive.specs.declared.message.Cause.{Cause}
+use Rattle.nsi_primitive.specs.declared.message.Criteria.{Criteria}
+use Rattle.nsi_primitive.specs.declared.message.Message.{Message}
+use Rattle.nsi_primitive.specs.declared.entry.Entry.{Entry}
+use Rattle.nsi_primitive.specs.declared.entry.Input.{Input}
+use Rattle.message_retry.specs.Taken.{is_taken}
+use Rattle.capacity_calendar.specs.declared.booking.Lack.{Lack}
+use Rattle.connection_record.specs.declared.record.Record.{Record}
+use Rattle.connection_record.specs.declared.moves.Origin.{Origin}
+use Rattle.connection_record.specs.declared.moves.ReservationMove.{ReservationMove}
+use Rattle.connection_record.specs.Moves.{reserves, reserves_if, requested, worked, ticking, hold_end, is_live}
+use Rattle.connection_record.specs.Refusal.{refusal, modification_refusal, unnamed_refusal}
+use Rattle.provider_agent.specs.Home.{Home}
+use Rattle.provider_agent.specs.Others.{first_lack, cause_of, lack_of, lacking}
+use Rattle.provider_agent.specs.State.{State, Stepped, record_at, no_record}
+use Rattle.provider_agent.specs.Steps.{step, hears, works, ticks, taken_at, with_new, error_reply, is_waiting, may_take, after_if, after, own_origin}
+use Rattle.provider_agent.specs.Safety.{IsPrintableInput}
+use Rattle.provider_agent.specs.Good.{IsGoodRecord, IsGood}
+use Rattle.provider_agent.proofs.EachSays.{EachReply, EachMessage, nothing_said, one_said, moved_each, ticks_each}
+use Rattle.provider_agent.proofs.GoodAfter.{waits_within}
+use Rattle.provider_agent.proofs.RequestCases.{seen_with, heard_by}
+
+---- Replies
+
+-- what a move says has a spelling, where its exception or what is confirmed has one
+abbrev IsPrintableMove : ReservationMove → Record → Type 0
+IsPrintableMove (ReservationMove.Fit deadline) r = IsShort 256 r.service.description × IsShort 128 r.service.global
+IsPrintableMove (ReservationMove.Lack exception) r = IsPrintableCause exception.cause
+IsPrintableMove (ReservationMove.Spoiled exception mixed) r = IsPrintableCause exception.cause
+IsPrintableMove _ r = Unit {0}
+
+reserves_printable : (k : Rsm) (move : ReservationMove) (now : ℕ) (r : Record) → IsPrintableMove move r → EachReply IsPrintableBody (reserves k move now r).out
+unfolding reserves
+reserves_printable k move now r p = grind arith
+
+reserves_if_printable : (o : Option ReservationMove) (now : ℕ) (r : Record) → IfSome o (λ m. IsPrintableMove m r) → EachReply IsPrintableBody (reserves_if o now r).out
+reserves_if_printable None now r p = tt
+reserves_if_printable (Some move) now r p = reserves_printable r.rsm move now r p
+
+---- Moves
+
+requested_printable : (body : Body) (c : ℕ) (r : Record) → IfSome (requested body c r) (λ m. IsPrintableMove m r)
+unfolding requested
+requested_printable body c r = grind arith
+
+ticking_printable : (now : ℕ) (origin : Origin) (r : Record) → IfSome (ticking now origin r) (λ m. IsPrintableMove m r)
+unfolding hold_end is_live
+ticking_printable now origin r = grind arith
+
+worked_printable : (k : Rsm) (lack : Option Cause) (agent : List ℕ) (deadline : ℕ) (r : Record) → IsGoodRecord r → IfSome lack IsPrintableCause → IfSome (worked k lack agent deadline) (λ m. IsPrintableMove m r)
+unfolding worked
+worked_printable k lack agent deadline r g p = grind arith
+
+cause_printable : (passed : Bool) (lack : Option Lack) (r : Record) → IfSome (cause_of passed lack r) IsPrintableCause
+cause_printable true lack r = refl
+cause_printable false None r = tt
+cause_printable false (Some l) r = tt
+
+lacking_printable : (home : Home) (s : State) (n : ℕ) → IfSome (lacking home s n) IsPrintableCause
+unfolding lacking
+lacking_printable home s n = by_pending (record_at n s.records).pending
+  where
+    by_pending : (o : Option Criteria) → IfSome (lack_of o home s n) IsPrintableCause
+    by_pending None = tt
+    by_pending (Some c) = cause_printable (nat_le c.interval.end s.now) (first_lack home n s.records c) (record_at n s.records)
+
+---- Errors
+
+abbrev IsPlain : Option ErrorName → Type 0
+IsPlain o = IfSome o (λ error. has_further_keys error ≡ false)
+
+modification_plain : (body : Body) (r : Record) → IsPlain (modification_refusal body r)
+unfolding modification_refusal
+modification_plain body r = grind arith
+
+unnamed_plain : (body : Body) (stp_of : List ℕ → Option ℕ) → IsPlain (unnamed_refusal body stp_of)
+unfolding unnamed_refusal
+unnamed_plain body stp_of = grind arith
+
+refusal_plain : (agent : List ℕ) (stp_of : List ℕ → Option ℕ) (records : List Record) (m : Message) → IsPlain (refusal agent stp_of records m)
+unfolding refusal
+refusal_plain agent stp_of records m = grind (arith, modification_plain, unnamed_plain)
+
+error_plain : (o : Option ErrorName) (error : ErrorName) → IsPlain o → o ≡ Some error → has_further_keys error ≡ false
+error_plain o error p e = subst IsPlain e p
+
+---- Entries
+
+abbrev SaysPrintable : Stepped → Type 0
+SaysPrintable x = EachMessage IsPrintableBody x.out
+
+printable_heard : (home : Home) (stp_of : List ℕ → Option ℕ) (s : State) (m : Message) → SaysPrintable (hears (is_request m.body) (is_taken m.header s.seen) home stp_of s m)
+printable_heard home stp_of s m = heard_by home stp_of s m SaysPrintable (record {
+  ignored = nothing_said IsPrintableBody;
+  unopened = nothing_said IsPrintableBody;
+  refused = λ error r. one_said IsPrintableBody (error_reply home.name m error) (error_plain (refusal home.name stp_of s.records m) error (refusal_plain home.name stp_of s.records m) r);
+  opened = λ q points e. taken (with_new home (seen_with s m) m q points) (length s.records);
+  moved = λ n lt fine. taken (seen_with s m) n;
+})
+  where
+    taken : (x : State) (n : ℕ) → SaysPrintable (taken_at home x n m)
+    taken x n =
+        let r = record_at n x.records in
+        let o = requested m.body m.header.correlation r in
+        moved_each IsPrintableBody home (reserves_if o x.now r) (reserves_if_printable o x.now r (requested_printable m.body m.header.correlation r))
+
+printable_worked : (b : Bool) (home : Home) (s : State) (n : ℕ) (machine : Machine) → is_waiting s n machine ≡ b → IsGood home s → SaysPrintable (works b home s n)
+unfolding works
+printable_worked false home s n machine e g = nothing_said IsPrintableBody
+printable_worked true home s n machine e g =
+    let r = record_at n s.records in
+    let o = worked r.rsm (lacking home s n) home.name (s.now + home.hold) in
+    let good = g.records n r (slice_get-get_or s.records n no_record (waits_within s n machine e)) in
+    moved_each IsPrintableBody home (reserves_if o s.now r) (reserves_if_printable o s.now r (worked_printable r.rsm (lacking home s n) home.name (s.now + home.hold) r good (lacking_printable home s n)))
+
+printable_step : (input : Input) (second : ℕ) (home : Home) (stp_of : List ℕ → Option ℕ) (s : State) → IsGood home s → SaysPrintable (step input second home stp_of s)
+unfolding step ticks
+printable_step (Input.Got m) second home stp_of s g = printable_heard home stp_of s m
+printable_step (Input.Work n machine) second home stp_of s g = printable_worked (is_waiting s n machine) home s n machine refl g
+printable_step Input.Tick second home stp_of s g = ticks_each IsPrintableBody home second s.records
+    (λ r. reserves_if_printable (ticking second (own_origin home r) r) second r (ticking_printable second (own_origin home r) r))
+
+-- What a good provider says has a spelling.
+pub printable_after : (home : Home) (stp_of : List ℕ → Option ℕ) (s : State) (e : Entry) → IsGood home s → IsPrintableInput e.input → All IsPrintable (after home stp_of s e).out
+unfolding after
+printable_after home stp_of s e g p = by_may (may_take s e)
+  where
+    by_may : (b : Bool) → All IsPrintable (after_if b home stp_of s e).out
+    by_may false = nothing_said IsPrintableBody
+    by_may true = printable_step e.input e.second home stp_of s g

@@ -1,0 +1,26 @@
+use Rattle.std.proofs.Common.{ap, arith}
+use Rattle.nsi_primitive.specs.Messages.{is_request}
+use Rattle.message_retry.specs.Taken.{is_taken}
+use Rattle.provider_agent.specs.declared.desk.Desk.{Desk}
+use Rattle.provider_agent.specs.State.{State}
+use Rattle.provider_agent.specs.Steps.{is_waiting}
+use Rattle.provider_agent.specs.Desk.{home_at, state_at}
+use Rattle.provider_agent.specs.Home.{own_stp}
+use Rattle.provider_agent.proofs.Steady.{heard_taken, worked_taken, ticked_taken}
+use Rattle.provider_agent.proofs.desk.Desk.take.Goals as goal
+use Rattle.provider_agent.proofs.desk.Desk.take.Goals.{in-Got+in_ok-out-in-Got, in-Work+in_ok-out-in-Work, in-Tick+in_ok-out-in-Tick}
+
+pub overflow_add-self : goal.overflow_add-self
+overflow_add-self c =
+    let d = c.args.self.now in
+    let taken = λ (s : State). s.taken in
+    elim c.match-entry.branch [
+      | in-Got+in_ok-out-in-Got w ↦
+          let m = w.in-Got.message in
+          omega (arith, c.requires.few, ap (λ (x : Desk). x.taken) w.self-is, ap taken w.in_ok-out-in-Got.ensures.state, heard_taken (is_request m.body) (is_taken m.header d.seen) (home_at d) (own_stp c.args.topology.now d.number) (state_at d) m)
+      | in-Work+in_ok-out-in-Work w ↦
+          let n = w.in-Work.number in
+          omega (arith, c.requires.few, ap (λ (x : Desk). x.taken) w.self-is, ap taken w.in_ok-out-in-Work.ensures.state, worked_taken (is_waiting (state_at d) n w.in-Work.machine) (home_at d) (state_at d) n)
+      | in-Tick+in_ok-out-in-Tick w ↦
+          omega (arith, c.requires.few, ap (λ (x : Desk). x.taken) w.self-is, ap taken w.in_ok-out-in-Tick.ensures.state, ticked_taken (home_at d) c.args.entry.now.second (state_at d))
+    ]

@@ -1,0 +1,25 @@
+use Rattle.std.proofs.Common.{List, ◌∙◌, ap, sym, subst, map}
+use Rattle.connection_record.specs.declared.record.Record.{Record}
+use Rattle.provider_agent.specs.State.{State}
+use Rattle.provider_agent.specs.Steps.{ticks, ticks_at}
+use Rattle.provider_agent.specs.Ticks.{noted_at, lapsed_at}
+use Rattle.provider_agent.specs.Kept.{AreKept}
+use Rattle.provider_agent.specs.Desk.{home_at, state_at}
+use Rattle.provider_agent.proofs.Ticking.{ended_as, map_twice, kept_noted}
+use Rattle.provider_agent.proofs.desk.Desk.tick.Goals as goal
+
+pub end_all-requires-clause-kept : goal.end_all-requires-clause-kept
+end_all-requires-clause-kept c =
+    let d = c.args.self.now in
+    subst (λ rs. AreKept rs d.calendar.bookings) (sym c.in_ok-note_all.ensures.ok) (kept_noted c.args.now d.records.items d.calendar.bookings c.requires.kept)
+
+pub returns-clause-state : goal.returns-clause-state
+unfolding ticks
+returns-clause-state c =
+    let d = c.args.self.now in
+    let now = c.args.now in
+    let home = home_at d in
+    let ended = λ (r : Record). (ticks_at home now r).rec in
+    ap (λ (s : State). record s { now = now }) c.end_all.ensures.state
+    ∙ ap (λ (rs : List Record). record (state_at d) { records = rs; now = now })
+    (ap (map (lapsed_at now)) c.in_ok-note_all.ensures.ok ∙ map_twice (noted_at now) (lapsed_at now) ended d.records.items (ended_as home now))

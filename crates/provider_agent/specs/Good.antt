@@ -1,0 +1,43 @@
+-- What is true of a provider in every state of every run.
+use Rattle.std.specs.Prelude.{◌≡◌, ◌≤◌, ◌<◌, ◌+◌, ℕ, Bool, true, false, List, slice_get, length, Option, Some, IfSome, IsSome}
+use Rattle.nsi_primitive.specs.Ids.{id_of}
+use Rattle.nsi_primitive.specs.Printable.{IsShort}
+use Rattle.nsi_primitive.specs.declared.state.Rsm.{Rsm}
+use Rattle.nsi_primitive.specs.declared.message.Criteria.{Criteria}
+use Rattle.connection_record.specs.declared.record.Record.{Record}
+use Rattle.connection_record.specs.Demand.{last}
+use Rattle.connection_record.specs.Rising.{AreRising}
+use Rattle.provider_agent.specs.Home.{Home}
+use Rattle.provider_agent.specs.State.{State}
+use Rattle.provider_agent.specs.Safety.{IsCapped}
+
+-- whether something is asked, held or committed
+abbrev pub is_asking : Rsm → Bool
+is_asking Rsm.ReserveChecking = true
+is_asking Rsm.ReserveHeld = true
+is_asking Rsm.ReserveCommitting = true
+is_asking _ = false
+
+abbrev pub IsAboveLast : Option Criteria → List Criteria → Type 0
+IsAboveLast pending committed = IfSome pending (λ c. IfSome (last committed) (λ l. l.version < c.version))
+
+-- versions rise, the pending one above the last; what is asked is there; texts are short
+pub record IsGoodRecord (r : Record) : Type 0 where
+  pub rising : AreRising r.committed
+  pub above : IsAboveLast r.pending r.committed
+  pub asking : is_asking r.rsm ≡ true → IsSome r.pending
+  pub description : IsShort 256 r.service.description
+  pub global : IsShort 128 r.service.global
+
+-- ids rise with the records, and are below the next
+pub record AreOrdered (agent next : ℕ) (records : List Record) : Type 0 where
+  pub rise : (i j : ℕ) (a b : Record) → i < j → slice_get records i ≡ Some a → slice_get records j ≡ Some b → a.id < b.id
+  pub below : (i : ℕ) (a : Record) → slice_get records i ≡ Some a → a.id < id_of agent next
+
+-- no load passes a capacity, each record is good, and there are no more records and ids than entries
+pub record IsGood (home : Home) (s : State) : Type 0 where
+  pub capped : IsCapped home s
+  pub records : (n : ℕ) (r : Record) → slice_get s.records n ≡ Some r → IsGoodRecord r
+  pub ordered : AreOrdered home.number s.next s.records
+  pub few : length s.records ≤ s.taken
+  pub drawn : s.next ≤ s.taken + 1

@@ -1,0 +1,10 @@
+pub mod Home
+pub mod State
+pub mod Others
+pub mod Steps
+pub mod Runs
+pub mod Safety
+pub mod Kept
+pub mod Good
+pub mod Desk
+pub mod Ticks

@@ -1,0 +1,113 @@
+//! What a provider keeps.
+
+ghost use Rattle.std.specs.Prelude.{◌≡◌, ◌<◌, ◌≤◌, length, if◌then◌else◌, None, IfOk, OnOk, OnErr};
+ghost use Rattle.stp_topology.specs.Sound.{IsProvider};
+ghost use Rattle.capacity_calendar.specs.Plan.{pending_set};
+ghost use Rattle.connection_record.specs.Demand.{holds_pending};
+ghost use Rattle.provider_agent.specs.Home.{home_of, own_stp};
+ghost use Rattle.provider_agent.specs.State.{blank, counts, record_at};
+ghost use Rattle.provider_agent.specs.Steps.{step};
+ghost use Rattle.provider_agent.specs.Kept.{AreKept};
+ghost use Rattle.provider_agent.specs.Desk.{home_at, state_at, standing_at, IsReady};
+
+use crate::home::capacities_among;
+use capacity_calendar::Calendar;
+use connection_record::Record;
+use message_retry::TakenRequests;
+use nsi_base::{AgentNo, HoldTime, Name, RecordNo, Second};
+use nsi_primitive::{Entry, Input, Message};
+use std::alloc::{AllocError, Global};
+use stp_topology::{AgentKind, Topology};
+
+/// A provider's fields, without a word on what is true of them.
+#[derive(Drop)]
+pub struct Desk {
+    pub name: Name,
+    pub number: AgentNo,
+    pub hold: HoldTime,
+    pub calendar: Calendar,
+    pub records: Vec<Record>,
+    pub seen: TakenRequests,
+    /// The number of the next id.
+    pub next: u64,
+    pub now: Second,
+    /// How many entries were taken.
+    pub taken: u64,
+}
+
+impl Desk {
+    /// The desk of a provider that has taken nothing yet.
+    pub fn new(alloc: Global, topology: &Topology, agent: AgentNo) -> Result<Desk, AllocError>
+        requires within { agent < length topology.now.agents }
+        requires provider { IsProvider topology.now agent }
+        ensures standing { IfOk result (λ d. standing_at d ≡ record { home = home_of topology.now agent; state = blank }) }
+        ensures kept { IfOk result (λ d. AreKept d.records.items d.calendar.bookings) }
+    {
+        let AgentKind::Provider { hold } = topology.kind(agent) else {
+            unreachable!()
+        };
+        let name = topology.name(agent).copy()?;
+        let capacities = capacities_among(alloc, topology, agent)?;
+        let calendar = Calendar::new(alloc, capacities)?;
+        Ok(Desk {
+            name,
+            number: agent,
+            hold,
+            calendar,
+            records: Vec::new(alloc),
+            seen: TakenRequests::new(alloc),
+            next: 1,
+            now: Second::first(),
+            taken: 0,
+        })
+    }
+
+    /// Takes an entry.
+    #[tactic(auto, unfolding(crate::specs::Steps::step))]
+    pub fn take(
+        &mut self,
+        alloc: Global,
+        topology: &Topology,
+        entry: &Entry,
+    ) -> Result<Vec<Message>, AllocError>
+        requires ready { IsReady self.old }
+        requires few { self.old.taken < 4194304 }
+        ensures state { OnOk result (state_at self.new ≡ (counts (step entry.now.input entry.now.second (home_at self.old) (own_stp topology.now self.old.number) (state_at self.old))).state) }
+        ensures out { IfOk result (λ out. out.items ≡ (counts (step entry.now.input entry.now.second (home_at self.old) (own_stp topology.now self.old.number) (state_at self.old))).out) }
+        ensures home { home_at self.new ≡ home_at self.old }
+        ensures err { OnErr result (state_at self.new ≡ state_at self.old) }
+        ensures kept { AreKept self.new.records.items self.new.calendar.bookings }
+    {
+        let out = match &entry.input {
+            Input::Got(message) => self.hear(alloc, topology, message)?,
+            Input::Work { number, machine } => self.work(alloc, *number, *machine)?,
+            Input::Tick => self.tick(alloc, entry.second)?,
+        };
+        self.taken += 1;
+        Ok(out)
+    }
+
+    /// What a record doesn't hold any more is free for others.
+    pub fn free_if_dropped(&mut self, place: usize)
+        requires within { place < length self.old.records.items }
+        requires few { place ≤ 4194303 }
+        ensures { let bookings = self.old.calendar.bookings in
+            let holds = holds_pending (record_at place self.old.records.items).rsm in
+            self.new ≡ record self.old { calendar = record self.old.calendar { bookings = if holds then bookings else pending_set place None bookings } } }
+    {
+        if !self.records[place].is_holding() {
+            self.calendar.take_pending(number_of(place));
+        }
+    }
+}
+
+/// The number of the record at a place.
+pub fn number_of(place: usize) -> RecordNo
+    requires { place ≤ 4194303 }
+    ensures { result ≡ place }
+{
+    match RecordNo::new(place as u32) {
+        Some(number) => number,
+        None => unreachable!(),
+    }
+}

@@ -1,0 +1,13 @@
+//! The agent of one network, which reserves within the capacities of its own points.
+#![tactic(auto)]
+
+mod desk;
+mod find;
+mod hear;
+mod home;
+pub mod provider;
+mod records;
+mod tick;
+mod work;
+
+pub use provider::Provider;

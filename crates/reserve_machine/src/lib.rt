@@ -1,0 +1,9 @@
+//! The reservation machine (GFD.237, section 6.1, the Reservation State Machine).
+#![tactic(auto)]
+
+pub mod table;
+
+pub use table::{RsmEvent, step};
+
+#[cfg(test)]
+mod tests;
