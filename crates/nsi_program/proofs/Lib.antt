@@ -1,10 +1,10 @@
-pub mod Fresh
 pub mod Promised
 pub mod Declared
+pub mod Served
+pub mod Serves
 pub mod Known
 pub mod Written
 pub mod Checks
 pub mod Ended
 pub mod OneText
 mod CheckRows
-mod Rows

@@ -147,10 +147,11 @@ usage_front None after w = tt
 usage_front (Some c) after w = let f = front_in c (as_line (codes "fault usage")) [] (c ++ as_line (codes "fault usage")) w.0 (ap (λ z. c ++ z) (sym (append-nil (as_line (codes "fault usage"))))) in (f.0, w.1 ∙ f.1)
 
 -- at the start nothing is promised but what the whole input makes
-pub same_start : (held : Held) (t : Network) (content left : Option (List ℕ)) → held ≡ record { bytes = []; room = greatest_input } → t ≡ nothing → IsSameEnd (promise_of content left) (promised 1 (Phase.Declaring t) content (to_come held left))
+pub same_start : (held : Held) (t : Network) (most : ℕ) (content left : Option (List ℕ)) → held ≡ record { bytes = []; room = greatest_input } → t ≡ nothing
+    → IsSameEnd (promise_of most content left) (promised 1 (Phase.Declaring (record { topology = t; most = most })) content (to_come held left))
 unfolding to_come
-same_start held t None left h n = tt
-same_start held t (Some c) None h n = tt
-same_start held t (Some c) (Some bytes) h n =
-    ap (λ (x : Held). promised 1 (Phase.Declaring t) (Some c) (Some (given_of (budget x) (x.bytes ++ bytes)))) h
-    ∙ ap (λ x. promised 1 (Phase.Declaring x) (Some c) (Some (given_of greatest_input bytes))) n
+same_start held t most None left h n = tt
+same_start held t most (Some c) None h n = tt
+same_start held t most (Some c) (Some bytes) h n =
+    ap (λ (x : Held). promised 1 (Phase.Declaring (record { topology = t; most = most })) (Some c) (Some (given_of (budget x) (x.bytes ++ bytes)))) h
+    ∙ ap (λ x. promised 1 (Phase.Declaring (record { topology = x; most = most })) (Some c) (Some (given_of greatest_input bytes))) n

@@ -23,13 +23,13 @@ Promises ends (Some c) (Some bytes) promise = (end : Status × List ℕ) × ends
 -- what the command and its input promise of how it ends
 abbrev pub MayEnd : Option Command → Option (List ℕ) → Option (List ℕ) → Option (Status × List ℕ) → Type 0
 MayEnd None content left promise = promise ≡ usage_promise content
-MayEnd (Some Command.Provide) content left promise = promise ≡ promise_of content left
+MayEnd (Some (Command.Provide most)) content left promise = promise ≡ promise_of most content left
 MayEnd (Some Command.Check) content left promise = Promises (λ bytes end. Checks bytes end.0 end.1) content left promise
 
 -- what they promise of a text that may be cut short: of `check` it has the answers to some of the lines
 abbrev pub MayBegin : Option Command → Option (List ℕ) → Option (List ℕ) → Option (Status × List ℕ) → Type 0
 MayBegin None content left promise = promise ≡ usage_promise content
-MayBegin (Some Command.Provide) content left promise = promise ≡ promise_of content left
+MayBegin (Some (Command.Provide most)) content left promise = promise ≡ promise_of most content left
 MayBegin (Some Command.Check) content left promise = Promises (λ bytes end. Begins bytes end.1) content left promise
 
 -- the command has ended as it may

@@ -1,6 +1,8 @@
 pub mod Serving
 pub mod Service
+pub mod Hearing
 pub mod Lines
+pub mod Runs
 pub mod Outcome
 pub mod Promise
 pub mod Words

@@ -1,14 +1,18 @@
 -- What a line behind the topology is answered.
-use Rattle.std.specs.Prelude.{ℕ, List, [], ◌∷◌, ◌++◌, ◌==◌, nat_eq, map, length, codes, Bool, false, is_none, if◌then◌else◌, Result, Ok, Err}
-use Rattle.std.specs.List.{concat, starts_with}
-use Rattle.nsi_primitive.specs.declared.message.Body.{Body}
+use Rattle.std.specs.Prelude.{ℕ, ◌+◌, List, [], ◌∷◌, ◌++◌, nat_le, map, length, codes, if◌then◌else◌, Option, Some, None}
+use Rattle.std.specs.List.{concat}
+use Rattle.nsi_primitive.specs.declared.entry.Entry.{Entry}
 use Rattle.nsi_primitive.specs.declared.message.Message.{Message}
 use Rattle.json_fields.specs.Faults.{fault_name, fault_key}
 use Rattle.json_fields.specs.declared.fault.LineFault.{LineFault}
-use Rattle.json_primitives.specs.Lines.{line_of}
 use Rattle.json_primitives.specs.Spelling.{spelling}
 use Rattle.json_primitives.specs.Payload.{payload_spelling}
-use Rattle.nsi_program.specs.Serving.{Serving, Answered, answer}
+use Rattle.provider_agent.specs.Runs.{after_all}
+use Rattle.provider_agent.specs.State.{Stepped}
+use Rattle.provider_run.specs.Works.{with_works}
+use Rattle.nsi_program.specs.Hearing.{heard}
+use Rattle.nsi_program.specs.Serving.{Serving, points_at}
+use Rattle.nsi_program.specs.declared.hearing.Heard.{Heard}
 
 -- bytes as a line
 abbrev pub as_line : List ℕ → List ℕ
@@ -18,35 +22,41 @@ as_line bytes = bytes ++ 10 ∷ []
 abbrev pub lines_of_messages : List Message → List ℕ
 lines_of_messages messages = concat (map (λ m. as_line (spelling m)) messages)
 
--- what the provider keeps after a line, and what is written for it
+-- the provider after a line, if it may go on, and what is written for the line
 pub record Served : Type 0 where
-  pub serving : Serving
+  pub serving : Option Serving
   pub text : List ℕ
 
 -- the answer to a line that can't be read: its fault, the key of the fault, and the number of the line
 abbrev pub payload : ℕ → LineFault → List ℕ
 payload number fault = as_line (payload_spelling (fault_name fault) (fault_key fault) number)
 
--- a line that can't be read changes nothing
-abbrev pub faulty : Serving → ℕ → LineFault → Served
-faulty s number fault = record { serving = s; text = payload number fault }
+-- nothing is taken
+abbrev pub says : Serving → List ℕ → Served
+says s text = record { serving = Some s; text = text }
 
-abbrev pub spelled : Answered → Served
-spelled a = record { serving = a.serving; text = lines_of_messages a.messages }
+abbrev pub long_line : List ℕ
+long_line = as_line (codes "fault long")
 
--- whether it asks for a new connection
-abbrev pub is_first : Body → Bool
-is_first (Body.Reserve r) = is_none r.connection
-is_first _ = false
+-- there would be more events than there may be
+abbrev pub too_long : Served
+too_long = record { serving = None; text = long_line }
 
--- other requests than for a new connection aren't taken yet
-abbrev pub read : Result Message LineFault → Serving → ℕ → Served
-read (Err fault) s number = faulty s number fault
-read (Ok m) s number = if is_first m.body then spelled (answer s m) else faulty s number LineFault.Unbuilt
+-- after so many events
+abbrev pub served : Serving → ℕ → Stepped → Served
+served s events x =
+    if nat_le (s.events + events) s.most then says (record s { standing = record s.standing { state = x.state }; events = s.events + events }) (lines_of_messages x.out)
+    else too_long
 
--- empty lines are skipped; a line of the clock isn't taken yet
-unfoldable pub serve : Serving → ℕ → List ℕ → Served
-serve s number line =
-    if length line == 0 then record { serving = s; text = [] }
-    else if starts_with nat_eq line (codes "tick") then faulty s number LineFault.Unbuilt
-    else read (line_of line) s number
+-- entries and one sync behind them are events
+abbrev pub taken : Serving → List Entry → Served
+taken s es = served s (length es + 1) (after_all s.standing.home (points_at s) s.standing.state es)
+
+-- an entry is taken, and then all work that waits
+abbrev pub answered : Heard → Serving → ℕ → Served
+answered Heard.Nothing s number = says s []
+answered (Heard.Fault fault) s number = says s (payload number fault)
+answered (Heard.Entry e) s number = taken s (with_works s.standing.home (points_at s) s.standing.state e)
+
+abbrev pub serve : Serving → ℕ → List ℕ → Served
+serve s number line = answered (heard s.standing.state line) s number

@@ -6,8 +6,8 @@ use Rattle.stp_topology.specs.Faults.{fault_name}
 use Rattle.stp_topology.specs.Text.{of_line}
 use Rattle.stp_topology.specs.declared.fault.TopologyFault.{TopologyFault}
 use Rattle.stp_topology.specs.declared.topology.Taken.{Taken}
-use Rattle.nsi_program.specs.Lines.{Served, serve, as_line}
-use Rattle.nsi_program.specs.Service.{serving_of}
+use Rattle.nsi_program.specs.Lines.{serve, as_line}
+use Rattle.nsi_program.specs.Serving.{Serving, serving_of}
 use Rattle.nsi_program.specs.declared.status.Ending.{Ending}
 use Rattle.nsi_program.specs.declared.status.Status.{Status}
 use Rattle.nsi_program.specs.declared.provide.Phase.{Phase}
@@ -21,31 +21,32 @@ pub record Move : Type 0 where
 abbrev pub topology_fault : ℕ → TopologyFault → List ℕ
 topology_fault number fault = as_line (codes "fault topology " ++ decimal number ++ codes " " ++ fault_name fault)
 
--- a topology without a provider serves nobody
-abbrev pub opened : ℕ → Network → Option ℕ → Move
-opened number t None = record { text = topology_fault number TopologyFault.Empty; step = Step.End Ending.BadTopology }
-opened number t (Some provider) = record { text = []; step = Step.More (Phase.Serving (serving_of t provider)) }
+-- a topology without a provider serves nobody; with one, so many events may follow
+abbrev pub opened : ℕ → ℕ → Network → Option ℕ → Move
+opened most number t None = record { text = topology_fault number TopologyFault.Empty; step = Step.End Ending.BadTopology }
+opened most number t (Some provider) = record { text = []; step = Step.More (Phase.Serving (serving_of t provider most)) }
 
-abbrev pub declared : ℕ → Result Taken TopologyFault → Move
-declared number (Err fault) = record { text = topology_fault number fault; step = Step.End Ending.BadTopology }
-declared number (Ok (Taken.More t)) = record { text = []; step = Step.More (Phase.Declaring t) }
-declared number (Ok (Taken.Whole t)) = opened number t (first_provider t)
+abbrev pub declared : ℕ → ℕ → Result Taken TopologyFault → Move
+declared most number (Err fault) = record { text = topology_fault number fault; step = Step.End Ending.BadTopology }
+declared most number (Ok (Taken.More t)) = record { text = []; step = Step.More (Phase.Declaring (record { topology = t; most = most })) }
+declared most number (Ok (Taken.Whole t)) = opened most number t (first_provider t)
 
-abbrev pub served : Served → Move
-served s = record { text = s.text; step = Step.More (Phase.Serving s.serving) }
+abbrev pub goes_on : List ℕ → Option Serving → Move
+goes_on text None = record { text = text; step = Step.End Ending.Long }
+goes_on text (Some s) = record { text = text; step = Step.More (Phase.Serving s) }
 
 -- what a line does: the topology's lines come first
 unfoldable pub move_of : ℕ → Phase → List ℕ → Move
-move_of number (Phase.Declaring t) line = declared number (of_line t line)
-move_of number (Phase.Serving s) line = served (serve s number line)
+move_of number (Phase.Declaring d) line = declared d.most number (of_line d.topology line)
+move_of number (Phase.Serving s) line = goes_on (serve s number line).text (serve s number line).serving
 
 -- at the end of the lines; a topology without an end is faulty at the line after the last
 abbrev pub end_of : ℕ → Phase → Ending × List ℕ
-end_of number (Phase.Declaring t) = (Ending.BadTopology, topology_fault number TopologyFault.Word)
+end_of number (Phase.Declaring d) = (Ending.BadTopology, topology_fault number TopologyFault.Word)
 end_of number (Phase.Serving s) = (Ending.Done, [])
 
 abbrev pub last_of : Bool → ℕ → Phase → Ending × List ℕ
-last_of true number phase = (Ending.Long, as_line (codes "fault long"))
+last_of true number phase = (Ending.Long, long_line)
 last_of false number phase = end_of number phase
 
 -- the status of an end

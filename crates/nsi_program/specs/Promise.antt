@@ -1,5 +1,5 @@
 -- What the command will have written, as it goes on.
-use Rattle.std.specs.Prelude.{◌≡◌, ◌≤◌, ◌⊎◌, ℕ, length, Ok, Err, List, ◌++◌, take, codes, Bool, true, false, Option, Some, option_map, option_and_then, IfSome}
+use Rattle.std.specs.Prelude.{◌≡◌, ◌≤◌, ◌<◌, ◌⊎◌, ℕ, length, Ok, Err, List, ◌++◌, take, drop, codes, Bool, true, false, Option, Some, option_map, option_and_then, IfSome}
 use Rattle.line_reader.specs.Given.{Given, given_of}
 use Rattle.nsi_base.specs.Lines.{lines_of}
 use Rattle.stp_topology.specs.declared.network.Network.{Network}
@@ -7,6 +7,9 @@ use Rattle.stp_topology.specs.declared.fault.TopologyFault.{TopologyFault}
 use Rattle.stp_topology.specs.Network.{nothing, first_provider}
 use Rattle.stp_topology.specs.Text.{read_lines}
 use Rattle.nsi_program.specs.Lines.{as_line}
+use Rattle.provider_agent.specs.Home.{home_of, own_stp}
+use Rattle.provider_agent.specs.State.{blank}
+use Rattle.nsi_program.specs.Runs.{events_of, ServesSafely}
 use Rattle.nsi_program.specs.Outcome.{outcome, status_of, topology_fault}
 use Rattle.nsi_program.specs.declared.status.Ending.{Ending}
 use Rattle.nsi_program.specs.declared.status.Status.{Status}
@@ -80,9 +83,13 @@ code_of Status.Long = 8
 abbrev pub greatest_input : ℕ
 greatest_input = 67108864
 
--- what the whole input makes of the command `provide`
-abbrev pub promise_of : Option (List ℕ) → Option (List ℕ) → Option (Status × List ℕ)
-promise_of content left = promised 1 (Phase.Declaring nothing) content (option_map (given_of greatest_input) left)
+-- the command `provide` before its first line
+abbrev pub begun : ℕ → Phase
+begun most = Phase.Declaring (record { topology = nothing; most = most })
+
+-- what the whole input makes of the command `provide`, where there may be so many events
+abbrev pub promise_of : ℕ → Option (List ℕ) → Option (List ℕ) → Option (Status × List ℕ)
+promise_of most content left = promised 1 (begun most) content (option_map (given_of greatest_input) left)
 
 -- an end that is neither want of memory nor a fault of reading or writing
 abbrev pub is_told : Status → Bool
@@ -91,13 +98,20 @@ is_told Status.ReadFault = false
 is_told Status.WriteFault = false
 is_told _ = true
 
--- The lines begin with a topology that has a provider.
-abbrev pub HasProvider : List (List ℕ) → Type 0
-HasProvider lines = (t : Network) × (n : ℕ) × (p : ℕ) × (read_lines nothing 0 lines ≡ Ok (t, n)) × (first_provider t ≡ Some p)
+-- done where so many events are no more than there may be, and else too long
+abbrev pub EndsBy : ℕ → ℕ → Status → Type 0
+EndsBy most events status = ((events ≤ most) × (status ≡ Status.Done)) ⊎ ((most < events) × (status ≡ Status.Long))
 
--- With a good topology and an input within the size the command is done.
-abbrev pub IsComplete : Option (List ℕ) → Option (List ℕ) → Status → Type 0
-IsComplete content left status = IfSome content (λ _. IfSome left (λ bytes. length bytes ≤ greatest_input → HasProvider (lines_of bytes) → status ≡ Status.Done))
+-- With a topology that has a provider, and an input within the size, the command is done exactly where its lines make no more events than there may be.
+abbrev pub IsComplete : ℕ → Option (List ℕ) → Option (List ℕ) → Status → Type 0
+IsComplete most content left status =
+    IfSome content (λ _. IfSome left (λ bytes. (t : Network) (n provider : ℕ) → length bytes ≤ greatest_input → read_lines nothing 0 (lines_of bytes) ≡ Ok (t, n) → first_provider t ≡ Some provider
+    → EndsBy most (events_of (home_of t provider) (own_stp t provider) blank (drop n (lines_of bytes))) status))
+
+-- What `provide` writes is the text of a safe run.
+abbrev pub IsSafe : Option (List ℕ) → Option (List ℕ) → Status → Option (List ℕ) → Type 0
+IsSafe content left status new =
+    IfSome content (λ c. IfSome left (λ bytes. (text : List ℕ) × (new ≡ Some (c ++ text)) × ServesSafely (given_of greatest_input bytes).lines status text))
 
 -- With a faulty line in the topology, and an input within the size, the first faulty line and its fault are all that is written.
 abbrev pub NamesFault : Option (List ℕ) → Option (List ℕ) → Status → Option (List ℕ) → Type 0

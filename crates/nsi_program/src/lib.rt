@@ -3,13 +3,13 @@
 
 mod asked;
 mod check;
+mod hearing;
 mod output;
 mod paths;
 mod provide;
 mod service;
 pub mod status;
 mod top;
-mod wish;
 mod words;
 
 pub use check::one_check;

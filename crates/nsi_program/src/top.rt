@@ -1,18 +1,19 @@
 //! The top call.
 
-ghost use Rattle.std.specs.Prelude.{◌≡◌, ◌<◌, ◌≤◌, ◌+◌, ◌↔◌, ◌⊎◌, IfOk, IsErrOf, IsSome, OnOk, OnErr, codes, map, string_bytes, true, false};
+ghost use Rattle.std.specs.Prelude.{◌≡◌, ℕ, ◌<◌, ◌≤◌, ◌+◌, ◌↔◌, ◌⊎◌, IfOk, IsErrOf, IsSome, OnOk, OnErr, codes, map, string_bytes, true, false};
 ghost use Rattle.line_reader.specs.Held.{budget, to_come};
 ghost use Rattle.nsi_program.specs.Lines.{as_line};
 ghost use Rattle.nsi_program.specs.Outcome.{is_more, move_of, end_of};
-ghost use Rattle.nsi_program.specs.Promise.{is_told, promised, promised_after, promise_of, read_fault_line, Writes, WritesFront, IsSameEnd, IsKept, IsFrontOf, IsCutByFault, IsUnfinished, IsComplete, NamesFault};
+ghost use Rattle.nsi_program.specs.Promise.{is_told, promised, promised_after, promise_of, read_fault_line, Writes, WritesFront, IsSameEnd, IsKept, IsFrontOf, IsCutByFault, IsUnfinished, IsComplete, IsSafe, NamesFault};
 ghost use Rattle.nsi_program.specs.Words.{command_of};
+ghost use Rattle.nsi_program.specs.declared.words.Command.TheVariants.{Provide as ProvideValue};
 ghost use Rattle.nsi_program.specs.Ends.{HasEnded, IsChecked, IsCut, IsCutShort};
 
 use crate::check::check;
 use crate::output::{Fault, read_fault, write_text};
-use crate::provide::{Move, Phase, Step};
+use crate::provide::{Declaring, Move, Phase, Step};
 use crate::status::{Ending, Status};
-use crate::words::{Command, command_of};
+use crate::words::{Command, EventLimit, command_of};
 use line_reader::{LineReader, Next, ReadError};
 use nsi_outside::{Sink, Source};
 use std::alloc::Global;
@@ -35,7 +36,8 @@ pub fn top_plain<S: Source, K: Sink>(
     ensures ends { is_told result ≡ true → HasEnded (command_of (map string_bytes words.now)) (K.content out.old) (S.left input.old) result (K.content out.new) }
     ensures usage { is_told result ≡ true → ((result ≡ Status.Usage) ↔ (command_of (map string_bytes words.now) ≡ None)) }
 
-    ensures complete { command_of (map string_bytes words.now) ≡ Some Command.Provide → is_told result ≡ true → IsComplete (K.content out.old) (S.left input.old) result }
+    ensures complete { (most : ℕ) → command_of (map string_bytes words.now) ≡ Some (ProvideValue most) → is_told result ≡ true → IsComplete most (K.content out.old) (S.left input.old) result }
+    ensures safe { (most : ℕ) → command_of (map string_bytes words.now) ≡ Some (ProvideValue most) → is_told result ≡ true → IsSafe (K.content out.old) (S.left input.old) result (K.content out.new) }
     ensures checked { command_of (map string_bytes words.now) ≡ Some Command.Check → is_told result ≡ true → IsChecked (K.content out.old) (S.left input.old) result }
     ensures bad_topology { IsSome (command_of (map string_bytes words.now)) → is_told result ≡ true → NamesFault (K.content out.old) (S.left input.old) result (K.content out.new) }
 
@@ -48,7 +50,7 @@ pub fn top_plain<S: Source, K: Sink>(
         → IsCutShort (command_of (map string_bytes words.now)) (K.content out.old) (S.left input.old) (S.faults input.old < S.faults input.new) (K.content out.new) }
 {
     match command_of(words) {
-        Some(Command::Provide) => provide(alloc, input, out),
+        Some(Command::Provide(most)) => provide(alloc, most, input, out),
         Some(Command::Check) => check(alloc, input, out),
         None => usage(out),
     }
@@ -172,17 +174,25 @@ fn usage<K: Sink>(out: &mut K) -> Status
 }
 
 /// The command `provide`.
-fn provide<S: Source, K: Sink>(alloc: Global, input: &mut S, out: &mut K) -> Status
-    ensures ends { is_told result ≡ true → IsKept (promise_of (K.content out.old) (S.left input.old)) result (K.content out.new) }
+fn provide<S: Source, K: Sink>(
+    alloc: Global,
+    most: EventLimit,
+    input: &mut S,
+    out: &mut K,
+) -> Status
+    ensures ends { is_told result ≡ true → IsKept (promise_of most (K.content out.old) (S.left input.old)) result (K.content out.new) }
     ensures not_usage { result ≡ Status.Usage → ⊥ }
     ensures read_fault { result ≡ Status.ReadFault → S.faults input.old < S.faults input.new }
-    ensures cut { result ≡ Status.ReadFault → IsCutByFault (promise_of (K.content out.old) (S.left input.old)) (K.content out.new) }
+    ensures cut { result ≡ Status.ReadFault → IsCutByFault (promise_of most (K.content out.old) (S.left input.old)) (K.content out.new) }
     ensures write_fault { result ≡ Status.WriteFault → K.faults out.old < K.faults out.new }
     ensures unfinished { (result ≡ Status.WriteFault) ⊎ (result ≡ Status.NoMemory)
-        → IsUnfinished (promise_of (K.content out.old) (S.left input.old)) (S.faults input.old < S.faults input.new) (K.content out.new) }
+        → IsUnfinished (promise_of most (K.content out.old) (S.left input.old)) (S.faults input.old < S.faults input.new) (K.content out.new) }
 {
     let mut reader = LineReader::new(alloc, GREATEST_INPUT);
-    let mut phase = Phase::Declaring(Topology::new(alloc));
+    let mut phase = Phase::Declaring(Declaring {
+        topology: Topology::new(alloc),
+        most,
+    });
     let mut number = 1;
     'lines: loop {
         match step(alloc, input, &mut reader, out, number, phase) {

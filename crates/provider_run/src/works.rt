@@ -81,6 +81,7 @@ impl Run {
         ensures messages { OnOk result (let stp_of = own_stp topology.now provider.old.home.number in self.new.messages.items ≡ self.old.messages.items ++ (after_all provider.old.home stp_of provider.old.state (all_works provider.old.home stp_of provider.old.state)).out) }
         ensures count { OnOk result (let stp_of = own_stp topology.now provider.old.home.number in self.new.count ≡ self.old.count + length (all_works provider.old.home stp_of provider.old.state)) }
         ensures few { OnOk result (self.new.count ≤ 2000002) }
+        ensures taken { OnOk result (provider.new.state.taken + self.old.count ≡ provider.old.state.taken + self.new.count) }
         ensures printable { OnOk result (All IsPrintable self.old.messages.items → All IsPrintable self.new.messages.items) }
         ensures idle { OnOk result (waiting_work provider.new.state ≡ None) }
     {
@@ -110,6 +111,7 @@ pub fn take_with_works(
     ensures messages { IfOk result (λ run. let stp_of = own_stp topology.now provider.old.home.number in let es = with_works provider.old.home stp_of provider.old.state entry.now in run.messages.items ≡ (after_all provider.old.home stp_of provider.old.state es).out) }
     ensures count { IfOk result (λ run. let stp_of = own_stp topology.now provider.old.home.number in run.count ≡ length (with_works provider.old.home stp_of provider.old.state entry.now)) }
     ensures few { IfOk result (λ run. run.count ≤ 2000002) }
+    ensures taken { IfOk result (λ run. provider.new.state.taken ≡ provider.old.state.taken + run.count) }
     ensures printable { IfOk result (λ run. All IsPrintable run.messages.items) }
     ensures idle { OnOk result (waiting_work provider.new.state ≡ None) }
 {

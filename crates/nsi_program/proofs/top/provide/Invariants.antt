@@ -9,7 +9,7 @@ decreases-lines g l = budget l.reader
 -- how it will end doesn't change
 abbrev pub invariant-lines : goal.invariant-lines
 invariant-lines g l = record {
-  same : IsSameEnd (promise_of (g.K.Sink.content l.fn.out) (g.S.Source.left l.fn.input)) (promised l.number l.phase (g.K.Sink.content l.out) (to_come l.reader (g.S.Source.left l.input)));
+  same : IsSameEnd (promise_of l.fn.most (g.K.Sink.content l.fn.out) (g.S.Source.left l.fn.input)) (promised l.number l.phase (g.K.Sink.content l.out) (to_come l.reader (g.S.Source.left l.input)));
   few : l.number + budget l.reader ≤ 67108865;
   reads : g.S.Source.faults l.fn.input ≤ g.S.Source.faults l.input;
   writes : g.K.Sink.faults l.fn.out ≤ g.K.Sink.faults l.out;

@@ -3,11 +3,8 @@ use Rattle.nsi_program.proofs.Declared.{is_complete, names_fault}
 use Rattle.nsi_program.proofs.Ended.{check_ended, check_cut, check_cut_short, usage_ended, usage_cut_short}
 use Rattle.nsi_program.proofs.top.top_plain.Goals as goal
 
-pub returns-in-Some-Provide-clause-complete : goal.returns-in-Some-Provide-clause-complete
-returns-in-Some-Provide-clause-complete g c = λ _ told. is_complete _ _ _ _ (c.provide.ensures.ends told)
-
 pub returns-in-Some-Provide-clause-bad_topology : goal.returns-in-Some-Provide-clause-bad_topology
-returns-in-Some-Provide-clause-bad_topology g c = λ _ told. names_fault _ _ _ _ (c.provide.ensures.ends told)
+returns-in-Some-Provide-clause-bad_topology g c = λ _ told. names_fault _ _ _ _ _ (c.provide.ensures.ends told)
 
 pub returns-in-Some-Check-clause-ends : goal.returns-in-Some-Check-clause-ends
 returns-in-Some-Check-clause-ends g c = λ told.

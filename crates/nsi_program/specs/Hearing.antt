@@ -1,0 +1,41 @@
+-- What a line behind the topology says to a provider.
+use Rattle.std.specs.Prelude.{◌≡◌, ℕ, List, ◌==◌, nat_eq, nat_le, length, drop, codes, true, if◌then◌else◌, Option, Some, None, Result, Ok, Err}
+use Rattle.std.specs.List.{starts_with}
+use Rattle.nsi_base.specs.Digits.{number_of}
+use Rattle.nsi_primitive.specs.declared.entry.Input.{Input}
+use Rattle.nsi_primitive.specs.declared.message.Message.{Message}
+use Rattle.json_fields.specs.declared.fault.LineFault.{LineFault}
+use Rattle.json_primitives.specs.Lines.{line_of}
+use Rattle.provider_agent.specs.Safety.{IsPrintableInput}
+use Rattle.provider_agent.specs.State.{State}
+use Rattle.provider_agent.specs.Steps.{is_seen, is_on_time}
+use Rattle.nsi_program.specs.declared.hearing.Heard.{Heard}
+
+-- a request says nothing where it was taken before
+abbrev pub requested : Message → State → Heard
+requested m s = if is_seen s m then Heard.Nothing else Heard.Entry (record { second = s.now; input = Input.Got m })
+
+abbrev pub read : Result Message LineFault → State → Heard
+read (Err fault) s = Heard.Fault fault
+read (Ok m) s = requested m s
+
+-- the second of a line of the clock: one blank, and a second
+abbrev pub second_in : List ℕ → Option ℕ
+second_in line = if starts_with nat_eq line (codes "tick ") then number_of 0 253370764799 (drop 5 line) else None
+
+-- the clock doesn't go back
+abbrev pub ticked : Option ℕ → State → Heard
+ticked None s = Heard.Fault LineFault.Tick
+ticked (Some second) s = if nat_le s.now second then Heard.Entry (record { second = second; input = Input.Tick }) else Heard.Fault LineFault.Tick
+
+-- empty lines are skipped
+unfoldable pub heard : State → List ℕ → Heard
+heard s line =
+    if length line == 0 then Heard.Nothing
+    else if starts_with nat_eq line (codes "tick") then ticked (second_in line) s
+    else read (line_of line) s
+
+-- what is taken may be taken now
+abbrev pub IsTimely : State → Heard → Type 0
+IsTimely s (Heard.Entry e) = (is_on_time e.input e.second s.now ≡ true) × IsPrintableInput e.input
+IsTimely s h = Unit {0}

@@ -1,0 +1,79 @@
+-- The run that lines make of a provider, and the text of its messages.
+use Rattle.std.specs.Prelude.{◌≡◌, ◌≤◌, ◌<◌, ◌⊎◌, ℕ, ◌+◌, List, [], ◌∷◌, ◌++◌, map, length, drop, Option, Some, None, IfSome, Result, Ok, Err}
+use Rattle.std.specs.List.{concat, flat_map}
+use Rattle.line_reader.specs.Given.{Given, given_of}
+use Rattle.nsi_primitive.specs.declared.entry.Entry.{Entry}
+use Rattle.nsi_primitive.specs.declared.message.Message.{Message}
+use Rattle.json_fields.specs.declared.fault.LineFault.{LineFault}
+use Rattle.json_primitives.specs.Spelling.{spelling}
+use Rattle.stp_topology.specs.declared.network.Network.{Network}
+use Rattle.stp_topology.specs.Network.{nothing, first_provider}
+use Rattle.stp_topology.specs.Text.{read_lines}
+use Rattle.provider_agent.specs.Home.{Home, home_of, own_stp}
+use Rattle.provider_agent.specs.Runs.{after_all}
+use Rattle.provider_agent.specs.Safety.{IsRun, IsSafe}
+use Rattle.provider_agent.specs.State.{State, blank}
+use Rattle.provider_agent.specs.Steps.{waiting_work}
+use Rattle.provider_run.specs.Works.{with_works}
+use Rattle.nsi_program.specs.Hearing.{heard}
+use Rattle.nsi_program.specs.Lines.{as_line, payload, long_line}
+use Rattle.nsi_program.specs.declared.hearing.Heard.{Heard}
+use Rattle.nsi_program.specs.declared.status.Status.{Status}
+
+-- the entries of a line: the one that it says, and all work that waits then
+abbrev pub entries_of : Home → (List ℕ → Option ℕ) → State → Heard → List Entry
+entries_of home stp_of s (Heard.Entry e) = with_works home stp_of s e
+entries_of home stp_of s h = []
+
+-- the entries of lines, one line after another
+unfoldable pub run_of : Home → (List ℕ → Option ℕ) → State → List (List ℕ) → List Entry
+run_of home stp_of s [] = []
+run_of home stp_of s (line ∷ lines) = entries_of home stp_of s (heard s line) ++ run_of home stp_of (after_all home stp_of s (entries_of home stp_of s (heard s line))).state lines
+
+-- entries and one sync behind them
+abbrev pub with_sync : List Entry → ℕ
+with_sync [] = 0
+with_sync (e ∷ es) = length (e ∷ es) + 1
+
+-- how many events lines make
+unfoldable pub events_of : Home → (List ℕ → Option ℕ) → State → List (List ℕ) → ℕ
+events_of home stp_of s [] = 0
+events_of home stp_of s (line ∷ lines) =
+    with_sync (entries_of home stp_of s (heard s line)) + events_of home stp_of (after_all home stp_of s (entries_of home stp_of s (heard s line))).state lines
+
+---- The text
+
+-- a line of the text: a message, or the fault of the line of that number
+abbrev pub Piece : Type 0
+Piece = Result Message (ℕ × LineFault)
+
+abbrev pub piece_text : Piece → List ℕ
+piece_text (Ok m) = as_line (spelling m)
+piece_text (Err fault) = payload fault.0 fault.1
+
+abbrev pub said : Piece → List Message
+said (Ok m) = m ∷ []
+said (Err fault) = []
+
+-- the text is the lines of the messages in their order, with lines of faults between them
+abbrev pub IsWoven : List Message → List ℕ → Type 0
+IsWoven messages text = (pieces : List Piece) × (messages ≡ flat_map said pieces) × (text ≡ concat (map piece_text pieces))
+
+-- What lines make of a provider is a run in which no load passes a capacity, the versions of each record rise, and a refusal for bandwidth names the first lack;
+-- no work waits at its end, and the text has all its messages.
+pub record IsSafeText (home : Home) (stp_of : List ℕ → Option ℕ) (lines : List (List ℕ)) (text : List ℕ) : Type 0 where
+  pub run : IsRun home stp_of blank (run_of home stp_of blank lines)
+  pub safe : IsSafe home stp_of blank (run_of home stp_of blank lines)
+  pub idle : waiting_work (after_all home stp_of blank (run_of home stp_of blank lines)).state ≡ None
+  pub woven : IsWoven (after_all home stp_of blank (run_of home stp_of blank lines)).out text
+
+-- all lines are served, or some of them and then there is too much
+data IsServed (home : Home) (stp_of : List ℕ → Option ℕ) (lines : List (List ℕ)) (status : Status) (text : List ℕ) : Type 0 where
+  served_all : status ≡ Status.Done → IsSafeText home stp_of lines text → IsServed home stp_of lines status text
+  served_some : (front back : List (List ℕ)) → (body : List ℕ) → lines ≡ front ++ back → status ≡ Status.Long → IsSafeText home stp_of front body → text ≡ body ++ long_line
+      → IsServed home stp_of lines status text
+
+-- So `provide` serves the lines behind a topology that has a provider: what it writes, and how it ends.
+abbrev pub ServesSafely : List (List ℕ) → Status → List ℕ → Type 0
+ServesSafely lines status text =
+    (t : Network) (n provider : ℕ) → read_lines nothing 0 lines ≡ Ok (t, n) → first_provider t ≡ Some provider → IsServed (home_of t provider) (own_stp t provider) (drop n lines) status text

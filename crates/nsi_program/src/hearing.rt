@@ -1,0 +1,88 @@
+//! What a line behind the topology says.
+
+ghost use Rattle.std.specs.Prelude.{◌≡◌, IfOk};
+ghost use Rattle.nsi_primitive.specs.Messages.{is_request};
+ghost use Rattle.nsi_primitive.specs.Printable.{IsPrintable};
+ghost use Rattle.provider_agent.specs.State.{State};
+ghost use Rattle.nsi_program.specs.Hearing.{requested, second_in, ticked, heard, IsTimely};
+
+use json_fields::LineFault;
+use json_primitives::read_line;
+use nsi_base::Second;
+use nsi_base::digits::number_of;
+use nsi_primitive::{Entry, Input, Message};
+use provider_agent::Provider;
+use std::alloc::{AllocError, Global};
+
+/// What a line says to a provider.
+#[derive(Drop)]
+pub enum Heard {
+    /// The line is empty, or its request was taken before.
+    Nothing,
+    /// The line can't be read.
+    Fault(LineFault),
+    /// A request that comes now, or a second of the clock.
+    Entry(Entry),
+}
+
+/// What a line says to the provider.
+#[tactic(auto, unfolding(crate::specs::Hearing::heard))]
+pub(crate) fn hear(alloc: Global, provider: &Provider, line: &[u8]) -> Result<Heard, AllocError>
+    ensures heard { IfOk result (λ h. h ≡ heard provider.now.state line.now) }
+    ensures timely { IfOk result (λ h. IsTimely provider.now.state h) }
+{
+    if line.is_empty() {
+        return Ok(Heard::Nothing);
+    }
+    if line.starts_with(b"tick") {
+        return Ok(ticked(provider.now(), second_in(line)));
+    }
+    match read_line(alloc, line) {
+        Ok(message) => Ok(requested(provider, message)),
+        Err(LineFault::NoMemory) => Err(AllocError),
+        Err(fault) => Ok(Heard::Fault(fault)),
+    }
+}
+
+/// A request, where it wasn't taken before.
+fn requested(provider: &Provider, message: Message) -> Heard
+    requires { IsPrintable message }
+    ensures heard { result ≡ requested message provider.now.state }
+    ensures timely { IsTimely provider.now.state result }
+{
+    if provider.seen(&message) {
+        return Heard::Nothing;
+    }
+    Heard::Entry(Entry {
+        second: provider.now(),
+        input: Input::Got(message),
+    })
+}
+
+/// The second of a line of the clock.
+fn second_in(line: &[u8]) -> Option<Second>
+    ensures { result ≡ second_in line.now }
+{
+    if !line.starts_with(b"tick ") {
+        return None;
+    }
+    let second = number_of(0, Second::MAX, &line[5..])?;
+    match Second::new(second) {
+        Some(second) => Some(second),
+        None => unreachable!(),
+    }
+}
+
+/// The clock goes on to the second, where it doesn't go back.
+fn ticked(now: Second, second: Option<Second>) -> Heard
+    ensures heard { (s : State) → s.now ≡ now → result ≡ ticked second s }
+    ensures timely { (s : State) → s.now ≡ now → IsTimely s result }
+{
+    match second {
+        Some(second) if now <= second => Heard::Entry(Entry {
+            second,
+            input: Input::Tick,
+        }),
+        _ => Heard::Fault(LineFault::Tick),
+    }
+}
