@@ -1,3 +1,4 @@
 pub mod Working
 pub mod WorkRuns
 pub mod Idle
+mod Rows

@@ -33,3 +33,8 @@ returns-clause-messages c =
     ∙ (ap (λ xs. xs ++ (after_all c.take.new.provider.home (own_stp t c.take.new.provider.home.number) c.take.new.provider.state (all_works c.take.new.provider.home (own_stp t c.take.new.provider.home.number) c.take.new.provider.state)).out) own
     ∙ (ap (λ (x : Standing). (after p.home stp_of p.state c.args.entry.now).out ++ (after_all x.home (own_stp t x.home.number) x.state (all_works x.home (own_stp t x.home.number) x.state)).out) c.in_ok-take.ensures.state
     ∙ sym (first_out p.home stp_of p.state c.args.entry.now (all_works p.home stp_of next))))
+
+pub returns-clause-taken : goal.returns-clause-taken
+returns-clause-taken c =
+    let p = c.args.provider.now in
+    omega (arith, c.in_ok-take_works.ensures.taken, c.in_ok-take.ensures.count, ap (λ (x : Standing). x.state.taken) c.in_ok-take.ensures.state, taken_after p.home (own_stp c.args.topology.now p.home.number) p.state c.args.entry.now c.requires.may_take)
