@@ -74,12 +74,10 @@ declared_good long most t before (line ∷ lines) whole n p h f = by_result (of_
     same : (a b : Network × ℕ) → good a ≡ good b → a ≡ b
     same a b h = cc
 
-    opens : (new : Network) (m : ℕ) (o : Option ℕ) → (new, m) ≡ (whole, n) → m ≡ before + 1 → o ≡ Some p
+    opens : (new : Network) (o : Option ℕ) → new ≡ whole → n ≡ before + 1 → o ≡ Some p
         → IsOpened long most before (line ∷ lines) whole n p (behind (opened most (before + 1) new o).text (opened most (before + 1) new o).step (λ q. outcome long (before + 1 + 1) q lines))
-    opens new m None e here f = cc
-    opens new m (Some q) e here f =
-        let network : new ≡ whole = ap (λ (x : Network × ℕ). x.0) e in
-        let number : n ≡ before + 1 = ap (λ (x : Network × ℕ). x.1) (sym e) ∙ here in
+    opens new None network number f = cc
+    opens new (Some q) network number f =
         let provider : q ≡ p = some_is q p f in
         let one : 1 ≡ n - before = omega (arith, number) in
         let two : before + 1 + 1 ≡ n + 1 = omega (arith, number) in
@@ -108,7 +106,8 @@ declared_good long most t before (line ∷ lines) whole n p h f = by_result (of_
         → onward (before + 1) r (λ new. read_lines new (before + 1) lines) ≡ Ok (whole, n) → IsOpened long most before (line ∷ lines) whole n p (by_line long most (before + 1) r lines)
     by_result (Err f) next h = cc
     by_result (Ok (Taken.More new)) next h = behind_line _ (next new h)
-    by_result (Ok (Taken.Whole new)) next h = let e = same _ _ h in opens new (before + 1) (first_provider new) e refl (ap first_provider (ap (λ (x : Network × ℕ). x.0) e) ∙ f)
+    by_result (Ok (Taken.Whole new)) next h = let e = same _ _ h in
+        opens new (first_provider new) (ap (λ (x : Network × ℕ). x.0) e) (ap (λ (x : Network × ℕ). x.1) (sym e)) (ap first_provider (ap (λ (x : Network × ℕ). x.0) e) ∙ f)
 
 -- from the first line on
 opened_first : (long : Bool) (most : ℕ) (lines : List (List ℕ)) (t : Network) (n provider : ℕ) → read_lines nothing 0 lines ≡ Ok (t, n) → first_provider t ≡ Some provider
@@ -126,14 +125,15 @@ all_given bytes few = ap (λ t. cond t (record { lines = lines_of bytes; long = 
     fits : (n : ℕ) → n ≤ 67108864 → leb n 67108864 ≡ true
     fits n l = grind (arith, nat_tests)
 
-pub is_complete : (most : ℕ) (content left new : Option (List ℕ)) (status : Status) → IsKept (promise_of most content left) status new → IsComplete most content left status
-is_complete most None left new status k = tt
-is_complete most (Some c) None new status k = tt
-is_complete most (Some c) (Some bytes) new status k = λ t n provider few h f.
+pub is_complete : (most : ℕ) (content left new : Option (List ℕ)) (status : Status) → most ≤ 2000000 → IsKept (promise_of most content left) status new → IsComplete most content left status
+is_complete most None left new status limited k = tt
+is_complete most (Some c) None new status limited k = tt
+is_complete most (Some c) (Some bytes) new status limited k = λ t n provider few h f.
     let e = ap (λ (g : Given). outcome g.long 1 (begun most) g.lines) (all_given bytes few) ∙ opened_first false most (lines_of bytes) t n provider h f in
-    let by = ends_by (n + 1) (serving_of t provider most) (drop n (lines_of bytes)) (omega arith) in
+    let by = ends_by (n + 1) (serving_of t provider most) (drop n (lines_of bytes)) (well_at_first t provider most limited) in
     let P : Status → Type 0 = λ x. EndsBy most (events_of (home_of t provider) (own_stp t provider) blank (drop n (lines_of bytes))) x in
-    subst P (sym (k.0 ∙ ap (λ (x : Status × List ℕ). x.0) e)) by
+    let none : 0 + 0 + events_of (home_of t provider) (own_stp t provider) blank (drop n (lines_of bytes)) ≡ events_of (home_of t provider) (own_stp t provider) blank (drop n (lines_of bytes)) = omega arith in
+    subst P (sym (k.0 ∙ ap (λ (x : Status × List ℕ). x.0) e)) (subst (λ k. EndsBy most k (outcome false (n + 1) (Phase.Serving (serving_of t provider most)) (drop n (lines_of bytes))).0) none by)
 
 pub is_safe : (most : ℕ) (content left new : Option (List ℕ)) (status : Status) → most ≤ 2000000 → IsKept (promise_of most content left) status new → IsSafe content left status new
 is_safe most None left new status few k = tt

@@ -3,6 +3,7 @@ pub mod Declared
 pub mod Served
 pub mod Serves
 pub mod Known
+pub mod Limits
 pub mod Written
 pub mod Checks
 pub mod Ended

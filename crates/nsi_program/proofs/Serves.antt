@@ -14,20 +14,19 @@ use Rattle.provider_agent.specs.Home.{Home, home_of, own_stp}
 use Rattle.provider_agent.specs.Runs.{after_all}
 use Rattle.provider_agent.specs.Safety.{IsRun}
 use Rattle.provider_agent.specs.Good.{IsGood}
-use Rattle.provider_agent.specs.State.{State, blank}
-use Rattle.provider_agent.specs.Steps.{after, may_take, is_seen, waiting_work}
+use Rattle.provider_agent.specs.State.{State, Stepped, blank, unchanged}
+use Rattle.provider_agent.specs.Steps.{after, after_if, may_take, is_seen, waiting_work}
 use Rattle.provider_agent.proofs.GoodAfter.{good_after, good_blank}
 use Rattle.provider_agent.proofs.RunsSafe.{every_run_safe}
 use Rattle.provider_run.specs.Works.{all_works, with_works}
 use Rattle.provider_run.proofs.Working.{taken_after, first_state}
 use Rattle.provider_run.proofs.WorkRuns.{with_works_run}
 use Rattle.provider_run.proofs.Idle.{idle_after}
-use Rattle.nsi_program.specs.Hearing.{heard, read, requested, ticked, second_in, IsTimely}
-use Rattle.nsi_program.specs.Lines.{Served, answered, serve, served, says, too_long, lines_of_messages, long_line}
+use Rattle.nsi_program.specs.Hearing.{heard, read, requested, ticked, second_in, IsTimely, IsTimelyEntry}
+use Rattle.nsi_program.specs.Lines.{Served, answered, entered, serve, served, says, lines_of_messages, long_line}
 use Rattle.nsi_program.specs.Runs.{entries_of, run_of, events_of, with_sync, IsSafeText, IsServed}
 use Rattle.nsi_program.specs.Runs.IsServed.{served_all, served_some}
 use Rattle.nsi_program.specs.Serving.{Serving, serving_of, points_at}
-use Rattle.nsi_program.specs.Service.{IsServing}
 use Rattle.nsi_program.specs.Outcome.{goes_on, move_of, behind, outcome}
 use Rattle.nsi_program.specs.Promise.{EndsBy}
 use Rattle.nsi_program.specs.declared.hearing.Heard.{Heard}
@@ -43,7 +42,7 @@ ticked_timely s None = tt
 ticked_timely s (Some second) = by_test (leb s.now second) refl
   where
     by_test : (b : Bool) → leb s.now second ≡ b → IsTimely s (cond b (Heard.Entry (record { second = second; input = Input.Tick })) (Heard.Fault LineFault.Tick))
-    by_test true e = (e, tt)
+    by_test true e = record { on_time = e; printable = tt }
     by_test false e = tt
 
 requested_timely : (s : State) (line : List ℕ) (m : Message) → line_of line ≡ Ok m → IsTimely s (requested m s)
@@ -54,7 +53,7 @@ requested_timely s line m e = by_test (is_seen s m)
 
     by_test : (b : Bool) → IsTimely s (cond b Heard.Nothing (Heard.Entry (record { second = s.now; input = Input.Got m })))
     by_test true = tt
-    by_test false = (now_is s.now, line_printable line m e)
+    by_test false = record { on_time = now_is s.now; printable = line_printable line m e }
 
 read_timely : (s : State) (line : List ℕ) (r : Result Message LineFault) → line_of line ≡ r → IsTimely s (read r s)
 read_timely s line (Err fault) e = tt
@@ -74,58 +73,103 @@ timely s line = by_empty (eqb (length line) 0)
 
 ---- An entry and its work
 
-may_be_taken : (s : State) (e : Entry) → IsTimely s (Heard.Entry e) → s.taken ≤ 2000000 → may_take s e ≡ true
-may_be_taken s e timely few = let on_time = timely.0 in grind (arith, nat_tests, on_time)
+may_be_taken : (s : State) (e : Entry) → IsTimelyEntry s e → s.taken ≤ 2000000 → may_take s e ≡ true
+may_be_taken s e timely few = let on_time = timely.on_time in grind (arith, nat_tests, on_time)
 
-pub entry_text : (home : Home) (stp_of : List ℕ → Option ℕ) (s : State) (e : Entry) → IsGood home s → s.taken ≤ 2000000 → IsTimely s (Heard.Entry e)
+pub entry_text : (home : Home) (stp_of : List ℕ → Option ℕ) (s : State) (e : Entry) → IsGood home s → s.taken ≤ 2000000 → IsTimelyEntry s e
     → IsTextOf home stp_of s (with_works home stp_of s e) (lines_of_messages (after_all home stp_of s (with_works home stp_of s e)).out)
 entry_text home stp_of s e good few timely =
     let may = may_be_taken s e timely few in
     let next : State = (after home stp_of s e).state in
-    let next_good : IsGood home next = good_after home stp_of s e good timely.1 in
+    let next_good : IsGood home next = good_after home stp_of s e good timely.printable in
     record {
-      run = with_works_run home stp_of s e good may timely.1 few;
+      run = with_works_run home stp_of s e good may timely.printable few;
       idle = λ h. ap waiting_work (first_state home stp_of s e (all_works home stp_of next)) ∙ idle_after home stp_of next next_good (omega (arith, taken_after home stp_of s e may, next_good.few));
       woven = woven_messages (after_all home stp_of s (with_works home stp_of s e)).out;
     }
 
+---- Too many events
+
+-- an entry that may not be taken changes nothing
+not_taken : (home : Home) (stp_of : List ℕ → Option ℕ) (s : State) (e : Entry) → may_take s e ≡ false → after home stp_of s e ≡ unchanged s
+unfolding after
+not_taken home stp_of s e may = ap (λ b. after_if b home stp_of s e) may
+
+-- what was taken stays so
+taken_stays : (home : Home) (stp_of : List ℕ → Option ℕ) (s : State) (e : Entry) → s.taken ≤ (after home stp_of s e).state.taken
+taken_stays home stp_of s e = by_test (may_take s e) refl
+  where
+    by_test : (b : Bool) → may_take s e ≡ b → s.taken ≤ (after home stp_of s e).state.taken
+    by_test true may = omega (arith, taken_after home stp_of s e may)
+    by_test false may = omega (arith, ap (λ (x : Stepped). x.state.taken) (not_taken home stp_of s e may))
+
+all_taken_stays : (home : Home) (stp_of : List ℕ → Option ℕ) (s : State) (es : List Entry) → s.taken ≤ (after_all home stp_of s es).state.taken
+unfolding after_all
+all_taken_stays home stp_of s [] = omega arith
+all_taken_stays home stp_of s (e ∷ es) = omega (arith, taken_stays home stp_of s e, all_taken_stays home stp_of (after home stp_of s e).state es)
+
+-- where there were as many events as there may be, an entry is one too many
+pub too_many : (s : Serving) (e : Entry) → s.most ≤ s.standing.state.taken + s.syncs → entered s e ≡ None
+unfolding entered
+too_many s e le =
+    let home : Home = s.standing.home in
+    let x : Stepped = after_all home (points_at s) s.standing.state (with_works home (points_at s) s.standing.state e) in
+    ap (λ b. cond b (Some (record { serving = record s { standing = record s.standing { state = x.state }; syncs = s.syncs + 1 }; text = lines_of_messages x.out })) None)
+    (fits_not x.state.taken s.standing.state.taken s.syncs s.most le (all_taken_stays home (points_at s) s.standing.state (with_works home (points_at s) s.standing.state e)))
+  where
+    fits_not : (now was syncs most : ℕ) → most ≤ was + syncs → was ≤ now → leb (now + syncs + 1) most ≡ false
+    fits_not now was syncs most a b = grind (arith, nat_tests)
+
 ---- All lines
 
--- it is good, and no more is taken than may be
+-- it is good, and there were no more events than there may be
 pub record IsServingWell (s : Serving) : Type 0 where
-  pub serving : IsServing s
+  pub few : s.standing.state.taken + s.syncs ≤ s.most
   pub most : s.most ≤ 2000000
   pub good : IsGood s.standing.home s.standing.state
 
--- after an entry it still is
-well_after : (s : Serving) (e : Entry) → IsServingWell s → IsTimely s.standing.state (Heard.Entry e)
-    → leb (s.events + (length (with_works s.standing.home (points_at s) s.standing.state e) + 1)) s.most ≡ true
-    → IsServingWell (record s { standing = record s.standing { state = (after_all s.standing.home (points_at s) s.standing.state (with_works s.standing.home (points_at s) s.standing.state e)).state };
-      events = s.events + (length (with_works s.standing.home (points_at s) s.standing.state e) + 1) })
-well_after s e well timely fits =
-    let home : Home = s.standing.home in
-    let st : State = s.standing.state in
-    let es : List Entry = with_works home (points_at s) st e in
-    let few : st.taken ≤ 2000000 = omega (arith, well.serving.taken, well.serving.few, well.most) in
-    let t = entry_text home (points_at s) st e well.good few timely in
-    let le : s.events + (length es + 1) ≤ s.most = grind (arith, nat_tests, fits) in
-    record {
-      serving = record { taken = omega (arith, taken_all home (points_at s) st es t.run, well.serving.taken); few = le };
-      most = well.most;
-      good = good_all home (points_at s) st es well.good t.run;
-    }
+-- the state after an entry and its work, and the messages
+abbrev run_with : Serving → Entry → Stepped
+run_with s e = after_all s.standing.home (points_at s) s.standing.state (with_works s.standing.home (points_at s) s.standing.state e)
+
+abbrev go_with : Serving → Entry → Serving
+go_with s e = record s { standing = record s.standing { state = (run_with s e).state }; syncs = s.syncs + 1 }
+
+module _ (s : Serving) (e : Entry) (well : IsServingWell s) (timely : IsTimelyEntry s.standing.state e) where
+  few_taken : s.standing.state.taken ≤ 2000000
+  few_taken = omega (arith, well.few, well.most)
+
+  text_with : IsTextOf s.standing.home (points_at s) s.standing.state (with_works s.standing.home (points_at s) s.standing.state e) (lines_of_messages (run_with s e).out)
+  text_with = entry_text s.standing.home (points_at s) s.standing.state e well.good few_taken timely
+
+  -- each entry counts
+  taken_with : (run_with s e).state.taken ≡ s.standing.state.taken + length (with_works s.standing.home (points_at s) s.standing.state e)
+  taken_with = taken_all s.standing.home (points_at s) s.standing.state (with_works s.standing.home (points_at s) s.standing.state e) text_with.run
+
+  -- where the events suffice, it goes on as well
+  well_with : leb ((run_with s e).state.taken + s.syncs + 1) s.most ≡ true → IsServingWell (go_with s e)
+  well_with fits = record {
+    few = fits_few ((run_with s e).state.taken) s.syncs s.most fits;
+    most = well.most;
+    good = good_all s.standing.home (points_at s) s.standing.state (with_works s.standing.home (points_at s) s.standing.state e) well.good text_with.run;
+  }
+    where
+      fits_few : (a b c : ℕ) → leb (a + b + 1) c ≡ true → a + (b + 1) ≤ c
+      fits_few a b c h = grind (arith, nat_tests)
 
 -- what comes of an answer to a line
-abbrev comes_of : Bool → ℕ → List (List ℕ) → Served → Status × List ℕ
-comes_of long number lines a = behind (goes_on a.text a.serving).text (goes_on a.text a.serving).step (λ p. outcome long (number + 1) p lines)
+abbrev comes_of : Bool → ℕ → List (List ℕ) → Option Served → Status × List ℕ
+comes_of long number lines a = behind (goes_on a).text (goes_on a).step (λ p. outcome long (number + 1) p lines)
+
+abbrev served_if : Bool → Serving → Entry → Option Served
+served_if b s e = cond b (Some (record { serving = go_with s e; text = lines_of_messages (run_with s e).out })) None
 
 pub served_from : (long : Bool) (number : ℕ) (s : Serving) (lines : List (List ℕ)) → IsServingWell s
     → ServedFrom s.standing.home (points_at s) s.standing.state lines (outcome long number (Phase.Serving s) lines).0 (outcome long number (Phase.Serving s) lines).1
-unfolding outcome move_of run_of
+unfolding outcome move_of run_of entered after_all
 served_from true number s [] well = some_from [] [] [] refl refl (text_none s.standing.home (points_at s) s.standing.state [] woven_none) refl
 served_from false number s [] well = all_from refl (text_none s.standing.home (points_at s) s.standing.state [] woven_none)
-served_from long number s (line ∷ lines) well =
-    by_heard (heard st line) refl (timely st line) (λ t w. served_from long (number + 1) t lines w)
+served_from long number s (line ∷ lines) well = by_heard (heard st line) refl (timely st line) (λ t w. served_from long (number + 1) t lines w)
   where
     home : Home
     home = s.standing.home
@@ -142,30 +186,27 @@ served_from long number s (line ∷ lines) well =
     Onward : Type 0
     Onward = (t : Serving) → IsServingWell t → ServedFrom t.standing.home (points_at t) t.standing.state lines (outcome long (number + 1) (Phase.Serving t) lines).0 (outcome long (number + 1) (Phase.Serving t) lines).1
 
-    by_entry : (e : Entry) → Heard.Entry e ≡ heard st line → IsTimely st (Heard.Entry e) → Onward → (b : Bool) → leb (s.events + (length (with_works home stp_of st e) + 1)) s.most ≡ b
-        → Goes (comes_of long number lines (cond b
-          (says (record s { standing = record s.standing { state = (after_all home stp_of st (with_works home stp_of st e)).state }; events = s.events + (length (with_works home stp_of st e) + 1) })
-          (lines_of_messages (after_all home stp_of st (with_works home stp_of st e)).out))
-          too_long))
-    by_entry e h t next true fits =
-        let few : st.taken ≤ 2000000 = omega (arith, well.serving.taken, well.serving.few, well.most) in
-        served_behind home stp_of st line (Heard.Entry e) h (lines_of_messages (after_all home stp_of st (with_works home stp_of st e)).out) (entry_text home stp_of st e well.good few t) lines _ _ (next _ (well_after s e well t fits))
+    by_entry : (e : Entry) → Heard.Entry e ≡ heard st line → IsTimelyEntry st e → Onward → (b : Bool) → leb ((run_with s e).state.taken + s.syncs + 1) s.most ≡ b → Goes (comes_of long number lines (served_if b s e))
+    by_entry e h t next true fits = served_behind home stp_of st line (Heard.Entry e) h (lines_of_messages (run_with s e).out) (text_with s e well t) lines _ _ (next (go_with s e) (well_with s e well t fits))
     by_entry e h t next false fits = some_from [] (line ∷ lines) [] refl refl (text_none home stp_of st [] woven_none) refl
 
     by_heard : (h : Heard) → h ≡ heard st line → IsTimely st h → Onward → Goes (comes_of long number lines (answered h s number))
     by_heard Heard.Nothing e t next = served_behind home stp_of st line Heard.Nothing e [] (text_none home stp_of st [] woven_none) lines _ _ (next s well)
     by_heard (Heard.Fault fault) e t next = served_behind home stp_of st line (Heard.Fault fault) e _ (text_none home stp_of st _ (woven_fault number fault)) lines _ _ (next s well)
-    by_heard (Heard.Entry entry) e t next = by_entry entry e t next (leb (s.events + (length (with_works home stp_of st entry) + 1)) s.most) refl
+    by_heard (Heard.Entry entry) e t next = by_entry entry e t next (leb ((run_with s entry).state.taken + s.syncs + 1) s.most) refl
 
 ---- How it ends
+
+abbrev events_at : Serving → ℕ
+events_at s = s.standing.state.taken + s.syncs
 
 abbrev after_line : Home → (List ℕ → Option ℕ) → State → Heard → List (List ℕ) → ℕ
 after_line home stp_of s h lines = with_sync (entries_of home stp_of s h) + events_of home stp_of (after_all home stp_of s (entries_of home stp_of s h)).state lines
 
-pub ends_by : (number : ℕ) (s : Serving) (lines : List (List ℕ)) → s.events ≤ s.most → EndsBy s.most (s.events + events_of s.standing.home (points_at s) s.standing.state lines) (outcome false number (Phase.Serving s) lines).0
-unfolding outcome move_of events_of after_all
-ends_by number s [] few = inl (omega (arith, few), refl)
-ends_by number s (line ∷ lines) few = by_heard (heard st line) (λ t f. ends_by (number + 1) t lines f)
+pub ends_by : (number : ℕ) (s : Serving) (lines : List (List ℕ)) → IsServingWell s → EndsBy s.most (events_at s + events_of s.standing.home (points_at s) s.standing.state lines) (outcome false number (Phase.Serving s) lines).0
+unfolding outcome move_of events_of after_all entered
+ends_by number s [] well = inl (omega (arith, well.few), refl)
+ends_by number s (line ∷ lines) well = by_heard (heard st line) (timely st line) (λ t w. ends_by (number + 1) t lines w)
   where
     home : Home
     home = s.standing.home
@@ -177,33 +218,35 @@ ends_by number s (line ∷ lines) few = by_heard (heard st line) (λ t f. ends_b
     st = s.standing.state
 
     Onward : Type 0
-    Onward = (t : Serving) → t.events ≤ t.most → EndsBy t.most (t.events + events_of t.standing.home (points_at t) t.standing.state lines) (outcome false (number + 1) (Phase.Serving t) lines).0
+    Onward = (t : Serving) → IsServingWell t → EndsBy t.most (events_at t + events_of t.standing.home (points_at t) t.standing.state lines) (outcome false (number + 1) (Phase.Serving t) lines).0
 
-    by_entry : (e : Entry) → Onward → (b : Bool) → leb (s.events + (length (with_works home stp_of st e) + 1)) s.most ≡ b
-        → EndsBy s.most (s.events + after_line home stp_of st (Heard.Entry e) lines) (comes_of false number lines (cond b
-          (says (record s { standing = record s.standing { state = (after_all home stp_of st (with_works home stp_of st e)).state }; events = s.events + (length (with_works home stp_of st e) + 1) })
-          (lines_of_messages (after_all home stp_of st (with_works home stp_of st e)).out))
-          too_long)).0
-    by_entry e next true fits =
-        let k : ℕ = length (with_works home stp_of st e) + 1 in
-        let le : s.events + k ≤ s.most = grind (arith, nat_tests, fits) in
-        let rest : ℕ = events_of home stp_of (after_all home stp_of st (with_works home stp_of st e)).state lines in
-        let same : (s.events + k) + rest ≡ s.events + (k + rest) = omega arith in
-        subst (λ n. EndsBy s.most n _) same (next _ le)
-    by_entry e next false fits =
-        let k : ℕ = length (with_works home stp_of st e) + 1 in
-        let gt : s.most < s.events + k = grind (arith, nat_tests, fits) in
-        inr (omega (arith, gt), refl)
+    plus_none : (a b : ℕ) → a + b ≡ a + (0 + b)
+    plus_none a b = omega arith
 
-    by_heard : (h : Heard) → Onward → EndsBy s.most (s.events + after_line home stp_of st h lines) (comes_of false number lines (answered h s number)).0
-    by_heard Heard.Nothing next = next s few
-    by_heard (Heard.Fault fault) next = next s few
-    by_heard (Heard.Entry entry) next = by_entry entry next (leb (s.events + (length (with_works home stp_of st entry) + 1)) s.most) refl
+    fits_not : (a b c : ℕ) → leb (a + b + 1) c ≡ false → c < a + b + 1
+    fits_not a b c h = grind (arith, nat_tests)
+
+    sums : (now taken k syncs rest : ℕ) → now ≡ taken + k → (now + (syncs + 1)) + rest ≡ (taken + syncs) + ((k + 1) + rest)
+    sums now taken k syncs rest e = omega (arith, e)
+
+    by_entry : (e : Entry) → IsTimelyEntry st e → Onward → (b : Bool) → leb ((run_with s e).state.taken + s.syncs + 1) s.most ≡ b
+        → EndsBy s.most (events_at s + after_line home stp_of st (Heard.Entry e) lines) (comes_of false number lines (served_if b s e)).0
+    by_entry e t next true fits =
+        let same = sums (run_with s e).state.taken st.taken (length (with_works home stp_of st e)) s.syncs (events_of home stp_of (run_with s e).state lines) (taken_with s e well t) in
+        subst (λ n. EndsBy s.most n (comes_of false number lines (served_if true s e)).0) same (next (go_with s e) (well_with s e well t fits))
+    by_entry e t next false fits =
+        let gt : s.most < (run_with s e).state.taken + s.syncs + 1 = fits_not (run_with s e).state.taken s.syncs s.most fits in
+        inr (omega (arith, gt, taken_with s e well t), refl)
+
+    by_heard : (h : Heard) → IsTimely st h → Onward → EndsBy s.most (events_at s + after_line home stp_of st h lines) (comes_of false number lines (answered h s number)).0
+    by_heard Heard.Nothing t next = subst (λ n. EndsBy s.most n (outcome false (number + 1) (Phase.Serving s) lines).0) (plus_none (events_at s) _) (next s well)
+    by_heard (Heard.Fault fault) t next = subst (λ n. EndsBy s.most n (outcome false (number + 1) (Phase.Serving s) lines).0) (plus_none (events_at s) _) (next s well)
+    by_heard (Heard.Entry entry) t next = by_entry entry t next (leb ((run_with s entry).state.taken + s.syncs + 1) s.most) refl
 
 ---- From the first line on
 
 pub well_at_first : (t : Network) (provider most : ℕ) → most ≤ 2000000 → IsServingWell (serving_of t provider most)
-well_at_first t provider most few = record { serving = record { taken = omega arith; few = omega arith }; most = few; good = good_blank (home_of t provider) }
+well_at_first t provider most few = record { few = omega arith; most = few; good = good_blank (home_of t provider) }
 
 safe_text : (home : Home) (stp_of : List ℕ → Option ℕ) (lines : List (List ℕ)) (text : List ℕ) → IsTextOf home stp_of blank (run_of home stp_of blank lines) text → IsSafeText home stp_of lines text
 safe_text home stp_of lines text t = record {

@@ -2,6 +2,7 @@
 use Rattle.std.specs.Prelude.{◌≡◌, ℕ, List, ◌==◌, nat_eq, nat_le, length, drop, codes, true, if◌then◌else◌, Option, Some, None, Result, Ok, Err}
 use Rattle.std.specs.List.{starts_with}
 use Rattle.nsi_base.specs.Digits.{number_of}
+use Rattle.nsi_primitive.specs.declared.entry.Entry.{Entry}
 use Rattle.nsi_primitive.specs.declared.entry.Input.{Input}
 use Rattle.nsi_primitive.specs.declared.message.Message.{Message}
 use Rattle.json_fields.specs.declared.fault.LineFault.{LineFault}
@@ -35,7 +36,12 @@ heard s line =
     else if starts_with nat_eq line (codes "tick") then ticked (second_in line) s
     else read (line_of line) s
 
+-- the entry may be taken now, and its message has a spelling
+pub record IsTimelyEntry (s : State) (e : Entry) : Type 0 where
+  pub on_time : is_on_time e.input e.second s.now ≡ true
+  pub printable : IsPrintableInput e.input
+
 -- what is taken may be taken now
 abbrev pub IsTimely : State → Heard → Type 0
-IsTimely s (Heard.Entry e) = (is_on_time e.input e.second s.now ≡ true) × IsPrintableInput e.input
+IsTimely s (Heard.Entry e) = IsTimelyEntry s e
 IsTimely s h = Unit {0}

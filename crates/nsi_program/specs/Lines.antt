@@ -22,9 +22,9 @@ as_line bytes = bytes ++ 10 ∷ []
 abbrev pub lines_of_messages : List Message → List ℕ
 lines_of_messages messages = concat (map (λ m. as_line (spelling m)) messages)
 
--- the provider after a line, if it may go on, and what is written for the line
+-- the provider after a line, and what is written for the line
 pub record Served : Type 0 where
-  pub serving : Option Serving
+  pub serving : Serving
   pub text : List ℕ
 
 -- the answer to a line that can't be read: its fault, the key of the fault, and the number of the line
@@ -32,31 +32,27 @@ abbrev pub payload : ℕ → LineFault → List ℕ
 payload number fault = as_line (payload_spelling (fault_name fault) (fault_key fault) number)
 
 -- nothing is taken
-abbrev pub says : Serving → List ℕ → Served
-says s text = record { serving = Some s; text = text }
+abbrev pub says : Serving → List ℕ → Option Served
+says s text = Some (record { serving = s; text = text })
+
+-- after a run of the provider; each entry that it has taken is an event, and so is each sync
+abbrev pub served : Serving → Stepped → Option Served
+served s x =
+    if nat_le (x.state.taken + s.syncs + 1) s.most then Some (record { serving = record s { standing = record s.standing { state = x.state }; syncs = s.syncs + 1 }; text = lines_of_messages x.out })
+    else None
+
+-- an entry is taken, then all work that waits, and one sync stands behind them
+unfoldable pub entered : Serving → Entry → Option Served
+entered s e = served s (after_all s.standing.home (points_at s) s.standing.state (with_works s.standing.home (points_at s) s.standing.state e))
+
+abbrev pub answered : Heard → Serving → ℕ → Option Served
+answered Heard.Nothing s number = says s []
+answered (Heard.Fault fault) s number = says s (payload number fault)
+answered (Heard.Entry e) s number = entered s e
+
+-- what a line makes of the provider, and its text, where there aren't too many events
+abbrev pub serve : Serving → ℕ → List ℕ → Option Served
+serve s number line = answered (heard s.standing.state line) s number
 
 abbrev pub long_line : List ℕ
 long_line = as_line (codes "fault long")
-
--- there would be more events than there may be
-abbrev pub too_long : Served
-too_long = record { serving = None; text = long_line }
-
--- after so many events
-abbrev pub served : Serving → ℕ → Stepped → Served
-served s events x =
-    if nat_le (s.events + events) s.most then says (record s { standing = record s.standing { state = x.state }; events = s.events + events }) (lines_of_messages x.out)
-    else too_long
-
--- entries and one sync behind them are events
-abbrev pub taken : Serving → List Entry → Served
-taken s es = served s (length es + 1) (after_all s.standing.home (points_at s) s.standing.state es)
-
--- an entry is taken, and then all work that waits
-abbrev pub answered : Heard → Serving → ℕ → Served
-answered Heard.Nothing s number = says s []
-answered (Heard.Fault fault) s number = says s (payload number fault)
-answered (Heard.Entry e) s number = taken s (with_works s.standing.home (points_at s) s.standing.state e)
-
-abbrev pub serve : Serving → ℕ → List ℕ → Served
-serve s number line = answered (heard s.standing.state line) s number

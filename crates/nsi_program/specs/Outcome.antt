@@ -6,8 +6,8 @@ use Rattle.stp_topology.specs.Faults.{fault_name}
 use Rattle.stp_topology.specs.Text.{of_line}
 use Rattle.stp_topology.specs.declared.fault.TopologyFault.{TopologyFault}
 use Rattle.stp_topology.specs.declared.topology.Taken.{Taken}
-use Rattle.nsi_program.specs.Lines.{serve, as_line}
-use Rattle.nsi_program.specs.Serving.{Serving, serving_of}
+use Rattle.nsi_program.specs.Lines.{Served, serve, as_line, long_line}
+use Rattle.nsi_program.specs.Serving.{serving_of}
 use Rattle.nsi_program.specs.declared.status.Ending.{Ending}
 use Rattle.nsi_program.specs.declared.status.Status.{Status}
 use Rattle.nsi_program.specs.declared.provide.Phase.{Phase}
@@ -31,14 +31,15 @@ declared most number (Err fault) = record { text = topology_fault number fault; 
 declared most number (Ok (Taken.More t)) = record { text = []; step = Step.More (Phase.Declaring (record { topology = t; most = most })) }
 declared most number (Ok (Taken.Whole t)) = opened most number t (first_provider t)
 
-abbrev pub goes_on : List ℕ → Option Serving → Move
-goes_on text None = record { text = text; step = Step.End Ending.Long }
-goes_on text (Some s) = record { text = text; step = Step.More (Phase.Serving s) }
+-- the lines go on, unless there are too many events
+abbrev pub goes_on : Option Served → Move
+goes_on None = record { text = long_line; step = Step.End Ending.Long }
+goes_on (Some x) = record { text = x.text; step = Step.More (Phase.Serving x.serving) }
 
 -- what a line does: the topology's lines come first
 unfoldable pub move_of : ℕ → Phase → List ℕ → Move
 move_of number (Phase.Declaring d) line = declared d.most number (of_line d.topology line)
-move_of number (Phase.Serving s) line = goes_on (serve s number line).text (serve s number line).serving
+move_of number (Phase.Serving s) line = goes_on (serve s number line)
 
 -- at the end of the lines; a topology without an end is faulty at the line after the last
 abbrev pub end_of : ℕ → Phase → Ending × List ℕ

@@ -68,7 +68,7 @@ pub record IsSafeText (home : Home) (stp_of : List ℕ → Option ℕ) (lines : 
   pub woven : IsWoven (after_all home stp_of blank (run_of home stp_of blank lines)).out text
 
 -- all lines are served, or some of them and then there is too much
-data IsServed (home : Home) (stp_of : List ℕ → Option ℕ) (lines : List (List ℕ)) (status : Status) (text : List ℕ) : Type 0 where
+pub data IsServed (home : Home) (stp_of : List ℕ → Option ℕ) (lines : List (List ℕ)) (status : Status) (text : List ℕ) : Type 0 where
   served_all : status ≡ Status.Done → IsSafeText home stp_of lines text → IsServed home stp_of lines status text
   served_some : (front back : List (List ℕ)) → (body : List ℕ) → lines ≡ front ++ back → status ≡ Status.Long → IsSafeText home stp_of front body → text ≡ body ++ long_line
       → IsServed home stp_of lines status text

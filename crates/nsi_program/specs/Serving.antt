@@ -4,16 +4,16 @@ use Rattle.stp_topology.specs.declared.network.Network.{Network}
 use Rattle.provider_agent.specs.Home.{home_of, own_stp}
 use Rattle.provider_agent.specs.State.{Standing, blank}
 
--- the topology, the provider, how many events there were, and how many there may be
+-- the topology, the provider, how many syncs there were, and how many events there may be
 pub record Serving : Type 0 where
   pub network : Network
   pub standing : Standing
-  pub events : ℕ
+  pub syncs : ℕ
   pub most : ℕ
 
 -- before any line
 abbrev pub serving_of : Network → ℕ → ℕ → Serving
-serving_of t provider most = record { network = t; standing = record { home = home_of t provider; state = blank }; events = 0; most = most }
+serving_of t provider most = record { network = t; standing = record { home = home_of t provider; state = blank }; syncs = 0; most = most }
 
 -- the provider's points by their names
 abbrev pub points_at : Serving → List ℕ → Option ℕ

@@ -60,6 +60,7 @@ fn requested(provider: &Provider, message: Message) -> Heard
 }
 
 /// The second of a line of the clock.
+#[tactic(auto, unfolding(nsi_base::specs::Digits::number_of))]
 fn second_in(line: &[u8]) -> Option<Second>
     ensures { result ≡ second_in line.now }
 {

@@ -1,14 +1,14 @@
 //! The command `provide`: a topology, and then one line after another.
 
-ghost use Rattle.std.specs.Prelude.{◌≡◌, ◌<◌, ◌≤◌, ◌+◌, ◌++◌, ◌∷◌, [], ℕ, List, All, IfOk, IfSome, IsErrOf, OnOk, OnErr, Some, codes, decimal, map, take, true, nat_eq};
+ghost use Rattle.std.specs.Prelude.{◌≡◌, ◌<◌, ◌≤◌, ◌+◌, ◌++◌, ◌∷◌, [], ℕ, List, All, IfOk, IfSome, IsErrOf, OnOk, OnErr, Some, codes, decimal, map, take, true, nat_eq, option_map};
 ghost use Rattle.std.specs.List.{concat};
 ghost use Rattle.stp_topology.specs.Faults.{fault_name as topology_fault_name};
-ghost use Rattle.nsi_program.specs.Lines.{as_line, serve};
+ghost use Rattle.nsi_program.specs.Lines.{as_line, serve, long_line};
 ghost use Rattle.stp_topology.specs.Network.{first_provider};
 ghost use Rattle.stp_topology.specs.Text.{of_line};
 ghost use Rattle.nsi_program.specs.Outcome.{topology_fault, move_of, end_of, declared, opened, goes_on};
 
-use crate::service::{Answer, Service};
+use crate::service::Service;
 use crate::status::Ending;
 use crate::words::EventLimit;
 use std::alloc::{AllocError, Global};
@@ -76,9 +76,9 @@ impl Phase {
     {
         match self {
             Phase::Declaring(declaring) => declare(alloc, number, declaring, line),
-            Phase::Serving(service) => {
-                let Answer { text, service } = service.serve(alloc, number, line)?;
-                Ok(go_on(text, service))
+            Phase::Serving(mut service) => {
+                let text = service.serve(alloc, number, line)?;
+                go_on(alloc, text, service)
             }
         }
     }
@@ -97,16 +97,32 @@ impl Phase {
     }
 }
 
-/// A service goes on, where there is one, and else there were too many events.
-fn go_on(text: Vec<u8>, service: Option<Service>) -> Move
-    ensures text { result.text.items ≡ (goes_on text.items service).text }
-    ensures step { result.step ≡ (goes_on text.items service).step }
+/// The service goes on, where there aren't too many events.
+fn go_on(alloc: Global, text: Option<Vec<u8>>, service: Service) -> Result<Move, AllocError>
+    ensures text { IfOk result (λ m. m.text.items ≡ (goes_on (option_map (λ t. record { serving = service; text = t.items }) text)).text) }
+    ensures step { IfOk result (λ m. m.step ≡ (goes_on (option_map (λ t. record { serving = service; text = t.items }) text)).step) }
 {
-    let step = match service {
-        Some(service) => Step::More(Phase::Serving(service)),
-        None => Step::End(Ending::Long),
-    };
-    Move { text, step }
+    match text {
+        Some(text) => Ok(Move {
+            text,
+            step: Step::More(Phase::Serving(service)),
+        }),
+        None => too_long(alloc, service),
+    }
+}
+
+/// There would be too many events.
+fn too_long(alloc: Global, service: Service) -> Result<Move, AllocError>
+    ensures text { IfOk result (λ m. m.text.items ≡ long_line) }
+    ensures step { IfOk result (λ m. m.step ≡ Step.End Ending.Long) }
+{
+    drop(service);
+    let mut text = Vec::new(alloc);
+    text.extend_from_slice(b"fault long\n")?;
+    Ok(Move {
+        text,
+        step: Step::End(Ending::Long),
+    })
 }
 
 /// Takes a line of the topology.
@@ -132,7 +148,12 @@ fn declare(
 }
 
 /// Begins to serve the first provider.
-fn open(alloc: Global, number: u64, topology: Topology, most: EventLimit) -> Result<Move, AllocError>
+fn open(
+    alloc: Global,
+    number: u64,
+    topology: Topology,
+    most: EventLimit,
+) -> Result<Move, AllocError>
     ensures text { IfOk result (λ m. m.text.items ≡ (opened most number topology (first_provider topology)).text) }
     ensures step { IfOk result (λ m. m.step ≡ (opened most number topology (first_provider topology)).step) }
 {

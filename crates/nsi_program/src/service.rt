@@ -1,13 +1,10 @@
 //! A provider that serves the lines behind a topology.
 
-ghost use Rattle.std.specs.Prelude.{◌≡◌, ◌≤◌, ◌<◌, [], length, All, IfOk, None, Some};
+ghost use Rattle.std.specs.Prelude.{◌≡◌, ◌≤◌, ◌<◌, length, All, IfOk, option_map};
 ghost use Rattle.nsi_primitive.specs.Printable.{IsPrintable};
 ghost use Rattle.stp_topology.specs.Sound.{IsProvider};
-ghost use Rattle.provider_run.specs.Works.{with_works};
-ghost use Rattle.nsi_program.specs.Hearing.{IsTimely};
-ghost use Rattle.nsi_program.specs.Lines.{payload, too_long, taken, answered, serve, lines_of_messages};
-ghost use Rattle.nsi_program.specs.Serving.{points_at};
-ghost use Rattle.nsi_program.specs.declared.hearing.Heard.TheVariants.{Entry as EntryValue};
+ghost use Rattle.nsi_program.specs.Hearing.{IsTimely, IsTimelyEntry};
+ghost use Rattle.nsi_program.specs.Lines.{payload, entered, answered, serve, lines_of_messages};
 
 use crate::hearing::{Heard, hear};
 use crate::provide::as_line;
@@ -17,17 +14,17 @@ use json_primitives::{print_line, print_payload};
 use nsi_base::AgentNo;
 use nsi_primitive::{Entry, Message};
 use provider_agent::Provider;
-use provider_run::{Run, take_with_works};
+use provider_run::take_with_works;
 use std::alloc::{AllocError, Global};
 use std::marker::Model;
 use stp_topology::Topology;
 
-/// A provider with its topology, the events that there were, and how many there may be.
+/// A provider with its topology, how many syncs there were, and how many events there may be.
 #[derive(Drop)]
 pub struct Service {
     topology: Topology,
     provider: Provider,
-    events: u64,
+    syncs: u64,
     most: EventLimit,
 }
 
@@ -37,16 +34,9 @@ impl Model for Service {
 
     ghost Value = { Serving };
 
-    ghost view = { λ s. record { network = s.topology; standing = s.provider; events = s.events; most = s.most } };
+    ghost view = { λ s. record { network = s.topology; standing = s.provider; syncs = s.syncs; most = s.most } };
 
-    ghost invariant = { λ s. IsServing (record { network = s.topology; standing = s.provider; events = s.events; most = s.most }) };
-}
-
-/// What a line is answered, and the service where more lines may follow.
-#[derive(Drop)]
-pub(crate) struct Answer {
-    pub(crate) text: Vec<u8>,
-    pub(crate) service: Option<Service>,
+    ghost invariant = { λ s. IsServing (record { network = s.topology; standing = s.provider; syncs = s.syncs; most = s.most }) };
 }
 
 impl Service {
@@ -67,102 +57,70 @@ impl Service {
         Ok(Service {
             topology,
             provider,
-            events: 0,
+            syncs: 0,
             most,
         })
     }
 
-    /// What is written for a line behind the topology.
+    /// What is written for a line behind the topology, where there aren't too many events.
     pub(crate) fn serve(
-        self,
+        &mut self,
         alloc: Global,
         number: u64,
         line: &[u8],
-    ) -> Result<Answer, AllocError>
-        ensures text { IfOk result (λ a. a.text.items ≡ (serve self number line.now).text) }
-        ensures service { IfOk result (λ a. a.service ≡ (serve self number line.now).serving) }
+    ) -> Result<Option<Vec<u8>>, AllocError>
+        ensures { IfOk result (λ text. serve self.old number line.now ≡ option_map (λ t. record { serving = self.new; text = t.items }) text) }
     {
         let heard = hear(alloc, &self.provider, line)?;
-        self.answer(alloc, number, heard)
+        self.answer(alloc, number, &heard)
     }
 
     /// Answers what a line says.
-    fn answer(self, alloc: Global, number: u64, heard: Heard) -> Result<Answer, AllocError>
-        requires { IsTimely self.standing.state heard }
-        ensures text { IfOk result (λ a. a.text.items ≡ (answered heard self number).text) }
-        ensures service { IfOk result (λ a. a.service ≡ (answered heard self number).serving) }
+    fn answer(
+        &mut self,
+        alloc: Global,
+        number: u64,
+        heard: &Heard,
+    ) -> Result<Option<Vec<u8>>, AllocError>
+        requires { IsTimely self.old.standing.state heard.now }
+        ensures { IfOk result (λ text. answered heard.now self.old number ≡ option_map (λ t. record { serving = self.new; text = t.items }) text) }
     {
         match heard {
-            Heard::Nothing => self.silent(alloc),
-            Heard::Fault(fault) => self.refuse(alloc, number, fault),
+            Heard::Nothing => Ok(Some(Vec::new(alloc))),
+            Heard::Fault(fault) => {
+                let text = payload(alloc, number, *fault)?;
+                Ok(Some(text))
+            }
             Heard::Entry(entry) => self.take(alloc, entry),
         }
     }
 
-    fn silent(self, alloc: Global) -> Result<Answer, AllocError>
-        ensures text { IfOk result (λ a. a.text.items ≡ []) }
-        ensures service { IfOk result (λ a. a.service ≡ Some self) }
-    {
-        Ok(Answer {
-            text: Vec::new(alloc),
-            service: Some(self),
-        })
-    }
-
-    /// The answer to a line that can't be read.
-    fn refuse(self, alloc: Global, number: u64, fault: LineFault) -> Result<Answer, AllocError>
-        ensures text { IfOk result (λ a. a.text.items ≡ payload number fault) }
-        ensures service { IfOk result (λ a. a.service ≡ Some self) }
-    {
-        let text = print_payload(alloc, fault.name(), fault.key(), number)?;
-        let text = as_line(text)?;
-        Ok(Answer {
-            text,
-            service: Some(self),
-        })
-    }
-
     /// Takes an entry and all work that waits then; they and one sync behind them are events.
-    fn take(self, alloc: Global, entry: Entry) -> Result<Answer, AllocError>
-        requires { IsTimely self.standing.state (EntryValue entry) }
-        ensures text { IfOk result (λ a. a.text.items ≡ (taken self (with_works self.standing.home (points_at self) self.standing.state entry)).text) }
-        ensures service { IfOk result (λ a. a.service ≡ (taken self (with_works self.standing.home (points_at self) self.standing.state entry)).serving) }
+    #[tactic(auto, unfolding(crate::specs::Lines::entered))]
+    fn take(&mut self, alloc: Global, entry: &Entry) -> Result<Option<Vec<u8>>, AllocError>
+        requires { IsTimelyEntry self.old.standing.state entry.now }
+        ensures { IfOk result (λ text. entered self.old entry.now ≡ option_map (λ t. record { serving = self.new; text = t.items }) text) }
     {
-        let Service {
-            topology,
-            mut provider,
-            events,
-            most,
-        } = self;
-        let Run { messages, count } = take_with_works(alloc, &mut provider, &topology, &entry)?;
-        let events = events + count + 1;
-        if events > most.get() {
-            return too_long(alloc);
+        let most = self.most.get();
+        if self.provider.taken() >= most - self.syncs {
+            return Ok(None);
         }
-        let text = lines_of_messages(alloc, &messages)?;
-        Ok(Answer {
-            text,
-            service: Some(Service {
-                topology,
-                provider,
-                events,
-                most,
-            }),
-        })
+        let run = take_with_works(alloc, &mut self.provider, &self.topology, entry)?;
+        if self.provider.taken() >= most - self.syncs {
+            return Ok(None);
+        }
+        self.syncs += 1;
+        let text = lines_of_messages(alloc, &run.messages)?;
+        Ok(Some(text))
     }
 }
 
-/// There would be more events than there may be.
-fn too_long(alloc: Global) -> Result<Answer, AllocError>
-    ensures text { IfOk result (λ a. a.text.items ≡ too_long.text) }
-    ensures service { IfOk result (λ a. a.service ≡ None) }
+/// The answer to a line that can't be read.
+fn payload(alloc: Global, number: u64, fault: LineFault) -> Result<Vec<u8>, AllocError>
+    ensures { IfOk result (λ text. text.items ≡ payload number fault) }
 {
-    let mut text = Vec::new(alloc);
-    text.extend_from_slice(b"fault long\n")?;
-    Ok(Answer {
-        text,
-        service: None,
-    })
+    let text = print_payload(alloc, fault.name(), fault.key(), number)?;
+    as_line(text)
 }
 
 /// Messages, each as a line.

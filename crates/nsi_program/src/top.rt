@@ -49,10 +49,12 @@ pub fn top_plain<S: Source, K: Sink>(
     ensures unfinished { (result ≡ Status.WriteFault) ⊎ (result ≡ Status.NoMemory)
         → IsCutShort (command_of (map string_bytes words.now)) (K.content out.old) (S.left input.old) (S.faults input.old < S.faults input.new) (K.content out.new) }
 {
-    match command_of(words) {
-        Some(Command::Provide(most)) => provide(alloc, most, input, out),
-        Some(Command::Check) => check(alloc, input, out),
-        None => usage(out),
+    let Some(command) = command_of(words) else {
+        return usage(out);
+    };
+    match &command {
+        Command::Provide(most) => provide(alloc, *most, input, out),
+        Command::Check => check(alloc, input, out),
     }
 }
 

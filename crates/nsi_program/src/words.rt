@@ -109,6 +109,7 @@ fn parted(option: &str, word: &str) -> Option<EventLimit>
     }
 }
 
+#[tactic(auto, unfolding(nsi_base::specs::Digits::number_of))]
 fn events_in(word: &[u8]) -> Option<EventLimit>
     ensures { result ≡ events_in word.now }
 {

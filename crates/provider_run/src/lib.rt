@@ -1,8 +1,6 @@
 //! A provider's run: an entry, and then all work that waits.
 #![tactic(auto)]
 
-#[cfg(test)]
-mod tests;
 pub mod works;
 
 pub use works::{Run, take_with_works};
