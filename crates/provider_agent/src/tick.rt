@@ -9,6 +9,7 @@ ghost use Rattle.connection_record.specs.Moves.{lapsed};
 ghost use Rattle.provider_agent.specs.State.{record_at};
 ghost use Rattle.provider_agent.specs.Steps.{ticks, ticks_at, messages_of};
 ghost use Rattle.provider_agent.specs.Ticks.{noted_at, lapsed_at};
+ghost use Rattle.provider_agent.specs.Indexed.{AreIndexed};
 ghost use Rattle.provider_agent.specs.Kept.{AreKept};
 ghost use Rattle.provider_agent.specs.Desk.{home_at, state_at, IsReady};
 
@@ -30,10 +31,11 @@ impl Desk {
         ensures home { home_at self.new ≡ home_at self.old }
         ensures err { OnErr result (state_at self.new ≡ state_at self.old) }
         ensures kept { AreKept self.new.records.items self.new.calendar.bookings }
+        ensures indexed { AreIndexed self.new.records.items self.new.waiting }
     {
         let out = self.told(alloc, now)?;
         note_all(&mut self.records, now)?;
-        self.end_all(now);
+        end_all(&mut self.records, &mut self.calendar, now);
         self.now = now;
         Ok(out)
     }
@@ -66,33 +68,33 @@ impl Desk {
         out.push(message_of(parties, reply))?;
         Ok(())
     }
+}
 
-    /// Ends the holds whose end is noted.
-    fn end_all(&mut self, now: Second)
-        requires kept { AreKept self.old.records.items self.old.calendar.bookings }
-        requires few { length self.old.records.items ≤ 4194303 }
-        ensures home { home_at self.new ≡ home_at self.old }
-        ensures state { state_at self.new ≡ record (state_at self.old) { records = map (lapsed_at now) self.old.records.items } }
-        ensures kept { AreKept self.new.records.items self.new.calendar.bookings }
-    {
-        for place in 0..self.records.len() {
-            self.end_at(place, now);
-        }
+/// Ends the holds whose end is noted.
+fn end_all(records: &mut Vec<Record>, calendar: &mut Calendar, now: Second)
+    requires kept { AreKept records.old.items calendar.old.bookings }
+    requires few { length records.old.items ≤ 4194303 }
+    ensures records { records.new.items ≡ map (lapsed_at now) records.old.items }
+    ensures capacities { calendar.new.capacities ≡ calendar.old.capacities }
+    ensures kept { AreKept records.new.items calendar.new.bookings }
+{
+    for place in 0..records.len() {
+        end_at(records, calendar, place, now);
     }
+}
 
-    #[tactic(auto, unfolding(crate::specs::Ticks::lapsed_at))]
-    fn end_at(&mut self, place: usize, now: Second)
-        requires within { place < length self.old.records.items }
-        requires few { place ≤ 4194303 }
-        requires kept { AreKept self.old.records.items self.old.calendar.bookings }
-        ensures home { home_at self.new ≡ home_at self.old }
-        ensures state { state_at self.new ≡ record (state_at self.old) { records = slice_set self.old.records.items place (lapsed_at now (record_at place self.old.records.items)) } }
-        ensures kept { AreKept self.new.records.items self.new.calendar.bookings }
-    {
-        if self.records[place].is_hold_over(now) {
-            end_hold_at(&mut self.records, place);
-            free_pending(&mut self.calendar, place);
-        }
+#[tactic(auto, unfolding(crate::specs::Ticks::lapsed_at))]
+fn end_at(records: &mut Vec<Record>, calendar: &mut Calendar, place: usize, now: Second)
+    requires within { place < length records.old.items }
+    requires few { place ≤ 4194303 }
+    requires kept { AreKept records.old.items calendar.old.bookings }
+    ensures records { records.new.items ≡ slice_set records.old.items place (lapsed_at now (record_at place records.old.items)) }
+    ensures capacities { calendar.new.capacities ≡ calendar.old.capacities }
+    ensures kept { AreKept records.new.items calendar.new.bookings }
+{
+    if records[place].is_hold_over(now) {
+        end_hold_at(records, place);
+        free_pending(calendar, place);
     }
 }
 

@@ -1,4 +1,4 @@
-use Rattle.std.proofs.Common.{arith, ◌≡◌, ◌∙◌, ap, sym, subst, set, List, Some, None, option_map, ◌+◌}
+use Rattle.std.proofs.Common.{arith, refl, ◌≡◌, ◌∙◌, ap, sym, subst, set, List, Some, None, option_map, ◌+◌}
 use Rattle.nsi_primitive.specs.declared.state.Rsm.{Rsm}
 use Rattle.capacity_calendar.specs.Plan.{Plan, pending_set}
 use Rattle.connection_record.specs.declared.record.Record.{Record}
@@ -6,6 +6,9 @@ use Rattle.connection_record.specs.declared.moves.ReservationMove.{ReservationMo
 use Rattle.connection_record.specs.Moves.{reserves}
 use Rattle.provider_agent.specs.State.{record_at}
 use Rattle.provider_agent.specs.Kept.{AreKept, slot_of, with_slot}
+use Rattle.connection_record.specs.Moves.{is_working}
+use Rattle.provider_agent.specs.Indexed.{AreIndexed}
+use Rattle.provider_agent.proofs.Indexing.{indexed_set, works_in}
 use Rattle.provider_agent.proofs.Putting.{kept_put, kept_taken_out}
 use Rattle.provider_agent.proofs.desk.Desk.fit.Goals as goal
 
@@ -35,3 +38,10 @@ returns-in-Err-clause-kept c =
     let taken_is = ap (λ (p : Plan). p.bookings) c.take_pending.ensures.taken ∙ (ap (λ k. pending_set k None c.put.new.calendar.bookings) c.number_of.ensures ∙ ap (pending_set n None) calendar_is) in
     subst (λ rs. AreKept rs c.take_pending.new.self.bookings) (sym c.in-Err.ensures.err)
     (subst (AreKept d.records.items) (sym taken_is) (kept_taken_out d.records.items bs n _ c.requires.ready.kept c.requires.within c.requires.checking))
+
+pub returns-in-Ok-clause-indexed : goal.returns-in-Ok-clause-indexed
+unfolding is_working
+returns-in-Ok-clause-indexed c =
+    let d = c.args.self.now in
+    let named = c.requires.ready.indexed.works c.args.place c.requires.within (works_in (record_at c.args.place d.records.items) Rsm.ReserveChecking c.requires.checking c.requires.live refl) in
+    subst (λ rs. AreIndexed rs d.waiting) (sym c.in-Ok.ensures.rec) (indexed_set d.records.items d.waiting c.args.place _ c.requires.ready.indexed named)

@@ -1,10 +1,11 @@
 use Rattle.std.proofs.Common.{List, ◌∙◌, ap, sym, subst, map}
 use Rattle.connection_record.specs.declared.record.Record.{Record}
-use Rattle.provider_agent.specs.State.{State}
 use Rattle.provider_agent.specs.Steps.{ticks, ticks_at}
 use Rattle.provider_agent.specs.Ticks.{noted_at, lapsed_at}
 use Rattle.provider_agent.specs.Kept.{AreKept}
 use Rattle.provider_agent.specs.Desk.{home_at, state_at}
+use Rattle.provider_agent.specs.Indexed.{AreIndexed}
+use Rattle.provider_agent.proofs.Indexing.{indexed_map, noted_waits, lapsed_waits}
 use Rattle.provider_agent.proofs.Ticking.{ended_as, map_twice, kept_noted}
 use Rattle.provider_agent.proofs.desk.Desk.tick.Goals as goal
 
@@ -20,6 +21,13 @@ returns-clause-state c =
     let now = c.args.now in
     let home = home_at d in
     let ended = λ (r : Record). (ticks_at home now r).rec in
-    ap (λ (s : State). record s { now = now }) c.end_all.ensures.state
-    ∙ ap (λ (rs : List Record). record (state_at d) { records = rs; now = now })
-    (ap (map (lapsed_at now)) c.in_ok-note_all.ensures.ok ∙ map_twice (noted_at now) (lapsed_at now) ended d.records.items (ended_as home now))
+    ap (λ (rs : List Record). record (state_at d) { records = rs; now = now })
+    (c.end_all.ensures.records ∙ (ap (map (lapsed_at now)) c.in_ok-note_all.ensures.ok ∙ map_twice (noted_at now) (lapsed_at now) ended d.records.items (ended_as home now)))
+
+pub returns-clause-indexed : goal.returns-clause-indexed
+returns-clause-indexed c =
+    let d = c.args.self.now in
+    let now = c.args.now in
+    let records_are = c.end_all.ensures.records ∙ ap (map (lapsed_at now)) c.in_ok-note_all.ensures.ok in
+    subst (λ rs. AreIndexed rs d.waiting) (sym records_are)
+    (indexed_map (map (noted_at now) d.records.items) d.waiting (lapsed_at now) (indexed_map d.records.items d.waiting (noted_at now) c.requires.indexed (noted_waits now)) (lapsed_waits now))
