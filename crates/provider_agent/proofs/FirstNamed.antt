@@ -11,13 +11,13 @@ use Rattle.nsi_primitive.specs.declared.state.Machine.{Machine}
 use Rattle.connection_record.specs.declared.record.Record.{Record}
 use Rattle.connection_record.specs.Moves.{waits}
 use Rattle.provider_agent.specs.State.{no_record, record_at}
-use Rattle.provider_agent.specs.Indexed.{AreIndexed}
+use Rattle.provider_agent.specs.Indexed.{NamesWork}
 
 -- whether there is a record at a place, which has work to do
 abbrev pub is_at_work : List Record → ℕ → Bool
 is_at_work records n = nat_lt n (length records) && waits Machine.Reserve (record_at n records)
 
-unless : (b : Bool) → (b ≡ true → ⊥) → b ≡ false
+pub unless : (b : Bool) → (b ≡ true → ⊥) → b ≡ false
 unless true h = absurd (h refl)
 unless false h = refl
 
@@ -42,11 +42,11 @@ idle_more records waiting i place idle l is none j m = elim (cases_lt j i) [
       ap (λ k. is_at_work records (get_or waiting k 0)) same ∙ (ap (is_at_work records) (get_or_default waiting i 0 place l ∙ sym is) ∙ none)
 ]
 
-module _ (records : List Record) (waiting : List ℕ) (ix : AreIndexed records waiting) where
+module _ (records : List Record) (waiting : List ℕ) (names : NamesWork records waiting) where
   -- a place that has work is named behind those that have none
   named_behind : (i k : ℕ) → IsIdleBefore records waiting i → k < length records → waits Machine.Reserve (record_at k records) ≡ true → (j : ℕ) × (i ≤ j) × (j < length waiting) × (get_or waiting j 0 ≡ k)
   named_behind i k idle l w =
-      let has : Contains waiting k = ix.works k l w in
+      let has : Contains waiting k = names k l w in
       let at : get_or waiting has.0 0 ≡ k = get_or_default waiting has.0 0 k has.1 ∙ has.2 in
       elim (cases_lt has.0 i) [
         | inl before ↦ absurd (false≢true (sym (idle has.0 before) ∙ (ap (is_at_work records) at ∙ at_work records k l w)))

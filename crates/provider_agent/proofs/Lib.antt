@@ -23,3 +23,5 @@ pub mod Steady
 pub mod Ticking
 pub mod Indexing
 pub mod FirstNamed
+pub mod Seams
+pub mod Due

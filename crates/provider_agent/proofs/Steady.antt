@@ -62,7 +62,7 @@ standing_of h s = record { home = h; state = s }
 module _ {R : Type 0} (result : Result R AllocError) (d new : Desk) (stp_of : List ℕ → Option ℕ) (e : Entry)
     (steady : IsSteady d) (may : may_take (state_at d) e ≡ true) (printable : IsPrintableInput e.input)
     (ok : OnOk result (state_at new ≡ (counts (step e.input e.second (home_at d) stp_of (state_at d))).state))
-    (err : OnErr result (state_at new ≡ state_at d)) (home : home_at new ≡ home_at d) (kept : AreKept new.records.items new.calendar.bookings) (indexed : AreIndexed new.records.items new.waiting) where
+    (err : OnErr result (state_at new ≡ state_at d)) (home : home_at new ≡ home_at d) (kept : AreKept new.records.items new.calendar.bookings) (indexed : AreIndexed new.records.items new.waiting new.deadlines) where
   good_as : (s : State) → state_at new ≡ s → IsGood (home_at d) s → IsGood (home_at new) (state_at new)
   good_as s is good = subst (λ h. IsGood h (state_at new)) (sym home) (subst (IsGood (home_at d)) (sym is) good)
 

@@ -19,7 +19,7 @@ standing_at d = record { home = home_at d; state = state_at d }
 -- the calendar books what the records claim, the indexes name them, ids rise, and there is a number for one record more
 pub record IsReady (d : Desk) : Type 0 where
   pub kept : AreKept d.records.items d.calendar.bookings
-  pub indexed : AreIndexed d.records.items d.waiting
+  pub indexed : AreIndexed d.records.items d.waiting d.deadlines
   pub ordered : AreOrdered d.number d.next d.records.items
   pub few : length d.records.items ≤ 4194303
   pub drawn : d.next ≤ 4194304
@@ -29,4 +29,4 @@ pub record IsSteady (d : Desk) : Type 0 where
   pub most : d.taken ≤ 4194304
   pub good : IsGood (home_at d) (state_at d)
   pub kept : AreKept d.records.items d.calendar.bookings
-  pub indexed : AreIndexed d.records.items d.waiting
+  pub indexed : AreIndexed d.records.items d.waiting d.deadlines

@@ -17,7 +17,7 @@ use connection_record::Record;
 use message_retry::TakenRequests;
 use nsi_base::{AgentNo, HoldTime, Name, RecordNo, Second};
 use nsi_primitive::{Entry, Input, Message};
-use record_index::Places;
+use record_index::{Deadlines, Places};
 use std::alloc::{AllocError, Global};
 use stp_topology::{AgentKind, Topology};
 
@@ -31,6 +31,8 @@ pub struct Desk {
     pub records: Vec<Record>,
     /// The places of the records that have work to do. Others may be among them.
     pub waiting: Places,
+    /// When holds end. Others may be among them.
+    pub deadlines: Deadlines,
     pub seen: TakenRequests,
     /// The number of the next id.
     pub next: u64,
@@ -46,7 +48,7 @@ impl Desk {
         requires provider { IsProvider topology.now agent }
         ensures standing { IfOk result (λ d. standing_at d ≡ record { home = home_of topology.now agent; state = blank }) }
         ensures kept { IfOk result (λ d. AreKept d.records.items d.calendar.bookings) }
-        ensures indexed { IfOk result (λ d. AreIndexed d.records.items d.waiting) }
+        ensures indexed { IfOk result (λ d. AreIndexed d.records.items d.waiting d.deadlines) }
     {
         let AgentKind::Provider { hold } = topology.kind(agent) else {
             unreachable!()
@@ -61,6 +63,7 @@ impl Desk {
             calendar,
             records: Vec::new(alloc),
             waiting: Places::new(alloc),
+            deadlines: Deadlines::new(alloc),
             seen: TakenRequests::new(alloc),
             next: 1,
             now: Second::first(),
@@ -83,7 +86,7 @@ impl Desk {
         ensures home { home_at self.new ≡ home_at self.old }
         ensures err { OnErr result (state_at self.new ≡ state_at self.old) }
         ensures kept { AreKept self.new.records.items self.new.calendar.bookings }
-        ensures indexed { AreIndexed self.new.records.items self.new.waiting }
+        ensures indexed { AreIndexed self.new.records.items self.new.waiting self.new.deadlines }
     {
         let out = match &entry.input {
             Input::Got(message) => self.hear(alloc, topology, message)?,

@@ -42,7 +42,7 @@ impl Desk {
         ensures home { home_at self.new ≡ home_at self.old }
         ensures err { OnErr result (state_at self.new ≡ state_at self.old) }
         ensures kept { AreKept self.new.records.items self.new.calendar.bookings }
-        ensures indexed { AreIndexed self.new.records.items self.new.waiting }
+        ensures indexed { AreIndexed self.new.records.items self.new.waiting self.new.deadlines }
     {
         if !message.is_request() {
             return Ok(Vec::new(alloc));
@@ -73,7 +73,7 @@ impl Desk {
         ensures home { home_at self.new ≡ home_at self.old }
         ensures err { OnErr result (state_at self.new ≡ state_at self.old) }
         ensures kept { AreKept self.new.records.items self.new.calendar.bookings }
-        ensures indexed { AreIndexed self.new.records.items self.new.waiting }
+        ensures indexed { AreIndexed self.new.records.items self.new.waiting self.new.deadlines }
     {
         if !message.header.provider.is(&self.name) {
             return refuse(alloc, &self.name, message, ErrorName::WrongProvider);
@@ -106,7 +106,7 @@ impl Desk {
         ensures home { home_at self.new ≡ home_at self.old }
         ensures err { OnErr result (state_at self.new ≡ state_at self.old) }
         ensures kept { AreKept self.new.records.items self.new.calendar.bookings }
-        ensures indexed { AreIndexed self.new.records.items self.new.waiting }
+        ensures indexed { AreIndexed self.new.records.items self.new.waiting self.new.deadlines }
     {
         let Body::Reserve(request) = &message.body else {
             return Ok(Vec::new(alloc));
@@ -138,7 +138,7 @@ impl Desk {
         ensures home { home_at self.new ≡ home_at self.old }
         ensures err { OnErr result (state_at self.new ≡ state_at self.old) }
         ensures kept { AreKept self.new.records.items self.new.calendar.bookings }
-        ensures indexed { AreIndexed self.new.records.items self.new.waiting }
+        ensures indexed { AreIndexed self.new.records.items self.new.waiting self.new.deadlines }
     {
         self.waiting.add(self.records.len())?;
         self.add_record(alloc, message, request, source, dest)
@@ -163,7 +163,7 @@ impl Desk {
         ensures home { home_at self.new ≡ home_at self.old }
         ensures err { OnErr result (state_at self.new ≡ state_at self.old) }
         ensures kept { AreKept self.new.records.items self.new.calendar.bookings }
-        ensures indexed { AreIndexed self.new.records.items self.new.waiting }
+        ensures indexed { AreIndexed self.new.records.items self.new.waiting self.new.deadlines }
     {
         let owner = message.header.requester.copy()?;
         let service = service_of(request)?;
@@ -190,7 +190,7 @@ impl Desk {
         ensures home { home_at self.new ≡ home_at self.old }
         ensures err { OnErr result (state_at self.new ≡ state_at self.old) }
         ensures kept { AreKept self.new.records.items self.new.calendar.bookings }
-        ensures indexed { AreIndexed self.new.records.items self.new.waiting }
+        ensures indexed { AreIndexed self.new.records.items self.new.waiting self.new.deadlines }
     {
         self.waiting.add(place)?;
         self.move_at(alloc, place, message)
@@ -211,7 +211,7 @@ impl Desk {
         ensures home { home_at self.new ≡ home_at self.old }
         ensures err { OnErr result (state_at self.new ≡ state_at self.old) }
         ensures kept { AreKept self.new.records.items self.new.calendar.bookings }
-        ensures indexed { AreIndexed self.new.records.items self.new.waiting }
+        ensures indexed { AreIndexed self.new.records.items self.new.waiting self.new.deadlines }
     {
         let out = take_among(
             alloc,

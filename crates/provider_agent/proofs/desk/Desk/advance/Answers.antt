@@ -1,9 +1,9 @@
-use Rattle.std.proofs.Common.{sym, subst}
+use Rattle.std.proofs.Common.{refl, sym, subst}
 use Rattle.provider_agent.specs.declared.desk.Desk.{Desk}
 use Rattle.provider_agent.specs.State.{record_at}
 use Rattle.provider_agent.specs.Kept.{AreKept}
 use Rattle.provider_agent.specs.Indexed.{AreIndexed}
-use Rattle.provider_agent.proofs.Indexing.{indexed_set}
+use Rattle.provider_agent.proofs.Indexing.{indexed_moved, plain_until}
 use Rattle.provider_agent.proofs.Moved.{plain_move}
 use Rattle.provider_agent.proofs.Keeping.{kept_taken}
 use Rattle.provider_agent.proofs.desk.Desk.advance.Goals as goal
@@ -18,6 +18,8 @@ returns-clause-kept c =
 pub returns-clause-indexed : goal.returns-clause-indexed
 returns-clause-indexed c =
     let d = c.args.self.now in
+    let own = record_at c.args.place d.records.items in
     let named = c.requires.ready.indexed.works c.args.place c.requires.within c.requires.waits in
-    subst (λ (x : Desk). AreIndexed x.records.items x.waiting) (sym c.free_if_dropped.ensures)
-    (subst (λ rs. AreIndexed rs d.waiting) (sym c.in_ok-out.ensures.rec) (indexed_set d.records.items d.waiting c.args.place _ c.requires.ready.indexed named))
+    subst (λ (x : Desk). AreIndexed x.records.items x.waiting x.deadlines) (sym c.free_if_dropped.ensures)
+    (subst (λ rs. AreIndexed rs d.waiting d.deadlines) (sym c.in_ok-out.ensures.rec) (indexed_moved d.records.items d.waiting d.deadlines c.args.place _ c.requires.ready.indexed c.requires.within named
+    (λ t h. plain_until own.rsm c.args.event d.now own t refl c.requires.plain h)))

@@ -6,9 +6,9 @@ use Rattle.connection_record.specs.declared.moves.ReservationMove.{ReservationMo
 use Rattle.connection_record.specs.Moves.{reserves}
 use Rattle.provider_agent.specs.State.{record_at}
 use Rattle.provider_agent.specs.Kept.{AreKept}
-use Rattle.connection_record.specs.Moves.{is_working}
+use Rattle.connection_record.specs.Moves.{is_working, reserves}
 use Rattle.provider_agent.specs.Indexed.{AreIndexed}
-use Rattle.provider_agent.proofs.Indexing.{indexed_set, works_in}
+use Rattle.provider_agent.proofs.Indexing.{indexed_moved, works_in, done_until}
 use Rattle.provider_agent.proofs.Putting.{is_booked_pending, kept_commit}
 use Rattle.provider_agent.proofs.desk.Desk.commit.Goals as goal
 
@@ -35,4 +35,7 @@ unfolding is_working
 returns-clause-indexed c =
     let d = c.args.self.now in
     let named = c.requires.ready.indexed.works c.args.place c.requires.within (works_in (record_at c.args.place d.records.items) Rsm.ReserveCommitting c.requires.committing c.requires.live refl) in
-    subst (λ rs. AreIndexed rs d.waiting) (sym c.in_ok-out.ensures.rec) (indexed_set d.records.items d.waiting c.args.place _ c.requires.ready.indexed named)
+    let own = record_at c.args.place d.records.items in
+    let records_are = c.in_ok-out.ensures.rec ∙ ap (λ k. set d.records.items c.args.place (reserves k ReservationMove.Done d.now own).rec) c.requires.committing in
+    subst (λ rs. AreIndexed rs d.waiting d.deadlines) (sym records_are)
+    (indexed_moved d.records.items d.waiting d.deadlines c.args.place _ c.requires.ready.indexed c.requires.within named (λ t h. done_until d.now own t h))

@@ -13,4 +13,4 @@ returns-then-not-waits-clause-indexed c =
     let n = c.args.place in
     let own_is : c.index.result.now ≡ record_at n xs = get_or_read_under xs n (length xs) c.index.result.now no_record c.index.ensures c.requires.within refl in
     let idle : waits Machine.Reserve (record_at n xs) ≡ false = ap (waits Machine.Reserve) (sym own_is) ∙ (sym c.waits.ensures ∙ c.if-not-waits.true) in
-    indexed_removed xs d.waiting c.remove.new.self n c.requires.indexed idle c.remove.ensures
+    indexed_removed xs d.waiting c.remove.new.self d.deadlines n c.requires.indexed idle c.remove.ensures
