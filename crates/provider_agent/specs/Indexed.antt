@@ -18,7 +18,7 @@ held_until r = if is_live r.lsm && is_held r.rsm then r.deadline else None
 abbrev pub NamesHolds : List Record → List Deadline → Type 0
 NamesHolds records deadlines = (n t : ℕ) → n < length records → held_until (record_at n records) ≡ Some t → Contains deadlines (record { second = t; place = n })
 
--- what counts is named; others may be named too, as long as they are records
+-- what counts is named; other places may be named too, and a deadline's place is always a record's
 pub record AreIndexed (records : List Record) (waiting : List ℕ) (deadlines : List Deadline) : Type 0 where
   pub works : NamesWork records waiting
   pub holds : NamesHolds records deadlines

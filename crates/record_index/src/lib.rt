@@ -6,3 +6,6 @@ pub mod places;
 
 pub use deadlines::{Deadline, Deadlines};
 pub use places::Places;
+
+#[cfg(test)]
+mod tests;
