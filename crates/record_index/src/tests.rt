@@ -5,7 +5,7 @@ use nsi_base::Second;
 use std::alloc::Global;
 use std::test::Fail;
 
-fn deadlines(alloc: Global) -> Result<Deadlines, Fail> {
+fn some_deadlines(alloc: Global) -> Result<Deadlines, Fail> {
     let mut deadlines = Deadlines::new(alloc);
     for (second, place) in [(30, 4), (10, 7), (20, 2), (10, 1), (20, 2), (15, 7)] {
         deadlines.add(second, place)?;
@@ -21,7 +21,7 @@ fn due_by(deadlines: &Deadlines, alloc: Global, second: u64) -> Result<Places, F
 
 #[test]
 fn places_are_due_once_and_in_order(rt: HostRuntime) -> Result<(), Fail> {
-    let deadlines = deadlines(rt.alloc())?;
+    let deadlines = some_deadlines(rt.alloc())?;
     let before = due_by(&deadlines, rt.alloc(), 9)?;
     let then = due_by(&deadlines, rt.alloc(), 20)?;
     assert!(rt; matches!(before.items(), []));
@@ -31,7 +31,7 @@ fn places_are_due_once_and_in_order(rt: HostRuntime) -> Result<(), Fail> {
 
 #[test]
 fn deadlines_that_passed_are_forgotten(rt: HostRuntime) -> Result<(), Fail> {
-    let mut deadlines = deadlines(rt.alloc())?;
+    let mut deadlines = some_deadlines(rt.alloc())?;
     deadlines.pass(Second::new(15).ok_or("a second")?);
     let due = due_by(&deadlines, rt.alloc(), 30)?;
     assert!(rt; matches!(due.items(), [2, 4]));
