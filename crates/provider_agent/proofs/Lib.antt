@@ -21,3 +21,7 @@ pub mod HonestAfter
 pub mod RunsSafe
 pub mod Steady
 pub mod Ticking
+pub mod Indexing
+pub mod FirstNamed
+pub mod Seams
+pub mod Due

@@ -14,6 +14,7 @@ use Rattle.provider_agent.specs.Steps.{step, hears, works, ticks, is_waiting, af
 use Rattle.provider_agent.specs.Good.{IsGood}
 use Rattle.provider_agent.specs.Safety.{IsRising, IsPrintableInput}
 use Rattle.provider_agent.specs.Kept.{AreKept}
+use Rattle.provider_agent.specs.Indexed.{AreIndexed}
 use Rattle.provider_agent.specs.Desk.{home_at, state_at, standing_at, IsReady, IsSteady}
 use Rattle.provider_agent.specs.declared.desk.Desk.{Desk}
 use Rattle.provider_agent.proofs.GoodAfter.{good_after}
@@ -49,7 +50,7 @@ step_taken Input.Tick second home stp_of s = ticked_taken home second s
 -- what is good has a place and a number for one record more
 pub ready_where_steady : (d : Desk) → IsSteady d → d.taken < 4194304 → IsReady d
 ready_where_steady d steady few =
-    record { kept = steady.kept; ordered = steady.good.ordered; few = omega (arith, steady.good.few, few); drawn = omega (arith, steady.good.drawn, few) }
+    record { kept = steady.kept; indexed = steady.indexed; ordered = steady.good.ordered; few = omega (arith, steady.good.few, few); drawn = omega (arith, steady.good.drawn, few) }
 
 pub rising_where_good : (home : Home) (s : State) → IsGood home s → IsRising s
 rising_where_good home s good n r at = (good.records n r at).rising
@@ -61,7 +62,7 @@ standing_of h s = record { home = h; state = s }
 module _ {R : Type 0} (result : Result R AllocError) (d new : Desk) (stp_of : List ℕ → Option ℕ) (e : Entry)
     (steady : IsSteady d) (may : may_take (state_at d) e ≡ true) (printable : IsPrintableInput e.input)
     (ok : OnOk result (state_at new ≡ (counts (step e.input e.second (home_at d) stp_of (state_at d))).state))
-    (err : OnErr result (state_at new ≡ state_at d)) (home : home_at new ≡ home_at d) (kept : AreKept new.records.items new.calendar.bookings) where
+    (err : OnErr result (state_at new ≡ state_at d)) (home : home_at new ≡ home_at d) (kept : AreKept new.records.items new.calendar.bookings) (indexed : AreIndexed new.records.items new.waiting new.deadlines) where
   good_as : (s : State) → state_at new ≡ s → IsGood (home_at d) s → IsGood (home_at new) (state_at new)
   good_as s is good = subst (λ h. IsGood h (state_at new)) (sym home) (subst (IsGood (home_at d)) (sym is) good)
 
@@ -77,7 +78,7 @@ module _ {R : Type 0} (result : Result R AllocError) (d new : Desk) (stp_of : Li
   most_by (Err x) _ is = omega (arith, ap (λ (s : State). s.taken) is, steady.most)
 
   pub steady_after : IsSteady new
-  steady_after = record { most = most_by result ok err; good = good_by result ok err; kept = kept }
+  steady_after = record { most = most_by result ok err; good = good_by result ok err; kept = kept; indexed = indexed }
 
   standing_by : (r : Result R AllocError) → OnOk r (state_at new ≡ (counts (step e.input e.second (home_at d) stp_of (state_at d))).state) → OnOk r (standing_at new ≡ record (standing_at d) { state = (after (home_at d) stp_of (state_at d) e).state })
   standing_by (Ok x) is =

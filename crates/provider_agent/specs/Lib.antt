@@ -5,6 +5,7 @@ pub mod Steps
 pub mod Runs
 pub mod Safety
 pub mod Kept
+pub mod Indexed
 pub mod Good
 pub mod Desk
 pub mod Ticks

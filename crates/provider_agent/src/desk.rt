@@ -7,6 +7,7 @@ ghost use Rattle.connection_record.specs.Demand.{holds_pending};
 ghost use Rattle.provider_agent.specs.Home.{home_of, own_stp};
 ghost use Rattle.provider_agent.specs.State.{blank, counts, record_at};
 ghost use Rattle.provider_agent.specs.Steps.{step};
+ghost use Rattle.provider_agent.specs.Indexed.{AreIndexed};
 ghost use Rattle.provider_agent.specs.Kept.{AreKept};
 ghost use Rattle.provider_agent.specs.Desk.{home_at, state_at, standing_at, IsReady};
 
@@ -16,6 +17,7 @@ use connection_record::Record;
 use message_retry::TakenRequests;
 use nsi_base::{AgentNo, HoldTime, Name, RecordNo, Second};
 use nsi_primitive::{Entry, Input, Message};
+use record_index::{Deadlines, Places};
 use std::alloc::{AllocError, Global};
 use stp_topology::{AgentKind, Topology};
 
@@ -27,6 +29,10 @@ pub struct Desk {
     pub hold: HoldTime,
     pub calendar: Calendar,
     pub records: Vec<Record>,
+    /// The places of the records that have work to do. Others may be among them.
+    pub waiting: Places,
+    /// When holds end. Others may be among them.
+    pub deadlines: Deadlines,
     pub seen: TakenRequests,
     /// The number of the next id.
     pub next: u64,
@@ -42,6 +48,7 @@ impl Desk {
         requires provider { IsProvider topology.now agent }
         ensures standing { IfOk result (λ d. standing_at d ≡ record { home = home_of topology.now agent; state = blank }) }
         ensures kept { IfOk result (λ d. AreKept d.records.items d.calendar.bookings) }
+        ensures indexed { IfOk result (λ d. AreIndexed d.records.items d.waiting d.deadlines) }
     {
         let AgentKind::Provider { hold } = topology.kind(agent) else {
             unreachable!()
@@ -55,6 +62,8 @@ impl Desk {
             hold,
             calendar,
             records: Vec::new(alloc),
+            waiting: Places::new(alloc),
+            deadlines: Deadlines::new(alloc),
             seen: TakenRequests::new(alloc),
             next: 1,
             now: Second::first(),
@@ -77,6 +86,7 @@ impl Desk {
         ensures home { home_at self.new ≡ home_at self.old }
         ensures err { OnErr result (state_at self.new ≡ state_at self.old) }
         ensures kept { AreKept self.new.records.items self.new.calendar.bookings }
+        ensures indexed { AreIndexed self.new.records.items self.new.waiting self.new.deadlines }
     {
         let out = match &entry.input {
             Input::Got(message) => self.hear(alloc, topology, message)?,

@@ -1,6 +1,6 @@
 //! How requests are taken.
 
-ghost use Rattle.std.specs.Prelude.{◌≡◌, ◌<◌, ◌∷◌, [], length, slice_set, IfOk, OnOk, OnErr, IfSome, IsSome, None, Some};
+ghost use Rattle.std.specs.Prelude.{◌≡◌, ◌<◌, ◌∷◌, [], length, slice_set, IfOk, OnOk, OnErr, IfSome, IsSome, None, Some, Contains};
 ghost use Rattle.nsi_primitive.specs.Messages.{is_request, connection_of};
 ghost use Rattle.nsi_primitive.specs.declared.message.Body.{Body as BodyValue};
 ghost use Rattle.message_retry.specs.Taken.{is_taken, with_taken};
@@ -10,6 +10,7 @@ ghost use Rattle.connection_record.specs.Refusal.{refusal, unnamed_refusal, poin
 ghost use Rattle.provider_agent.specs.Home.{own_stp};
 ghost use Rattle.provider_agent.specs.State.{name_or, record_at};
 ghost use Rattle.provider_agent.specs.Steps.{hears, answers, opens_between, taken_at, error_reply};
+ghost use Rattle.provider_agent.specs.Indexed.{AreIndexed};
 ghost use Rattle.provider_agent.specs.Kept.{AreKept};
 ghost use Rattle.provider_agent.specs.Desk.{home_at, state_at, IsReady};
 
@@ -41,6 +42,7 @@ impl Desk {
         ensures home { home_at self.new ≡ home_at self.old }
         ensures err { OnErr result (state_at self.new ≡ state_at self.old) }
         ensures kept { AreKept self.new.records.items self.new.calendar.bookings }
+        ensures indexed { AreIndexed self.new.records.items self.new.waiting self.new.deadlines }
     {
         if !message.is_request() {
             return Ok(Vec::new(alloc));
@@ -71,6 +73,7 @@ impl Desk {
         ensures home { home_at self.new ≡ home_at self.old }
         ensures err { OnErr result (state_at self.new ≡ state_at self.old) }
         ensures kept { AreKept self.new.records.items self.new.calendar.bookings }
+        ensures indexed { AreIndexed self.new.records.items self.new.waiting self.new.deadlines }
     {
         if !message.header.provider.is(&self.name) {
             return refuse(alloc, &self.name, message, ErrorName::WrongProvider);
@@ -103,6 +106,7 @@ impl Desk {
         ensures home { home_at self.new ≡ home_at self.old }
         ensures err { OnErr result (state_at self.new ≡ state_at self.old) }
         ensures kept { AreKept self.new.records.items self.new.calendar.bookings }
+        ensures indexed { AreIndexed self.new.records.items self.new.waiting self.new.deadlines }
     {
         let Body::Reserve(request) = &message.body else {
             return Ok(Vec::new(alloc));
@@ -116,7 +120,7 @@ impl Desk {
         }
     }
 
-    /// Makes a record, which is moved by its first request.
+    /// Makes a record, which has work to do where its request is taken. Its place is named first.
     fn open_between(
         &mut self,
         alloc: Global,
@@ -134,6 +138,32 @@ impl Desk {
         ensures home { home_at self.new ≡ home_at self.old }
         ensures err { OnErr result (state_at self.new ≡ state_at self.old) }
         ensures kept { AreKept self.new.records.items self.new.calendar.bookings }
+        ensures indexed { AreIndexed self.new.records.items self.new.waiting self.new.deadlines }
+    {
+        self.waiting.add(self.records.len())?;
+        self.add_record(alloc, message, request, source, dest)
+    }
+
+    /// Adds a record, which is moved by its first request.
+    fn add_record(
+        &mut self,
+        alloc: Global,
+        message: &Message,
+        request: &ReserveRequest,
+        source: StpNo,
+        dest: StpNo,
+    ) -> Result<Vec<Message>, AllocError>
+        requires ready { IsReady self.old }
+        requires is_of { message.now.body ≡ BodyValue.Reserve request.now }
+        requires source { IsSome request.now.source }
+        requires dest { IsSome request.now.dest }
+        requires named { Contains self.old.waiting (length self.old.records.items) }
+        ensures state { OnOk result (state_at self.new ≡ (opens_between (Some (source, dest)) (home_at self.old) (state_at self.old) message.now request.now).state) }
+        ensures out { IfOk result (λ out. out.items ≡ (opens_between (Some (source, dest)) (home_at self.old) (state_at self.old) message.now request.now).out) }
+        ensures home { home_at self.new ≡ home_at self.old }
+        ensures err { OnErr result (state_at self.new ≡ state_at self.old) }
+        ensures kept { AreKept self.new.records.items self.new.calendar.bookings }
+        ensures indexed { AreIndexed self.new.records.items self.new.waiting self.new.deadlines }
     {
         let owner = message.header.requester.copy()?;
         let service = service_of(request)?;
@@ -145,7 +175,8 @@ impl Desk {
         Ok(out)
     }
 
-    /// Takes a request about the record at a place.
+    /// Takes a request about the record at a place, which then may have work to do. It is named first: where memory is
+    /// wanting afterwards, a place that is named for nothing does no harm.
     fn take_at(
         &mut self,
         alloc: Global,
@@ -159,6 +190,28 @@ impl Desk {
         ensures home { home_at self.new ≡ home_at self.old }
         ensures err { OnErr result (state_at self.new ≡ state_at self.old) }
         ensures kept { AreKept self.new.records.items self.new.calendar.bookings }
+        ensures indexed { AreIndexed self.new.records.items self.new.waiting self.new.deadlines }
+    {
+        self.waiting.add(place)?;
+        self.move_at(alloc, place, message)
+    }
+
+    /// Moves the record at a place that is named, by a request.
+    fn move_at(
+        &mut self,
+        alloc: Global,
+        place: usize,
+        message: &Message,
+    ) -> Result<Vec<Message>, AllocError>
+        requires ready { IsReady self.old }
+        requires within { place < length self.old.records.items }
+        requires named { Contains self.old.waiting place }
+        ensures state { OnOk result (state_at self.new ≡ (taken_at (home_at self.old) (state_at self.old) place message.now).state) }
+        ensures out { IfOk result (λ out. out.items ≡ (taken_at (home_at self.old) (state_at self.old) place message.now).out) }
+        ensures home { home_at self.new ≡ home_at self.old }
+        ensures err { OnErr result (state_at self.new ≡ state_at self.old) }
+        ensures kept { AreKept self.new.records.items self.new.calendar.bookings }
+        ensures indexed { AreIndexed self.new.records.items self.new.waiting self.new.deadlines }
     {
         let out = take_among(
             alloc,

@@ -98,7 +98,7 @@ impl Provider {
     pub fn waiting_work(&self) -> Option<(RecordNo, Machine)>
         ensures work { result ≡ waiting_work self.now.state }
     {
-        waiting_work(&self.desk.records)
+        waiting_work(&self.desk.waiting, &self.desk.records)
     }
 
     /// Whether a message was taken before; one that isn't a request never counts. It takes no memory.

@@ -8,7 +8,8 @@ ghost use Rattle.connection_record.specs.declared.record.Record.{Record as Recor
 ghost use Rattle.connection_record.specs.Moves.{lapsed};
 ghost use Rattle.provider_agent.specs.State.{record_at};
 ghost use Rattle.provider_agent.specs.Steps.{ticks, ticks_at, messages_of};
-ghost use Rattle.provider_agent.specs.Ticks.{noted_at, lapsed_at};
+ghost use Rattle.provider_agent.specs.Ticks.{noted_at, lapsed_at, AreDue};
+ghost use Rattle.provider_agent.specs.Indexed.{AreIndexed};
 ghost use Rattle.provider_agent.specs.Kept.{AreKept};
 ghost use Rattle.provider_agent.specs.Desk.{home_at, state_at, IsReady};
 
@@ -30,21 +31,26 @@ impl Desk {
         ensures home { home_at self.new ≡ home_at self.old }
         ensures err { OnErr result (state_at self.new ≡ state_at self.old) }
         ensures kept { AreKept self.new.records.items self.new.calendar.bookings }
+        ensures indexed { AreIndexed self.new.records.items self.new.waiting self.new.deadlines }
     {
-        let out = self.told(alloc, now)?;
-        note_all(&mut self.records, now)?;
-        self.end_all(now);
+        let places = self.deadlines.due_by(alloc, now)?;
+        let due = places.items();
+        let out = self.told(alloc, due, now)?;
+        note_all(&mut self.records, due, now)?;
+        end_all(&mut self.records, &mut self.calendar, due, now);
+        self.deadlines.pass(now);
         self.now = now;
         Ok(out)
     }
 
     /// What the owners of the holds that are over are told.
-    fn told(&self, alloc: Global, now: Second) -> Result<Vec<Message>, AllocError>
+    fn told(&self, alloc: Global, due: &[usize], now: Second) -> Result<Vec<Message>, AllocError>
+        requires { AreDue now self.now.records.items due.now }
         ensures { IfOk result (λ out. out.items ≡ flat_map (λ r. messages_of (home_at self.entry.now) (ticks_at (home_at self.entry.now) now r)) self.entry.now.records.items) }
     {
         let mut out = Vec::new(alloc);
-        for own in &self.records {
-            self.tell(&mut out, own, now)?;
+        for place in due {
+            self.tell(&mut out, &self.records[*place], now)?;
         }
         Ok(out)
     }
@@ -66,33 +72,34 @@ impl Desk {
         out.push(message_of(parties, reply))?;
         Ok(())
     }
+}
 
-    /// Ends the holds whose end is noted.
-    fn end_all(&mut self, now: Second)
-        requires kept { AreKept self.old.records.items self.old.calendar.bookings }
-        requires few { length self.old.records.items ≤ 4194303 }
-        ensures home { home_at self.new ≡ home_at self.old }
-        ensures state { state_at self.new ≡ record (state_at self.old) { records = map (lapsed_at now) self.old.records.items } }
-        ensures kept { AreKept self.new.records.items self.new.calendar.bookings }
-    {
-        for place in 0..self.records.len() {
-            self.end_at(place, now);
-        }
+/// Ends the holds whose end is noted.
+fn end_all(records: &mut Vec<Record>, calendar: &mut Calendar, due: &[usize], now: Second)
+    requires due { AreDue now records.old.items due.now }
+    requires kept { AreKept records.old.items calendar.old.bookings }
+    requires few { length records.old.items ≤ 4194303 }
+    ensures records { records.new.items ≡ map (lapsed_at now) records.old.items }
+    ensures capacities { calendar.new.capacities ≡ calendar.old.capacities }
+    ensures kept { AreKept records.new.items calendar.new.bookings }
+{
+    for place in due {
+        end_at(records, calendar, *place, now);
     }
+}
 
-    #[tactic(auto, unfolding(crate::specs::Ticks::lapsed_at))]
-    fn end_at(&mut self, place: usize, now: Second)
-        requires within { place < length self.old.records.items }
-        requires few { place ≤ 4194303 }
-        requires kept { AreKept self.old.records.items self.old.calendar.bookings }
-        ensures home { home_at self.new ≡ home_at self.old }
-        ensures state { state_at self.new ≡ record (state_at self.old) { records = slice_set self.old.records.items place (lapsed_at now (record_at place self.old.records.items)) } }
-        ensures kept { AreKept self.new.records.items self.new.calendar.bookings }
-    {
-        if self.records[place].is_hold_over(now) {
-            end_hold_at(&mut self.records, place);
-            free_pending(&mut self.calendar, place);
-        }
+#[tactic(auto, unfolding(crate::specs::Ticks::lapsed_at))]
+fn end_at(records: &mut Vec<Record>, calendar: &mut Calendar, place: usize, now: Second)
+    requires within { place < length records.old.items }
+    requires few { place ≤ 4194303 }
+    requires kept { AreKept records.old.items calendar.old.bookings }
+    ensures records { records.new.items ≡ slice_set records.old.items place (lapsed_at now (record_at place records.old.items)) }
+    ensures capacities { calendar.new.capacities ≡ calendar.old.capacities }
+    ensures kept { AreKept records.new.items calendar.new.bookings }
+{
+    if records[place].is_hold_over(now) {
+        end_hold_at(records, place);
+        free_pending(calendar, place);
     }
 }
 
@@ -111,26 +118,28 @@ fn end_hold_at(records: &mut Vec<Record>, place: usize)
 }
 
 /// Notes the end of each hold that is over.
-fn note_all(records: &mut Vec<Record>, now: Second) -> Result<(), AllocError>
+fn note_all(records: &mut Vec<Record>, due: &[usize], now: Second) -> Result<(), AllocError>
+    requires { AreDue now records.old.items due.now }
     ensures ok { OnOk result (records.new.items ≡ map (noted_at now) records.old.items) }
     ensures err { OnErr result (records.new.items ≡ records.old.items) }
 {
-    let count = note_some(records, now);
+    let count = note_some(records, due, now);
     if count == records.len() {
         return Ok(());
     }
-    take_back(records, count, now);
+    take_back(records, due, count, now);
     Err(AllocError)
 }
 
 /// Notes ends from the front until memory is wanting, and answers for how many records that was done.
-fn note_some(records: &mut Vec<Record>, now: Second) -> usize
+fn note_some(records: &mut Vec<Record>, due: &[usize], now: Second) -> usize
+    requires { AreDue now records.old.items due.now }
     ensures within { result ≤ length records.old.items }
     ensures noted { records.new.items ≡ map (noted_at now) (take result records.old.items) ++ drop result records.old.items }
 {
-    for place in 0..records.len() {
-        let Ok(()) = note(&mut records[place], now) else {
-            return place;
+    for place in due {
+        let Ok(()) = note(&mut records[*place], now) else {
+            return *place;
         };
     }
     records.len()
@@ -149,12 +158,15 @@ fn note(own: &mut Record, now: Second) -> Result<(), AllocError>
 }
 
 /// Takes back what was noted of the first records.
-fn take_back(records: &mut Vec<Record>, count: usize, now: Second)
-    requires { count ≤ length records.old.items }
-    ensures { (rs : Sequence RecordValue) → records.old.items ≡ map (noted_at now) (take count rs) ++ drop count rs → records.new.items ≡ rs }
+fn take_back(records: &mut Vec<Record>, due: &[usize], count: usize, now: Second)
+    requires within { count ≤ length records.old.items }
+    ensures { (rs : Sequence RecordValue) → AreDue now rs due.now → records.old.items ≡ map (noted_at now) (take count rs) ++ drop count rs → records.new.items ≡ rs }
 {
-    for place in 0..count {
-        forget(&mut records[place], now);
+    for place in due {
+        if *place >= count {
+            return;
+        }
+        forget(&mut records[*place], now);
     }
 }
 

@@ -1,6 +1,7 @@
 //! How waiting work is done.
 
-ghost use Rattle.std.specs.Prelude.{◌≡◌, ◌<◌, ◌≤◌, ◌+◌, ◌&&◌, nat_lt, position, length, IfSome, IfOk, OnOk, OnErr, Some, None, IsSome, is_some, if◌then◌else◌, true, option_map};
+ghost use Rattle.std.specs.Prelude.{◌≡◌, ◌<◌, ◌≤◌, ◌+◌, ◌&&◌, nat_lt, position, length, IfSome, IfOk, OnOk, OnErr, Some, None, IsSome, is_some, if◌then◌else◌, true, option_map, Contains};
+ghost use Rattle.std.specs.List.Sorted.{IsStrictlyIncreasing};
 ghost use Rattle.nsi_primitive.specs.Kinds.{is_both_ways};
 ghost use Rattle.nsi_primitive.specs.declared.state.Machine.{Machine as MachineValue};
 ghost use Rattle.connection_record.specs.declared.moves.ReservationMove.{ReservationMove as MoveValue};
@@ -10,6 +11,7 @@ ghost use Rattle.connection_record.specs.Moves.{reserves, fit_or_lack, is_live, 
 ghost use Rattle.provider_agent.specs.Others.{lacking, lack_among, cause_among, bandwidth};
 ghost use Rattle.provider_agent.specs.State.{record_at};
 ghost use Rattle.provider_agent.specs.Steps.{works, works_at, is_waiting, put_back, first_waiting};
+ghost use Rattle.provider_agent.specs.Indexed.{NamesWork, AreIndexed};
 ghost use Rattle.provider_agent.specs.Kept.{AreKept, slot_of, with_slot, plan_lack, is_plain};
 ghost use Rattle.provider_agent.specs.Desk.{home_at, state_at, IsReady};
 
@@ -19,6 +21,7 @@ use capacity_calendar::{Calendar, Lack};
 use connection_record::{Record, ReservationMove};
 use nsi_base::{RecordNo, Second};
 use nsi_primitive::{Cause, Criteria, ErrorName, Exception, Machine, Message, Rsm};
+use record_index::Places;
 use std::alloc::{AllocError, Global};
 
 impl Desk {
@@ -36,12 +39,29 @@ impl Desk {
         ensures home { home_at self.new ≡ home_at self.old }
         ensures err { OnErr result (state_at self.new ≡ state_at self.old) }
         ensures kept { AreKept self.new.records.items self.new.calendar.bookings }
+        ensures indexed { AreIndexed self.new.records.items self.new.waiting self.new.deadlines }
     {
         let place = number.get() as usize;
         if !is_waiting(&self.records, place, machine) {
             return Ok(Vec::new(alloc));
         }
-        self.work_at(alloc, place)
+        let out = self.work_at(alloc, place)?;
+        self.forget_if_done(place);
+        Ok(out)
+    }
+
+    /// A record that has no work to do any more isn't named.
+    fn forget_if_done(&mut self, place: usize)
+        requires within { place < length self.old.records.items }
+        requires indexed { AreIndexed self.old.records.items self.old.waiting self.old.deadlines }
+        ensures state { state_at self.new ≡ state_at self.old }
+        ensures home { home_at self.new ≡ home_at self.old }
+        ensures bookings { self.new.calendar.bookings ≡ self.old.calendar.bookings }
+        ensures indexed { AreIndexed self.new.records.items self.new.waiting self.new.deadlines }
+    {
+        if !self.records[place].waits(Machine::Reserve) {
+            self.waiting.remove(place);
+        }
     }
 
     /// What was asked is held or refused, a commit or an abort is carried out.
@@ -55,6 +75,7 @@ impl Desk {
         ensures home { home_at self.new ≡ home_at self.old }
         ensures err { OnErr result (state_at self.new ≡ state_at self.old) }
         ensures kept { AreKept self.new.records.items self.new.calendar.bookings }
+        ensures indexed { AreIndexed self.new.records.items self.new.waiting self.new.deadlines }
     {
         match self.records[place].rsm {
             Rsm::ReserveChecking => self.decide(alloc, place),
@@ -78,6 +99,7 @@ impl Desk {
         ensures home { home_at self.new ≡ home_at self.old }
         ensures err { OnErr result (state_at self.new ≡ state_at self.old) }
         ensures kept { AreKept self.new.records.items self.new.calendar.bookings }
+        ensures indexed { AreIndexed self.new.records.items self.new.waiting self.new.deadlines }
     {
         let cause = cause_at(&self.calendar, &self.records, place, self.now)?;
         match cause {
@@ -90,7 +112,8 @@ impl Desk {
         }
     }
 
-    /// Holds what was asked.
+    /// Holds what was asked. The end of the hold is named first: where memory is wanting afterwards, an end that is named
+    /// for nothing does no harm.
     fn fit(&mut self, alloc: Global, place: usize) -> Result<Vec<Message>, AllocError>
         requires ready { IsReady self.old }
         requires within { place < length self.old.records.items }
@@ -102,8 +125,33 @@ impl Desk {
         ensures home { home_at self.new ≡ home_at self.old }
         ensures err { OnErr result (state_at self.new ≡ state_at self.old) }
         ensures kept { AreKept self.new.records.items self.new.calendar.bookings }
+        ensures indexed { AreIndexed self.new.records.items self.new.waiting self.new.deadlines }
     {
         let deadline = self.now.get() + u64::from(self.hold.get());
+        self.deadlines.add(deadline, place)?;
+        self.hold_until(alloc, place, deadline)
+    }
+
+    /// Holds what was asked until a second that is named.
+    fn hold_until(
+        &mut self,
+        alloc: Global,
+        place: usize,
+        deadline: u64,
+    ) -> Result<Vec<Message>, AllocError>
+        requires ready { IsReady self.old }
+        requires within { place < length self.old.records.items }
+        requires checking { (record_at place self.old.records.items).rsm ≡ Rsm.ReserveChecking }
+        requires live { is_live (record_at place self.old.records.items).lsm ≡ true }
+        requires fits { cause_among self.old.calendar.capacities self.old.records.items self.old.now place (record_at place self.old.records.items).pending ≡ None }
+        requires named { Contains self.old.deadlines (record { second = deadline; place = place }) }
+        ensures state { OnOk result (let own = record_at place self.old.records.items in let moved = reserves Rsm.ReserveChecking (FitValue (Some deadline)) self.old.now own in state_at self.new ≡ (put_back (home_at self.old) (state_at self.old) place moved).state) }
+        ensures out { IfOk result (λ out. let own = record_at place self.old.records.items in let moved = reserves Rsm.ReserveChecking (FitValue (Some deadline)) self.old.now own in out.items ≡ (put_back (home_at self.old) (state_at self.old) place moved).out) }
+        ensures home { home_at self.new ≡ home_at self.old }
+        ensures err { OnErr result (state_at self.new ≡ state_at self.old) }
+        ensures kept { AreKept self.new.records.items self.new.calendar.bookings }
+        ensures indexed { AreIndexed self.new.records.items self.new.waiting self.new.deadlines }
+    {
         let event = ReservationMove::Fit {
             deadline: Some(deadline),
         };
@@ -128,6 +176,7 @@ impl Desk {
         ensures home { home_at self.new ≡ home_at self.old }
         ensures err { OnErr result (state_at self.new ≡ state_at self.old) }
         ensures kept { AreKept self.new.records.items self.new.calendar.bookings }
+        ensures indexed { AreIndexed self.new.records.items self.new.waiting self.new.deadlines }
     {
         let is_held = has_pending(&self.records, place);
         let event = ReservationMove::Done;
@@ -146,11 +195,13 @@ impl Desk {
         requires ready { IsReady self.old }
         requires within { place < length self.old.records.items }
         requires plain { is_plain event ≡ true }
+        requires waits { waits MachineValue.Reserve (record_at place self.old.records.items) ≡ true }
         ensures state { OnOk result (let own = record_at place self.old.records.items in state_at self.new ≡ (put_back (home_at self.old) (state_at self.old) place (reserves own.rsm event self.old.now own)).state) }
         ensures out { IfOk result (λ out. let own = record_at place self.old.records.items in out.items ≡ (put_back (home_at self.old) (state_at self.old) place (reserves own.rsm event self.old.now own)).out) }
         ensures home { home_at self.new ≡ home_at self.old }
         ensures err { OnErr result (state_at self.new ≡ state_at self.old) }
         ensures kept { AreKept self.new.records.items self.new.calendar.bookings }
+        ensures indexed { AreIndexed self.new.records.items self.new.waiting self.new.deadlines }
     {
         let out = advance_at(alloc, &self.name, &mut self.records, place, event, self.now)?;
         self.free_if_dropped(place);
@@ -159,21 +210,29 @@ impl Desk {
 }
 
 /// The first record that has work to do, and the machine.
-pub fn waiting_work(records: &[Record]) -> Option<(RecordNo, Machine)>
-    requires { length records.now ≤ 4194304 }
+pub fn waiting_work(waiting: &Places, records: &[Record]) -> Option<(RecordNo, Machine)>
+    requires few { length records.now ≤ 4194304 }
+    requires named { NamesWork records.now waiting.now }
     ensures { result ≡ first_waiting records.now }
 {
-    match first_place(records) {
+    match first_place(waiting.items(), records) {
         None => None,
         Some(place) => Some((number_of(place), Machine::Reserve)),
     }
 }
 
-fn first_place(records: &[Record]) -> Option<usize>
+fn first_place(waiting: &[usize], records: &[Record]) -> Option<usize>
+    requires rising { IsStrictlyIncreasing waiting.now }
+    requires named { NamesWork records.now waiting.now }
     ensures place { result ≡ position (waits MachineValue.Reserve) records.now }
     ensures within { IfSome result (λ n. n < length records.now) }
 {
-    records.iter().position(|own| own.waits(Machine::Reserve))
+    for place in waiting {
+        if is_waiting(records, *place, Machine::Reserve) {
+            return Some(*place);
+        }
+    }
+    None
 }
 
 /// Whether a machine of the record at a place has work to do.

@@ -1,37 +1,9 @@
-use Rattle.std.proofs.Common.{arith, ◌≡◌, ◌∙◌, ap, sym, subst, set, List, Some, None, option_map, ◌+◌}
-use Rattle.nsi_primitive.specs.declared.state.Rsm.{Rsm}
-use Rattle.capacity_calendar.specs.Plan.{Plan, pending_set}
-use Rattle.connection_record.specs.declared.record.Record.{Record}
-use Rattle.connection_record.specs.declared.moves.ReservationMove.{ReservationMove}
-use Rattle.connection_record.specs.Moves.{reserves}
-use Rattle.provider_agent.specs.State.{record_at}
-use Rattle.provider_agent.specs.Kept.{AreKept, slot_of, with_slot}
-use Rattle.provider_agent.proofs.Putting.{kept_put, kept_taken_out}
+use Rattle.std.proofs.Common.{◌+◌}
+use Rattle.provider_agent.proofs.Indexing.{ready_timed, timed_added}
 use Rattle.provider_agent.proofs.desk.Desk.fit.Goals as goal
 
-pub returns-in-Ok-clause-kept : goal.returns-in-Ok-clause-kept
-returns-in-Ok-clause-kept c =
-    let d = c.args.self.now in
-    let n = c.args.place in
-    let own = record_at n d.records.items in
-    let bs = d.calendar.bookings in
-    let records = set d.records.items n (reserves Rsm.ReserveChecking (ReservationMove.Fit (Some (d.now + d.hold))) d.now own).rec in
-    let booked = λ (rs : List Record). with_slot n (option_map (slot_of (record_at n rs)) (record_at n rs).pending) bs in
-    let calendar_is = ap (λ (p : Plan). p.bookings) c.in_ok-put.ensures.ok ∙ ap booked c.deref.ensures.value in
-    let deadline : c.get.result + c.from.result ≡ d.now + d.hold = omega (arith, c.get.ensures.value, c.get-2.ensures.value, c.from.ensures) in
-    let records_are = c.in-Ok.ensures.rec
-    ∙ (ap (λ k. set d.records.items n (reserves k (ReservationMove.Fit (Some (c.get.result + c.from.result))) d.now own).rec) c.requires.checking
-    ∙ ap (λ t. set d.records.items n (reserves Rsm.ReserveChecking (ReservationMove.Fit (Some t)) d.now own).rec) deadline) in
-    subst (λ rs. AreKept rs c.put.new.calendar.bookings) (sym records_are)
-    (subst (AreKept records) (sym calendar_is) (kept_put d.records.items bs n (Some (d.now + d.hold)) d.now c.requires.ready.kept c.requires.within c.requires.checking c.requires.live))
+pub hold_until-requires-clause-ready : goal.hold_until-requires-clause-ready
+hold_until-requires-clause-ready c = ready_timed c.args.self.now c.add.new.self (c.get.result + c.from.result) c.args.place c.requires.ready c.requires.within c.in_ok-add.ensures.ok
 
-pub returns-in-Err-clause-kept : goal.returns-in-Err-clause-kept
-returns-in-Err-clause-kept c =
-    let d = c.args.self.now in
-    let n = c.args.place in
-    let bs = d.calendar.bookings in
-    let booked = λ (rs : List Record). with_slot n (option_map (slot_of (record_at n rs)) (record_at n rs).pending) bs in
-    let calendar_is = ap (λ (p : Plan). p.bookings) c.in_ok-put.ensures.ok ∙ ap booked c.deref.ensures.value in
-    let taken_is = ap (λ (p : Plan). p.bookings) c.take_pending.ensures.taken ∙ (ap (λ k. pending_set k None c.put.new.calendar.bookings) c.number_of.ensures ∙ ap (pending_set n None) calendar_is) in
-    subst (λ rs. AreKept rs c.take_pending.new.self.bookings) (sym c.in-Err.ensures.err)
-    (subst (AreKept d.records.items) (sym taken_is) (kept_taken_out d.records.items bs n _ c.requires.ready.kept c.requires.within c.requires.checking))
+pub hold_until-requires-clause-named : goal.hold_until-requires-clause-named
+hold_until-requires-clause-named c = timed_added c.args.self.now.deadlines c.add.new.self (c.get.result + c.from.result) c.args.place c.in_ok-add.ensures.ok

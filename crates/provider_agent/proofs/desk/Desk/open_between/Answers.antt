@@ -1,23 +1,11 @@
-use Rattle.std.proofs.Common.{ℕ, ◌∙◌, ap, sym, subst, ◌++◌, ◌∷◌, [], ◌+◌}
-use Rattle.provider_agent.specs.Desk.{home_at, state_at}
-use Rattle.provider_agent.specs.Kept.{AreKept}
-use Rattle.provider_agent.proofs.Opening.{made_by, made_moved_by, opened_state, kept_opened}
+use Rattle.std.proofs.Common.{subst, arith, Contains}
+use Rattle.provider_agent.proofs.Indexing.{ready_added, named_added}
 use Rattle.provider_agent.proofs.desk.Desk.open_between.Goals as goal
 
-pub returns-clause-state : goal.returns-clause-state
-returns-clause-state c =
-    let d = c.args.self.now in
-    let points : ℕ × ℕ = (c.args.source, c.args.dest) in
-    let made_is = made_by (home_at d) (state_at d) c.args.message.now c.args.request.now points c.new-own.result c.id_of-id.result c.in_ok-owner.owner c.in_ok-service.service c.new-own.ensures c.id_of-id.ensures c.in_ok-owner.ensures c.in_ok-service.ensures in
-    let moved_is = made_moved_by (home_at d) (state_at d) c.args.message.now c.args.request.now points c.new-own.result c.take.new.own made_is c.in_ok-out.ensures.rec in
-    ap (λ rs. record (state_at d) { records = rs; next = d.next + 1 }) (c.in_ok-push.ensures.items ∙ ap (λ r. d.records.items ++ r ∷ []) moved_is)
-    ∙ opened_state (home_at d) (state_at d) c.args.message.now c.args.request.now points
+pub add_record-requires-clause-ready : goal.add_record-requires-clause-ready
+add_record-requires-clause-ready c = ready_added c.args.self.now c.add.new.self c.len.result c.requires.ready c.in_ok-add.ensures.ok
 
-pub returns-clause-kept : goal.returns-clause-kept
-returns-clause-kept c =
+pub add_record-requires-clause-named : goal.add_record-requires-clause-named
+add_record-requires-clause-named c =
     let d = c.args.self.now in
-    let points : ℕ × ℕ = (c.args.source, c.args.dest) in
-    let made_is = made_by (home_at d) (state_at d) c.args.message.now c.args.request.now points c.new-own.result c.id_of-id.result c.in_ok-owner.owner c.in_ok-service.service c.new-own.ensures c.id_of-id.ensures c.in_ok-owner.ensures c.in_ok-service.ensures in
-    let moved_is = made_moved_by (home_at d) (state_at d) c.args.message.now c.args.request.now points c.new-own.result c.take.new.own made_is c.in_ok-out.ensures.rec in
-    let records_are = c.in_ok-push.ensures.items ∙ ap (λ r. d.records.items ++ r ∷ []) moved_is in
-    subst (λ rs. AreKept rs d.calendar.bookings) (sym records_are) (kept_opened (home_at d) (state_at d) c.args.message.now c.args.request.now points d.calendar.bookings c.requires.ready.kept)
+    subst (Contains c.add.new.self) (omega arith) (named_added d.waiting c.add.new.self c.len.result c.in_ok-add.ensures.ok)

@@ -1,9 +1,10 @@
-use Rattle.std.proofs.Common.{ap, arith}
+use Rattle.std.proofs.Common.{ap, sym, subst, arith}
 use Rattle.nsi_primitive.specs.Messages.{is_request}
 use Rattle.message_retry.specs.Taken.{is_taken}
 use Rattle.provider_agent.specs.declared.desk.Desk.{Desk}
 use Rattle.provider_agent.specs.State.{State}
 use Rattle.provider_agent.specs.Steps.{is_waiting}
+use Rattle.provider_agent.specs.Indexed.{AreIndexed}
 use Rattle.provider_agent.specs.Desk.{home_at, state_at}
 use Rattle.provider_agent.specs.Home.{own_stp}
 use Rattle.provider_agent.proofs.Steady.{heard_taken, worked_taken, ticked_taken}
@@ -23,4 +24,13 @@ overflow_add-self c =
           omega (arith, c.requires.few, ap (λ (x : Desk). x.taken) w.self-is, ap taken w.in_ok-out-in-Work.ensures.state, worked_taken (is_waiting (state_at d) n w.in-Work.machine) (home_at d) (state_at d) n)
       | in-Tick+in_ok-out-in-Tick w ↦
           omega (arith, c.requires.few, ap (λ (x : Desk). x.taken) w.self-is, ap taken w.in_ok-out-in-Tick.ensures.state, ticked_taken (home_at d) c.args.entry.now.second (state_at d))
+    ]
+
+pub returns-clause-indexed : goal.returns-clause-indexed
+returns-clause-indexed c =
+    let indexed = λ (x : Desk). AreIndexed x.records.items x.waiting x.deadlines in
+    elim c.match-entry.branch [
+      | in-Got+in_ok-out-in-Got w ↦ subst indexed (sym w.self-is) w.in_ok-out-in-Got.ensures.indexed
+      | in-Work+in_ok-out-in-Work w ↦ subst indexed (sym w.self-is) w.in_ok-out-in-Work.ensures.indexed
+      | in-Tick+in_ok-out-in-Tick w ↦ subst indexed (sym w.self-is) w.in_ok-out-in-Tick.ensures.indexed
     ]

@@ -1,15 +1,8 @@
-use Rattle.std.proofs.Common.{sym, subst}
-use Rattle.provider_agent.specs.declared.desk.Desk.{Desk}
-use Rattle.provider_agent.specs.State.{record_at}
-use Rattle.provider_agent.specs.Kept.{AreKept}
-use Rattle.provider_agent.proofs.Moved.{plain_request}
-use Rattle.provider_agent.proofs.Keeping.{kept_taken}
+use Rattle.provider_agent.proofs.Indexing.{ready_added, named_added}
 use Rattle.provider_agent.proofs.desk.Desk.take_at.Goals as goal
 
-pub returns-clause-kept : goal.returns-clause-kept
-returns-clause-kept c =
-    let d = c.args.self.now in
-    let m = c.args.message.now in
-    let own = record_at c.args.place d.records.items in
-    subst (λ (x : Desk). AreKept x.records.items x.calendar.bookings) (sym c.free_if_dropped.ensures)
-    (kept_taken d.records.items _ d.calendar.bookings c.args.place _ c.requires.ready.kept c.requires.within (plain_request m.body m.header.correlation d.now own) c.in_ok-out.ensures.rec)
+pub move_at-requires-clause-ready : goal.move_at-requires-clause-ready
+move_at-requires-clause-ready c = ready_added c.args.self.now c.add.new.self c.args.place c.requires.ready c.in_ok-add.ensures.ok
+
+pub move_at-requires-clause-named : goal.move_at-requires-clause-named
+move_at-requires-clause-named c = named_added c.args.self.now.waiting c.add.new.self c.args.place c.in_ok-add.ensures.ok

@@ -14,7 +14,7 @@ invariant_of-self c =
     let d = c.self.inside.desk in
     let e = c.args.entry.now in
     let may : may_take (state_at d) e ≡ _ = ap (λ (x : Standing). may_take x.state e) c.self.view_is ∙ c.requires.may_take in
-    steady_after c.take.result d c.take.new.self (own_stp c.args.topology.now d.number) e c.self.invariant may c.requires.printable c.take.ensures.state c.take.ensures.err c.take.ensures.home c.take.ensures.kept
+    steady_after c.take.result d c.take.new.self (own_stp c.args.topology.now d.number) e c.self.invariant may c.requires.printable c.take.ensures.state c.take.ensures.err c.take.ensures.home c.take.ensures.kept c.take.ensures.indexed
 
 pub returns-clause-state : goal.returns-clause-state
 returns-clause-state c =
@@ -23,7 +23,7 @@ returns-clause-state c =
     let may : may_take (state_at d) e ≡ _ = ap (λ (x : Standing). may_take x.state e) c.self.view_is ∙ c.requires.may_take in
     let after_of = λ (x : Standing). record x { state = (after x.home (own_stp c.args.topology.now x.home.number) x.state e).state } in
     stands_by c.take.result c.take.new.self (after_of (standing_at d)) (after_of c.args.self.now) (ap after_of c.self.view_is)
-    (standing_after c.take.result d c.take.new.self (own_stp c.args.topology.now d.number) e c.self.invariant may c.requires.printable c.take.ensures.state c.take.ensures.err c.take.ensures.home c.take.ensures.kept)
+    (standing_after c.take.result d c.take.new.self (own_stp c.args.topology.now d.number) e c.self.invariant may c.requires.printable c.take.ensures.state c.take.ensures.err c.take.ensures.home c.take.ensures.kept c.take.ensures.indexed)
 
 pub returns-clause-out : goal.returns-clause-out
 returns-clause-out c =
@@ -45,14 +45,14 @@ returns-clause-capped c =
     let d = c.self.inside.desk in
     let e = c.args.entry.now in
     let may : may_take (state_at d) e ≡ _ = ap (λ (x : Standing). may_take x.state e) c.self.view_is ∙ c.requires.may_take in
-    (steady_after c.take.result d c.take.new.self (own_stp c.args.topology.now d.number) e c.self.invariant may c.requires.printable c.take.ensures.state c.take.ensures.err c.take.ensures.home c.take.ensures.kept).good.capped
+    (steady_after c.take.result d c.take.new.self (own_stp c.args.topology.now d.number) e c.self.invariant may c.requires.printable c.take.ensures.state c.take.ensures.err c.take.ensures.home c.take.ensures.kept c.take.ensures.indexed).good.capped
 
 pub returns-clause-rising : goal.returns-clause-rising
 returns-clause-rising c =
     let d = c.self.inside.desk in
     let e = c.args.entry.now in
     let may : may_take (state_at d) e ≡ _ = ap (λ (x : Standing). may_take x.state e) c.self.view_is ∙ c.requires.may_take in
-    let steady = steady_after c.take.result d c.take.new.self (own_stp c.args.topology.now d.number) e c.self.invariant may c.requires.printable c.take.ensures.state c.take.ensures.err c.take.ensures.home c.take.ensures.kept in
+    let steady = steady_after c.take.result d c.take.new.self (own_stp c.args.topology.now d.number) e c.self.invariant may c.requires.printable c.take.ensures.state c.take.ensures.err c.take.ensures.home c.take.ensures.kept c.take.ensures.indexed in
     rising_where_good (home_at c.take.new.self) (state_at c.take.new.self) steady.good
 
 pub returns-clause-honest : goal.returns-clause-honest
