@@ -1,6 +1,9 @@
 //! A run over bytes in memory. The modules of tests stand below it, so nothing here is public.
 
+mod clock;
+mod holds;
 mod hostile;
+mod modifications;
 mod outside;
 mod paths;
 mod rows;
@@ -51,13 +54,17 @@ fn run(
     Ok(Written { status, bytes })
 }
 
-/// The command `provide` on the bytes, where nothing fails.
-fn provide(alloc: Global, input: Vec<u8>) -> Result<Written, AllocError> {
+/// The command of the words on the bytes, where nothing fails.
+fn run_whole(alloc: Global, words: &str, input: Vec<u8>) -> Result<Written, AllocError> {
     let failing = Failing {
         reads: Vec::new(alloc),
         writes: Vec::new(alloc),
     };
-    run(alloc, "provide", input, failing)
+    run(alloc, words, input, failing)
+}
+
+fn provide(alloc: Global, input: Vec<u8>) -> Result<Written, AllocError> {
+    run_whole(alloc, "provide", input)
 }
 
 /// The topology, and bytes behind it.

@@ -13,7 +13,7 @@ const ANSWER: &str =
 "#;
 
 /// Lines, and what each is answered behind the topology.
-const REFUSED: [(&str, &str); 40] = [
+const REFUSED: [(&str, &str); 45] = [
     (
         r#"{"#,
         r#"{"errorId":"PAYLOAD","fault":"NotJson","kind":"error","line":6}"#,
@@ -55,8 +55,24 @@ const REFUSED: [(&str, &str); 40] = [
         r#"{"errorId":"PAYLOAD","fault":"Unbuilt","kind":"error","line":6}"#,
     ),
     (
+        r#"{"kind":"reserveTimeout"}"#,
+        r#"{"errorId":"PAYLOAD","fault":"Unbuilt","kind":"error","line":6}"#,
+    ),
+    (
         r#"{"kind":"reserveCommit"}"#,
         r#"{"errorId":"PAYLOAD","fault":"Missing","key":"connectionId","kind":"error","line":6}"#,
+    ),
+    (
+        r#"{"kind":"reserveAbort","connectionId":"P#1"}"#,
+        r#"{"errorId":"PAYLOAD","fault":"Missing","key":"correlationId","kind":"error","line":6}"#,
+    ),
+    (
+        r#"{"kind":"reserve","correlationId":"R#1","requesterNSA":"r1","providerNSA":"p1","connectionId":null,"capacity":600,"startTime":100,"endTime":200,"sourceSTP":"A","destSTP":"B"}"#,
+        r#"{"errorId":"PAYLOAD","fault":"Bad","key":"connectionId","kind":"error","line":6}"#,
+    ),
+    (
+        r#"{"kind":"reserve","correlationId":"R#1","requesterNSA":"r1","providerNSA":"p1","connectionId":"P#1","capacity":600,"startTime":100,"endTime":200,"sourceSTP":"B","destSTP":"B"}"#,
+        r#"{"errorId":"PAYLOAD","fault":"Bad","key":"destSTP","kind":"error","line":6}"#,
     ),
     (
         r#"{"kind":"reserve",}"#,
@@ -298,7 +314,7 @@ fn a_long_tick_is_a_tick(rt: HostRuntime) -> Result<(), Fail> {
     let is_right = is_answered(
         rt.alloc(),
         long.as_str(),
-        "{\"errorId\":\"PAYLOAD\",\"fault\":\"Unbuilt\",\"kind\":\"error\",\"line\":6}\n",
+        "{\"errorId\":\"PAYLOAD\",\"fault\":\"Tick\",\"kind\":\"error\",\"line\":6}\n",
     )?;
     assert!(rt; is_right);
     Ok(())

@@ -61,13 +61,35 @@ fn bad_topologies_are_refused(rt: HostRuntime) -> Result<(), Fail> {
     Ok(())
 }
 
-/// Words that name no command.
-const WORDS: [&str; 7] = [
+/// Words that name no command, or an option in no form of it.
+const WORDS: [&str; 29] = [
     "",
     "run --workers 0",
     "Provide",
     "provide provide",
+    "provide check",
+    "provide --",
+    "provide 3",
     "provide --events",
+    "provide --events=",
+    "provide --events 0",
+    "provide --events=0",
+    "provide --events 2000001",
+    "provide --events=2000001",
+    "provide --events x",
+    "provide --events=x",
+    "provide --events +3",
+    "provide --events -3",
+    "provide --events 3.0",
+    "provide --events 000000000000000000003",
+    "provide --events 3 3",
+    "provide --events 3 --events 3",
+    "provide --events=3 --events=3",
+    "provide -- --events 3",
+    "provide --event 3",
+    "provide --Events=3",
+    "provide --workers 1",
+    "--events 3 provide",
     "--help",
     "provid\u{e9}",
 ];

@@ -431,12 +431,14 @@ fn a_failed_write_ends_the_run(rt: HostRuntime) -> Result<(), Fail> {
 }
 
 /// Words that aren't the one word `check`.
-const WORDS: [&str; 5] = [
+const WORDS: [&str; 7] = [
     "check check",
     "check provide",
     "Check",
     "chec",
     "check --events",
+    "check --events 3",
+    "check --events=3",
 ];
 
 fn is_usage(alloc: Global, words: &str) -> Result<bool, AllocError> {

@@ -13,7 +13,7 @@ const ANSWER: &str =
 "#;
 
 /// What is tried, the lines, and what is written.
-const ROWS: [(&str, &str, &str); 18] = [
+const ROWS: [(&str, &str, &str); 17] = [
     (
         "A reserve is held.",
         r#"{"kind":"reserve","correlationId":"R#1","requesterNSA":"r1","providerNSA":"p1","capacity":600,"startTime":100,"endTime":200,"sourceSTP":"A","destSTP":"B"}
@@ -212,21 +212,6 @@ const ROWS: [(&str, &str, &str); 18] = [
         r#"{"connectionId":"P#1","correlationId":"R#1","kind":"reserveResponse","providerNSA":"p1","requesterNSA":"r1"}
 {"capacity":600,"connectionId":"P#1","correlationId":"R#1","destSTP":"B","directionality":"Bidirectional","endTime":200,"kind":"reserveConfirmed","providerNSA":"p1","requesterNSA":"r1","sourceSTP":"A","startTime":100,"version":0}
 {"errorId":"PAYLOAD","fault":"NotJson","kind":"error","line":10}
-"#,
-    ),
-    (
-        "Ticks aren't taken yet, nor modifications and commits.",
-        r#"tick 5
-ticket
- tick 5
-{"kind":"reserve","correlationId":"R#1","requesterNSA":"r1","providerNSA":"p1","capacity":600,"startTime":100,"endTime":200,"sourceSTP":"A","destSTP":"B","connectionId":"P#1"}
-{"kind":"reserveCommit","correlationId":"R#2","requesterNSA":"r1","providerNSA":"p1","connectionId":"P#1"}
-"#,
-        r#"{"errorId":"PAYLOAD","fault":"Unbuilt","kind":"error","line":6}
-{"errorId":"PAYLOAD","fault":"Unbuilt","kind":"error","line":7}
-{"errorId":"PAYLOAD","fault":"NotJson","kind":"error","line":8}
-{"errorId":"PAYLOAD","fault":"Unbuilt","kind":"error","line":9}
-{"errorId":"PAYLOAD","fault":"Unbuilt","kind":"error","line":10}
 "#,
     ),
 ];
