@@ -5,7 +5,7 @@ use Rattle.std.specs.Str.{bytes_eq}
 use Rattle.std.proofs.lemmas.Bool.Decides.{nat_tests}
 use Rattle.nsi_base.specs.Digits.{number_of, ranged, are_digits, value_from}
 use Rattle.nsi_program.specs.declared.words.Command.{Command}
-use Rattle.nsi_program.specs.Words.{command_of, allowed, joined, parted, events_in, provide_with, check_with}
+use Rattle.nsi_program.specs.Words.{command_of, allowed, events_in, provide_with, check_with}
 
 ranged_few : (low high : ℕ) (digits : Bool) (n most : ℕ) → ranged low high digits n ≡ Some most → most ≤ high
 ranged_few low high digits n most e = grind (arith, nat_tests)

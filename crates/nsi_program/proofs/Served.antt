@@ -1,7 +1,6 @@
 -- What lines make of a provider that serves them.
-use Rattle.std.proofs.Common.{◌≡◌, ◌≤◌, ◌<◌, ◌+◌, ◌⊎◌, inl, inr, ℕ, suc, List, [], ◌∷◌, ◌++◌, length, map, leb, cond, Bool, true, false, Option, Some, None, Result, Ok, Err, refl, sym, ap, ◌∙◌, subst, append_assoc, append-nil, arith}
+use Rattle.std.proofs.Common.{◌≡◌, ◌+◌, ℕ, List, [], ◌∷◌, ◌++◌, length, map, Option, None, Ok, Err, refl, sym, ap, ◌∙◌, subst, append_assoc, append-nil, arith}
 use Rattle.std.specs.List.{concat, flat_map}
-use Rattle.std.proofs.lemmas.Bool.Decides.{nat_tests}
 use Rattle.std.proofs.lemmas.Grind.{flat_map-append}
 use Rattle.std.proofs.lemmas.List.{map-append}
 use Rattle.std.proofs.lemmas.List.Folds.{concat-append}
@@ -17,12 +16,11 @@ use Rattle.provider_agent.specs.State.{State}
 use Rattle.provider_agent.specs.Steps.{after, waiting_work}
 use Rattle.provider_agent.proofs.GoodAfter.{good_after}
 use Rattle.provider_agent.proofs.RunsSafe.{after_all_append}
-use Rattle.provider_run.specs.Works.{with_works}
 use Rattle.provider_run.proofs.Working.{taken_after}
 use Rattle.provider_run.proofs.WorkRuns.{run_append}
 use Rattle.nsi_program.specs.Hearing.{heard}
 use Rattle.nsi_program.specs.Lines.{as_line, lines_of_messages, payload, long_line}
-use Rattle.nsi_program.specs.Runs.{entries_of, run_of, Piece, piece_text, said, IsWoven}
+use Rattle.nsi_program.specs.Runs.{entries_of, run_of, piece_text, said, IsWoven}
 use Rattle.nsi_program.specs.declared.hearing.Heard.{Heard}
 use Rattle.nsi_program.specs.declared.status.Status.{Status}
 

@@ -1,5 +1,5 @@
 -- How a provider that serves lines goes on.
-use Rattle.std.proofs.Common.{◌≡◌, ◌≤◌, ◌<◌, ◌+◌, ◌⊎◌, inl, inr, ℕ, suc, List, [], ◌∷◌, ◌++◌, length, drop, leb, ltb, eqb, cond, Bool, true, false, Option, Some, None, Result, Ok, Err, refl, sym, ap, ◌∙◌, subst, append-nil, arith}
+use Rattle.std.proofs.Common.{◌≡◌, ◌≤◌, ◌<◌, ◌+◌, inl, inr, ℕ, List, [], ◌∷◌, length, leb, eqb, cond, Bool, true, false, Option, Some, None, Result, Ok, Err, refl, ap, ◌∙◌, subst, arith}
 use Rattle.std.specs.Prelude.{nat_eq, codes}
 use Rattle.std.specs.List.{starts_with}
 use Rattle.std.proofs.lemmas.Bool.Decides.{nat_tests}
@@ -10,9 +10,8 @@ use Rattle.json_fields.specs.declared.fault.LineFault.{LineFault}
 use Rattle.json_primitives.specs.Lines.{line_of}
 use Rattle.json_primitives.proofs.ReadRequests.{line_printable}
 use Rattle.stp_topology.specs.declared.network.Network.{Network}
-use Rattle.provider_agent.specs.Home.{Home, home_of, own_stp}
+use Rattle.provider_agent.specs.Home.{Home, home_of}
 use Rattle.provider_agent.specs.Runs.{after_all}
-use Rattle.provider_agent.specs.Safety.{IsRun}
 use Rattle.provider_agent.specs.Good.{IsGood}
 use Rattle.provider_agent.specs.State.{State, Stepped, blank, unchanged}
 use Rattle.provider_agent.specs.Steps.{after, after_if, may_take, is_seen, waiting_work}
@@ -23,7 +22,7 @@ use Rattle.provider_run.proofs.Working.{taken_after, first_state}
 use Rattle.provider_run.proofs.WorkRuns.{with_works_run}
 use Rattle.provider_run.proofs.Idle.{idle_after}
 use Rattle.nsi_program.specs.Hearing.{heard, read, requested, ticked, second_in, IsTimely, IsTimelyEntry}
-use Rattle.nsi_program.specs.Lines.{Served, answered, entered, serve, served, says, lines_of_messages, long_line}
+use Rattle.nsi_program.specs.Lines.{Served, answered, entered, says, lines_of_messages}
 use Rattle.nsi_program.specs.Runs.{entries_of, run_of, events_of, with_sync, IsSafeText, IsServed}
 use Rattle.nsi_program.specs.Runs.IsServed.{served_all, served_some}
 use Rattle.nsi_program.specs.Serving.{Serving, serving_of, points_at}

@@ -1,7 +1,6 @@
 -- The run that lines make of a provider, and the text of its messages.
-use Rattle.std.specs.Prelude.{◌≡◌, ◌≤◌, ◌<◌, ◌⊎◌, ℕ, ◌+◌, List, [], ◌∷◌, ◌++◌, map, length, drop, Option, Some, None, IfSome, Result, Ok, Err}
+use Rattle.std.specs.Prelude.{◌≡◌, ℕ, ◌+◌, List, [], ◌∷◌, ◌++◌, map, length, drop, Option, Some, None, Result, Ok, Err}
 use Rattle.std.specs.List.{concat, flat_map}
-use Rattle.line_reader.specs.Given.{Given, given_of}
 use Rattle.nsi_primitive.specs.declared.entry.Entry.{Entry}
 use Rattle.nsi_primitive.specs.declared.message.Message.{Message}
 use Rattle.json_fields.specs.declared.fault.LineFault.{LineFault}

@@ -1,7 +1,6 @@
 //! What a line behind the topology says.
 
 ghost use Rattle.std.specs.Prelude.{◌≡◌, IfOk};
-ghost use Rattle.nsi_primitive.specs.Messages.{is_request};
 ghost use Rattle.nsi_primitive.specs.Printable.{IsPrintable};
 ghost use Rattle.provider_agent.specs.State.{State};
 ghost use Rattle.nsi_program.specs.Hearing.{requested, second_in, ticked, heard, IsTimely};

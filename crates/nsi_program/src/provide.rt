@@ -1,8 +1,6 @@
 //! The command `provide`: a topology, and then one line after another.
 
-ghost use Rattle.std.specs.Prelude.{◌≡◌, ◌<◌, ◌≤◌, ◌+◌, ◌++◌, ◌∷◌, [], ℕ, List, All, IfOk, IfSome, IsErrOf, OnOk, OnErr, Some, codes, decimal, map, take, true, nat_eq, option_map};
-ghost use Rattle.std.specs.List.{concat};
-ghost use Rattle.stp_topology.specs.Faults.{fault_name as topology_fault_name};
+ghost use Rattle.std.specs.Prelude.{◌≡◌, ◌<◌, IfOk, Some, take, option_map};
 ghost use Rattle.nsi_program.specs.Lines.{as_line, serve, long_line};
 ghost use Rattle.stp_topology.specs.Network.{first_provider};
 ghost use Rattle.stp_topology.specs.Text.{of_line};

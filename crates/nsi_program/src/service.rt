@@ -1,6 +1,6 @@
 //! A provider that serves the lines behind a topology.
 
-ghost use Rattle.std.specs.Prelude.{◌≡◌, ◌≤◌, ◌<◌, length, All, IfOk, option_map};
+ghost use Rattle.std.specs.Prelude.{◌≡◌, ◌<◌, length, All, IfOk, option_map};
 ghost use Rattle.nsi_primitive.specs.Printable.{IsPrintable};
 ghost use Rattle.stp_topology.specs.Sound.{IsProvider};
 ghost use Rattle.nsi_program.specs.Hearing.{IsTimely, IsTimelyEntry};
