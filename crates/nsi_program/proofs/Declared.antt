@@ -128,12 +128,14 @@ all_given bytes few = ap (λ t. cond t (record { lines = lines_of bytes; long = 
 pub is_complete : (most : ℕ) (content left new : Option (List ℕ)) (status : Status) → most ≤ 2000000 → IsKept (promise_of most content left) status new → IsComplete most content left status
 is_complete most None left new status limited k = tt
 is_complete most (Some c) None new status limited k = tt
-is_complete most (Some c) (Some bytes) new status limited k = λ t n provider few h f.
-    let e = ap (λ (g : Given). outcome g.long 1 (begun most) g.lines) (all_given bytes few) ∙ opened_first false most (lines_of bytes) t n provider h f in
-    let by = ends_by (n + 1) (serving_of t provider most) (drop n (lines_of bytes)) (well_at_first t provider most limited) in
-    let P : Status → Type 0 = λ x. EndsBy most (events_of (home_of t provider) (own_stp t provider) blank (drop n (lines_of bytes))) x in
-    let none : 0 + 0 + events_of (home_of t provider) (own_stp t provider) blank (drop n (lines_of bytes)) ≡ events_of (home_of t provider) (own_stp t provider) blank (drop n (lines_of bytes)) = omega arith in
-    subst P (sym (k.0 ∙ ap (λ (x : Status × List ℕ). x.0) e)) (subst (λ k. EndsBy most k (outcome false (n + 1) (Phase.Serving (serving_of t provider most)) (drop n (lines_of bytes))).0) none by)
+is_complete most (Some c) (Some bytes) new status limited k = λ t n provider h f.
+    let given : Given = given_of greatest_input bytes in
+    let events : ℕ = events_of (home_of t provider) (own_stp t provider) blank (drop n given.lines) in
+    let e = opened_first given.long most given.lines t n provider h f in
+    let by = ends_by given.long (n + 1) (serving_of t provider most) (drop n given.lines) (well_at_first t provider most limited) in
+    let none : 0 + 0 + events ≡ events = omega arith in
+    subst (EndsBy given.long most events) (sym (k.0 ∙ ap (λ (x : Status × List ℕ). x.0) e))
+    (subst (λ m. EndsBy given.long most m (outcome given.long (n + 1) (Phase.Serving (serving_of t provider most)) (drop n given.lines)).0) none by)
 
 pub is_safe : (most : ℕ) (content left new : Option (List ℕ)) (status : Status) → most ≤ 2000000 → IsKept (promise_of most content left) status new → IsSafe content left status new
 is_safe most None left new status few k = tt

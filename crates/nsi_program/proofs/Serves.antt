@@ -22,7 +22,7 @@ use Rattle.provider_run.proofs.Working.{taken_after, first_state}
 use Rattle.provider_run.proofs.WorkRuns.{with_works_run}
 use Rattle.provider_run.proofs.Idle.{idle_after}
 use Rattle.nsi_program.specs.Hearing.{heard, read, requested, ticked, second_in, IsTimely, IsTimelyEntry}
-use Rattle.nsi_program.specs.Lines.{Served, answered, entered, says, lines_of_messages}
+use Rattle.nsi_program.specs.Lines.{Served, answered, entered, lines_of_messages}
 use Rattle.nsi_program.specs.Runs.{entries_of, run_of, events_of, with_sync, IsSafeText, IsServed}
 use Rattle.nsi_program.specs.Runs.IsServed.{served_all, served_some}
 use Rattle.nsi_program.specs.Serving.{Serving, serving_of, points_at}
@@ -202,10 +202,12 @@ events_at s = s.standing.state.taken + s.syncs
 abbrev after_line : Home → (List ℕ → Option ℕ) → State → Heard → List (List ℕ) → ℕ
 after_line home stp_of s h lines = with_sync (entries_of home stp_of s h) + events_of home stp_of (after_all home stp_of s (entries_of home stp_of s h)).state lines
 
-pub ends_by : (number : ℕ) (s : Serving) (lines : List (List ℕ)) → IsServingWell s → EndsBy s.most (events_at s + events_of s.standing.home (points_at s) s.standing.state lines) (outcome false number (Phase.Serving s) lines).0
+pub ends_by : (long : Bool) (number : ℕ) (s : Serving) (lines : List (List ℕ)) → IsServingWell s
+    → EndsBy long s.most (events_at s + events_of s.standing.home (points_at s) s.standing.state lines) (outcome long number (Phase.Serving s) lines).0
 unfolding outcome move_of events_of after_all entered
-ends_by number s [] well = inl (omega (arith, well.few), refl)
-ends_by number s (line ∷ lines) well = by_heard (heard st line) (timely st line) (λ t w. ends_by (number + 1) t lines w)
+ends_by true number s [] well = inr (inl refl, refl)
+ends_by false number s [] well = inl (refl, omega (arith, well.few), refl)
+ends_by long number s (line ∷ lines) well = by_heard (heard st line) (timely st line) (λ t w. ends_by long (number + 1) t lines w)
   where
     home : Home
     home = s.standing.home
@@ -217,7 +219,7 @@ ends_by number s (line ∷ lines) well = by_heard (heard st line) (timely st lin
     st = s.standing.state
 
     Onward : Type 0
-    Onward = (t : Serving) → IsServingWell t → EndsBy t.most (events_at t + events_of t.standing.home (points_at t) t.standing.state lines) (outcome false (number + 1) (Phase.Serving t) lines).0
+    Onward = (t : Serving) → IsServingWell t → EndsBy long t.most (events_at t + events_of t.standing.home (points_at t) t.standing.state lines) (outcome long (number + 1) (Phase.Serving t) lines).0
 
     plus_none : (a b : ℕ) → a + b ≡ a + (0 + b)
     plus_none a b = omega arith
@@ -229,17 +231,17 @@ ends_by number s (line ∷ lines) well = by_heard (heard st line) (timely st lin
     sums now taken k syncs rest e = omega (arith, e)
 
     by_entry : (e : Entry) → IsTimelyEntry st e → Onward → (b : Bool) → leb ((run_with s e).state.taken + s.syncs + 1) s.most ≡ b
-        → EndsBy s.most (events_at s + after_line home stp_of st (Heard.Entry e) lines) (comes_of false number lines (served_if b s e)).0
+        → EndsBy long s.most (events_at s + after_line home stp_of st (Heard.Entry e) lines) (comes_of long number lines (served_if b s e)).0
     by_entry e t next true fits =
         let same = sums (run_with s e).state.taken st.taken (length (with_works home stp_of st e)) s.syncs (events_of home stp_of (run_with s e).state lines) (taken_with s e well t) in
-        subst (λ n. EndsBy s.most n (comes_of false number lines (served_if true s e)).0) same (next (go_with s e) (well_with s e well t fits))
+        subst (λ n. EndsBy long s.most n (comes_of long number lines (served_if true s e)).0) same (next (go_with s e) (well_with s e well t fits))
     by_entry e t next false fits =
         let gt : s.most < (run_with s e).state.taken + s.syncs + 1 = fits_not (run_with s e).state.taken s.syncs s.most fits in
-        inr (omega (arith, gt, taken_with s e well t), refl)
+        inr (inr (omega (arith, gt, taken_with s e well t)), refl)
 
-    by_heard : (h : Heard) → IsTimely st h → Onward → EndsBy s.most (events_at s + after_line home stp_of st h lines) (comes_of false number lines (answered h s number)).0
-    by_heard Heard.Nothing t next = subst (λ n. EndsBy s.most n (outcome false (number + 1) (Phase.Serving s) lines).0) (plus_none (events_at s) _) (next s well)
-    by_heard (Heard.Fault fault) t next = subst (λ n. EndsBy s.most n (outcome false (number + 1) (Phase.Serving s) lines).0) (plus_none (events_at s) _) (next s well)
+    by_heard : (h : Heard) → IsTimely st h → Onward → EndsBy long s.most (events_at s + after_line home stp_of st h lines) (comes_of long number lines (answered h s number)).0
+    by_heard Heard.Nothing t next = subst (λ n. EndsBy long s.most n (outcome long (number + 1) (Phase.Serving s) lines).0) (plus_none (events_at s) _) (next s well)
+    by_heard (Heard.Fault fault) t next = subst (λ n. EndsBy long s.most n (outcome long (number + 1) (Phase.Serving s) lines).0) (plus_none (events_at s) _) (next s well)
     by_heard (Heard.Entry entry) t next = by_entry entry t next (leb ((run_with s entry).state.taken + s.syncs + 1) s.most) refl
 
 ---- From the first line on

@@ -98,15 +98,15 @@ is_told Status.ReadFault = false
 is_told Status.WriteFault = false
 is_told _ = true
 
--- done where so many events are no more than there may be, and else too long
-abbrev pub EndsBy : ℕ → ℕ → Status → Type 0
-EndsBy most events status = ((events ≤ most) × (status ≡ Status.Done)) ⊎ ((most < events) × (status ≡ Status.Long))
+-- done where the input is no longer than is taken and makes no more events than there may be, and else too long
+abbrev pub EndsBy : (long : Bool) → ℕ → ℕ → Status → Type 0
+EndsBy long most events status = ((long ≡ false) × (events ≤ most) × (status ≡ Status.Done)) ⊎ (((long ≡ true) ⊎ (most < events)) × (status ≡ Status.Long))
 
--- With a topology that has a provider, and an input within the size, the command is done exactly where its lines make no more events than there may be.
+-- With a topology that has a provider, the command is too long exactly where the input passes its size, or its lines make more events than there may be, and else done.
 abbrev pub IsComplete : ℕ → Option (List ℕ) → Option (List ℕ) → Status → Type 0
 IsComplete most content left status =
-    IfSome content (λ _. IfSome left (λ bytes. (t : Network) (n provider : ℕ) → length bytes ≤ greatest_input → read_lines nothing 0 (lines_of bytes) ≡ Ok (t, n) → first_provider t ≡ Some provider
-    → EndsBy most (events_of (home_of t provider) (own_stp t provider) blank (drop n (lines_of bytes))) status))
+    IfSome content (λ _. IfSome left (λ bytes. (t : Network) (n provider : ℕ) → read_lines nothing 0 (given_of greatest_input bytes).lines ≡ Ok (t, n) → first_provider t ≡ Some provider
+    → EndsBy (given_of greatest_input bytes).long most (events_of (home_of t provider) (own_stp t provider) blank (drop n (given_of greatest_input bytes).lines)) status))
 
 -- What `provide` writes is the text of a safe run.
 abbrev pub IsSafe : Option (List ℕ) → Option (List ℕ) → Status → Option (List ℕ) → Type 0
