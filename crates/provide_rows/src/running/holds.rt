@@ -4,8 +4,8 @@ use super::{in_full, is_answered, provide};
 use std::alloc::{AllocError, Global};
 use std::test::Fail;
 
-/// What happens, the lines, and what is written.
-const HOLDS: [(&str, &str, &str); 17] = [
+/// Holds of one connection: what happens, the lines, and what is written.
+const HOLDS: [(&str, &str, &str); 5] = [
     (
         "A hold ends at its second. The commit comes too late, and the abort gives back.",
         r#"{"kind":"reserve","correlationId":"R#1","requesterNSA":"r1","providerNSA":"p1","capacity":600,"startTime":100,"endTime":200,"sourceSTP":"A","destSTP":"B"}
@@ -95,6 +95,19 @@ tick 60
 {"connectionId":"P#2","correlationId":"R#4","errorId":"INVALID_TRANSITION","kind":"error","nsaId":"p1","providerNSA":"p1","requesterNSA":"r1"}
 "#,
     ),
+];
+
+#[test]
+fn holds_end_in_one_way(rt: HostRuntime) -> Result<(), Fail> {
+    for (what, lines, written) in &HOLDS {
+        let is_right = is_answered(rt.alloc(), lines, written)?;
+        assert!(rt; is_right, "{what}");
+    }
+    Ok(())
+}
+
+/// Several holds, aborts and later commits.
+const LATER: [(&str, &str, &str); 6] = [
     (
         "Holds that are over by one tick end in the order of their reserves, and a later one ends later.",
         r#"{"kind":"reserve","correlationId":"R#1","requesterNSA":"r1","providerNSA":"p1","capacity":100,"startTime":100,"endTime":200,"sourceSTP":"A","destSTP":"B"}
@@ -190,6 +203,19 @@ tick 59
 {"connectionId":"P#1","correlationId":"R#4","kind":"reserveCommitConfirmed","providerNSA":"p1","requesterNSA":"r1"}
 "#,
     ),
+];
+
+#[test]
+fn holds_end_and_are_given_back(rt: HostRuntime) -> Result<(), Fail> {
+    for (what, lines, written) in &LATER {
+        let is_right = is_answered(rt.alloc(), lines, written)?;
+        assert!(rt; is_right, "{what}");
+    }
+    Ok(())
+}
+
+/// Other requesters, other providers, and requests that are refused.
+const OTHERS: [(&str, &str, &str); 6] = [
     (
         "Two requesters choose the same correlationIds, and each commits what is its own.",
         r#"{"kind":"reserve","correlationId":"R#1","requesterNSA":"r1","providerNSA":"p1","capacity":600,"startTime":100,"endTime":200,"sourceSTP":"A","destSTP":"B"}
@@ -289,8 +315,8 @@ tick 20
 ];
 
 #[test]
-fn holds_end_in_one_way(rt: HostRuntime) -> Result<(), Fail> {
-    for (what, lines, written) in &HOLDS {
+fn requests_find_their_connection(rt: HostRuntime) -> Result<(), Fail> {
+    for (what, lines, written) in &OTHERS {
         let is_right = is_answered(rt.alloc(), lines, written)?;
         assert!(rt; is_right, "{what}");
     }

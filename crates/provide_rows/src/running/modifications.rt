@@ -3,8 +3,8 @@
 use super::is_answered;
 use std::test::Fail;
 
-/// What happens, the lines, and what is written.
-const MODIFICATIONS: [(&str, &str, &str); 17] = [
+/// What a modification claims: what happens, the lines, and what is written.
+const HELD: [(&str, &str, &str); 4] = [
     (
         "While a modification is held, each second has the larger of the two bandwidths.",
         r#"{"kind":"reserve","correlationId":"R#1","requesterNSA":"r1","providerNSA":"p1","capacity":600,"startTime":100,"endTime":200,"sourceSTP":"A","destSTP":"B"}
@@ -108,6 +108,19 @@ tick 70
 {"capacity":1000,"connectionId":"P#1","correlationId":"R#8","errorId":"BANDWIDTH","kind":"reserveFailed","load":1000,"nsaId":"p1","providerNSA":"p1","requesterNSA":"r1","second":200,"stp":"A"}
 "#,
     ),
+];
+
+#[test]
+fn modifications_are_held_and_committed(rt: HostRuntime) -> Result<(), Fail> {
+    for (what, lines, written) in &HELD {
+        let is_right = is_answered(rt.alloc(), lines, written)?;
+        assert!(rt; is_right, "{what}");
+    }
+    Ok(())
+}
+
+/// Which versions are taken.
+const VERSIONS: [(&str, &str, &str); 4] = [
     (
         "A version that isn't larger than the last committed, and none behind the last version.",
         r#"{"kind":"reserve","correlationId":"R#1","requesterNSA":"r1","providerNSA":"p1","capacity":600,"startTime":100,"endTime":200,"sourceSTP":"A","destSTP":"B"}
@@ -191,6 +204,19 @@ tick 70
 {"capacity":300,"connectionId":"P#1","correlationId":"R#7","destSTP":"B","directionality":"Bidirectional","endTime":200,"kind":"reserveConfirmed","providerNSA":"p1","requesterNSA":"r1","sourceSTP":"A","startTime":100,"version":2}
 "#,
     ),
+];
+
+#[test]
+fn versions_rise(rt: HostRuntime) -> Result<(), Fail> {
+    for (what, lines, written) in &VERSIONS {
+        let is_right = is_answered(rt.alloc(), lines, written)?;
+        assert!(rt; is_right, "{what}");
+    }
+    Ok(())
+}
+
+/// What a modification lacks.
+const BANDWIDTH: [(&str, &str, &str); 3] = [
     (
         "A modification doesn't stand in its own way.",
         r#"{"kind":"reserve","correlationId":"R#1","requesterNSA":"r1","providerNSA":"p1","capacity":600,"startTime":100,"endTime":200,"sourceSTP":"A","destSTP":"B"}
@@ -266,6 +292,19 @@ tick 70
 {"capacity":700,"connectionId":"P#2","correlationId":"R#9","destSTP":"B","directionality":"Bidirectional","endTime":200,"kind":"reserveConfirmed","providerNSA":"p1","requesterNSA":"r1","sourceSTP":"A","startTime":100,"version":1}
 "#,
     ),
+];
+
+#[test]
+fn modifications_find_their_bandwidth(rt: HostRuntime) -> Result<(), Fail> {
+    for (what, lines, written) in &BANDWIDTH {
+        let is_right = is_answered(rt.alloc(), lines, written)?;
+        assert!(rt; is_right, "{what}");
+    }
+    Ok(())
+}
+
+/// What a modification leaves as it is, and why it is refused.
+const KEPT: [(&str, &str, &str); 6] = [
     (
         "A modification keeps the points and the direction, which it need not name.",
         r#"{"kind":"reserve","correlationId":"R#1","requesterNSA":"r1","providerNSA":"p1","capacity":600,"startTime":100,"endTime":200,"sourceSTP":"A","destSTP":"B"}
@@ -374,8 +413,8 @@ tick 300
 ];
 
 #[test]
-fn modifications_are_answered(rt: HostRuntime) -> Result<(), Fail> {
-    for (what, lines, written) in &MODIFICATIONS {
+fn modifications_keep_the_rest(rt: HostRuntime) -> Result<(), Fail> {
+    for (what, lines, written) in &KEPT {
         let is_right = is_answered(rt.alloc(), lines, written)?;
         assert!(rt; is_right, "{what}");
     }
