@@ -5,11 +5,13 @@ ghost use Rattle.std.specs.Prelude.{◌≡◌};
 /// A key that a line of some kind may have (GFD.237, the elements of the same names).
 #[derive(Clone, Copy, Debug, PartialEq, Eq)]
 pub enum Key {
+    Active,
     Capacity,
     Child,
     ChildErrorId,
     ConnectionId,
     CorrelationId,
+    DeliveryCorrelationId,
     Description,
     DestStp,
     Direction,
@@ -17,6 +19,7 @@ pub enum Key {
     EndTime,
     Ero,
     ErrorId,
+    Event,
     GlobalReservationId,
     Kind,
     Load,
@@ -34,6 +37,7 @@ pub enum Key {
     TimeStamp,
     TimeoutValue,
     Version,
+    VersionConsistent,
 }
 
 impl Key {
@@ -45,11 +49,13 @@ impl Key {
         ensures { result.now ≡ name_of self }
     {
         match self {
+            Key::Active => "active",
             Key::Capacity => "capacity",
             Key::Child => "child",
             Key::ChildErrorId => "childErrorId",
             Key::ConnectionId => "connectionId",
             Key::CorrelationId => "correlationId",
+            Key::DeliveryCorrelationId => "deliveryCorrelationId",
             Key::Description => "description",
             Key::DestStp => "destSTP",
             Key::Direction => "direction",
@@ -57,6 +63,7 @@ impl Key {
             Key::EndTime => "endTime",
             Key::Ero => "ero",
             Key::ErrorId => "errorId",
+            Key::Event => "event",
             Key::GlobalReservationId => "globalReservationId",
             Key::Kind => "kind",
             Key::Load => "load",
@@ -74,6 +81,7 @@ impl Key {
             Key::TimeStamp => "timeStamp",
             Key::TimeoutValue => "timeoutValue",
             Key::Version => "version",
+            Key::VersionConsistent => "versionConsistent",
         }
     }
 

@@ -17,7 +17,7 @@ use Rattle.json_fields.specs.Objects.{digits, words, flag, id_scalar, directiona
 use Rattle.json_fields.specs.declared.key.Key.{Key}
 use Rattle.json_fields.proofs.Members.{field_at, is_absent, are_apart, get_member-with_fields}
 use Rattle.json_fields.proofs.Again.{required_again, optional_again, absent_again, text_again, flag_again, directionality_again}
-use Rattle.json_primitives.specs.Requests.{point_from, is_one_point, reserve_from, connected_from, commit_from, abort_from}
+use Rattle.json_primitives.specs.Requests.{point_from, is_one_point, reserve_from, connected_from, commit_from, abort_from, provision_from, release_from, terminate_from}
 use Rattle.json_primitives.specs.Lines.{message_from, with_kind}
 use Rattle.json_primitives.specs.Spelling.{header_fields, connection_fields, fields_of, data_of}
 use Rattle.json_primitives.specs.Valid.{IsValidHeader, IsValidReserve, IsValidBody, IsValid}
@@ -92,7 +92,7 @@ connected_again kind h connection vh v =
     rw (about, correlation, provider, requester) refl
 
 body_again : (h : Header) (b : Body) → is_request b ≡ true → IsValidHeader h → IsValidBody b → IsPrintableBody b → message_from (data_of (record { header = h; body = b })) ≡ Ok (record { header = h; body = b })
-unfolding data_of name_of field_at kind_name kind_named first_named commit_from abort_from
+unfolding data_of name_of field_at kind_name kind_named first_named commit_from abort_from provision_from release_from terminate_from
 body_again h (Body.Reserve r) asks vh v p = ap (with_kind (data_of (reserve_of h r))) (at h r Key.Kind) ∙ reserve_again h r vh v p
 body_again h (Body.ReserveCommit c) asks vh v p =
     let d = connected_data Kind.ReserveCommit h c in
@@ -100,14 +100,29 @@ body_again h (Body.ReserveCommit c) asks vh v p =
 body_again h (Body.ReserveAbort c) asks vh v p =
     let d = connected_data Kind.ReserveAbort h c in
     ap (with_kind d) (connected_at Kind.ReserveAbort h c Key.Kind) ∙ rw (connected_again Kind.ReserveAbort h c vh v) refl
+body_again h (Body.Provision c) asks vh v p =
+    let d = connected_data Kind.Provision h c in
+    ap (with_kind d) (connected_at Kind.Provision h c Key.Kind) ∙ rw (connected_again Kind.Provision h c vh v) refl
+body_again h (Body.Release c) asks vh v p =
+    let d = connected_data Kind.Release h c in
+    ap (with_kind d) (connected_at Kind.Release h c Key.Kind) ∙ rw (connected_again Kind.Release h c vh v) refl
+body_again h (Body.Terminate c) asks vh v p =
+    let d = connected_data Kind.Terminate h c in
+    ap (with_kind d) (connected_at Kind.Terminate h c Key.Kind) ∙ rw (connected_again Kind.Terminate h c vh v) refl
 body_again h (Body.ReserveResponse c) asks vh v p = absurd (false≢true asks)
 body_again h (Body.ReserveConfirmed r) asks vh v p = absurd (false≢true asks)
 body_again h (Body.ReserveFailed c e) asks vh v p = absurd (false≢true asks)
 body_again h (Body.ReserveCommitConfirmed c) asks vh v p = absurd (false≢true asks)
 body_again h (Body.ReserveCommitFailed c e) asks vh v p = absurd (false≢true asks)
 body_again h (Body.ReserveAbortConfirmed c) asks vh v p = absurd (false≢true asks)
+body_again h (Body.ProvisionConfirmed c) asks vh v p = absurd (false≢true asks)
+body_again h (Body.ReleaseConfirmed c) asks vh v p = absurd (false≢true asks)
+body_again h (Body.TerminateConfirmed c) asks vh v p = absurd (false≢true asks)
 body_again h (Body.Error c e) asks vh v p = absurd (false≢true asks)
 body_again h (Body.ReserveTimeout t) asks vh v p = absurd (false≢true asks)
+body_again h (Body.ErrorEvent n) asks vh v p = absurd (false≢true asks)
+body_again h (Body.DataPlaneStateChange n) asks vh v p = absurd (false≢true asks)
+body_again h (Body.MessageDeliveryTimeout t) asks vh v p = absurd (false≢true asks)
 
 pub message_again : (m : Message) → IsRequest m → IsValid m → IsPrintable m → message_from (data_of m) ≡ Ok m
 message_again m asks v p = body_again m.header m.body asks v.0 v.1 p

@@ -17,8 +17,8 @@ use Rattle.json_fields.specs.Faults.{◌>>=◌}
 use Rattle.json_fields.specs.Fields.{json_of, required, optional, allowed, wrapped, formed, kept_if, id_from, name_from, text_from, capacity_from, second_from, version_from, flag_from, directionality_from, empty_list_from}
 use Rattle.json_fields.specs.declared.key.Key.{Key}
 use Rattle.json_fields.specs.declared.fault.LineFault.{LineFault}
-use Rattle.json_primitives.specs.Requests.{point_from, is_one_point, reserve_from, connected_from, commit_from, abort_from}
-use Rattle.json_primitives.specs.Lines.{of_kind, of_named, of_text, with_kind, message_of_json, object_of, line_of}
+use Rattle.json_primitives.specs.Requests.{point_from, is_one_point, reserve_from, connected_from, commit_from, abort_from, provision_from, release_from, terminate_from}
+use Rattle.json_primitives.specs.Lines.{of_kind, of_named, of_text, with_kind, message_from, kind_in, is_for_later, taken_of_json, taken_of, line_of}
 
 ---- One step after another
 
@@ -93,6 +93,9 @@ pub record IsOfEachRequest (P : Message → Type 0) : Type 0 where
   pub reserve : (h : Header) (r : ReserveRequest) → IsPrintableReserve r → P (record { header = h; body = Body.Reserve r })
   pub commit : (h : Header) (connection : ℕ) → P (record { header = h; body = Body.ReserveCommit connection })
   pub abort : (h : Header) (connection : ℕ) → P (record { header = h; body = Body.ReserveAbort connection })
+  pub provision : (h : Header) (connection : ℕ) → P (record { header = h; body = Body.Provision connection })
+  pub release : (h : Header) (connection : ℕ) → P (record { header = h; body = Body.Release connection })
+  pub terminate : (h : Header) (connection : ℕ) → P (record { header = h; body = Body.Terminate connection })
 
 reserve_read : (P : Message → Type 0) → IsOfEachRequest P → (d : Data) → IfOk (reserve_from d) P
 unfolding reserve_from
@@ -117,37 +120,45 @@ reserve_read P each d =
 
 ---- Lines
 
+-- what holds of each request that has a spelling holds of what is read from an object
+message_read : (P : Message → Type 0) → IsOfEachRequest P → (d : Data) → IfOk (message_from d) P
+unfolding commit_from abort_from provision_from release_from terminate_from
+message_read P each d = if_found P (is_some (as_object d)) LineFault.NotObject (with_kind d (get (name_of Key.Kind) d)) (by_member (get (name_of Key.Kind) d))
+  where
+    by_kind : (kind : Kind) → IfOk (of_kind d kind) P
+    by_kind Kind.Reserve = reserve_read P each d
+    by_kind Kind.ReserveCommit = then_any P (connected_from d) _ (λ asked. each.commit asked.1 asked.0)
+    by_kind Kind.ReserveAbort = then_any P (connected_from d) _ (λ asked. each.abort asked.1 asked.0)
+    by_kind Kind.Provision = then_any P (connected_from d) _ (λ asked. each.provision asked.1 asked.0)
+    by_kind Kind.Release = then_any P (connected_from d) _ (λ asked. each.release asked.1 asked.0)
+    by_kind Kind.Terminate = then_any P (connected_from d) _ (λ asked. each.terminate asked.1 asked.0)
+    by_kind _ = tt
+
+    by_named : (name : List ℕ) (o : Option Kind) → IfOk (of_named d name o) P
+    by_named name (Some kind) = by_kind kind
+    by_named name None = or_fault P (bytes_eq name (codes "ack")) LineFault.Unbuilt (Err (LineFault.Bad Key.Kind)) (λ e. tt)
+
+    by_text : (o : Option (List ℕ)) → IfOk (of_text d o) P
+    by_text None = tt
+    by_text (Some name) = by_named name (kind_named name)
+
+    by_member : (o : Option Data) → IfOk (with_kind d o) P
+    by_member None = tt
+    by_member (Some kind) = by_text (as_str kind)
+
 -- what holds of each request that has a spelling holds of what is read from a line
 pub line_read : (P : Message → Type 0) → IsOfEachRequest P → (bytes : List ℕ) → IfOk (line_of bytes) P
-unfolding object_of commit_from abort_from
+unfolding taken_of
 line_read P each bytes = or_fault P (nat_lt 65536 (length bytes)) LineFault.TooLong _ (λ e. by_json (json_of bytes))
   where
-    by_kind : (d : Data) (kind : Kind) → IfOk (of_kind d kind) P
-    by_kind d Kind.Reserve = reserve_read P each d
-    by_kind d Kind.ReserveCommit = then_any P (connected_from d) _ (λ asked. each.commit asked.1 asked.0)
-    by_kind d Kind.ReserveAbort = then_any P (connected_from d) _ (λ asked. each.abort asked.1 asked.0)
-    by_kind d _ = tt
-
-    by_named : (d : Data) (name : List ℕ) (o : Option Kind) → IfOk (of_named d name o) P
-    by_named d name (Some kind) = by_kind d kind
-    by_named d name None = or_fault P (bytes_eq name (codes "ack")) LineFault.Unbuilt (Err (LineFault.Bad Key.Kind)) (λ e. tt)
-
-    by_text : (d : Data) (o : Option (List ℕ)) → IfOk (of_text d o) P
-    by_text d None = tt
-    by_text d (Some name) = by_named d name (kind_named name)
-
-    by_member : (d : Data) (o : Option Data) → IfOk (with_kind d o) P
-    by_member d None = tt
-    by_member d (Some kind) = by_text d (as_str kind)
-
-    by_json : (o : Option Data) → IfOk (message_of_json o) P
+    by_json : (o : Option Data) → IfOk (taken_of_json o) P
     by_json None = tt
-    by_json (Some d) = if_found P (is_some (as_object d)) LineFault.NotObject (with_kind d (get (name_of Key.Kind) d)) (by_member d (get (name_of Key.Kind) d))
+    by_json (Some d) = or_fault P (is_for_later (kind_in d)) LineFault.Unbuilt (message_from d) (λ e. message_read P each d)
 
 -- What is read from a line has a spelling,
 pub line_printable : (bytes : List ℕ) (m : Message) → line_of bytes ≡ Ok m → IsPrintable m
-line_printable bytes m e = subst (λ r. IfOk r IsPrintable) e (line_read IsPrintable (record { reserve = λ h r p. p; commit = λ h c. tt; abort = λ h c. tt }) bytes)
+line_printable bytes m e = subst (λ r. IfOk r IsPrintable) e (line_read IsPrintable (record { reserve = λ h r p. p; commit = λ h c. tt; abort = λ h c. tt; provision = λ h c. tt; release = λ h c. tt; terminate = λ h c. tt }) bytes)
 
 -- and is a request.
 pub line_request : (bytes : List ℕ) (m : Message) → line_of bytes ≡ Ok m → IsRequest m
-line_request bytes m e = subst (λ r. IfOk r IsRequest) e (line_read IsRequest (record { reserve = λ h r p. refl; commit = λ h c. refl; abort = λ h c. refl }) bytes)
+line_request bytes m e = subst (λ r. IfOk r IsRequest) e (line_read IsRequest (record { reserve = λ h r p. refl; commit = λ h c. refl; abort = λ h c. refl; provision = λ h c. refl; release = λ h c. refl; terminate = λ h c. refl }) bytes)

@@ -1,5 +1,5 @@
 -- Which message a line is.
-use Rattle.std.specs.Prelude.{ℕ, List, codes, length, nat_lt, is_some, if◌then◌else◌, Option, Some, None, Result, Err}
+use Rattle.std.specs.Prelude.{ℕ, List, codes, length, nat_lt, Bool, true, false, is_some, if◌then◌else◌, Option, Some, None, option_and_then, Result, Err}
 use Rattle.std.specs.Str.{bytes_eq}
 use Rattle.serde_json.specs.Data.{Data}
 use Rattle.serde_json.specs.Find.{get, as_str, as_object}
@@ -10,13 +10,16 @@ use Rattle.json_fields.specs.Keys.{name_of}
 use Rattle.json_fields.specs.Fields.{json_of}
 use Rattle.json_fields.specs.declared.key.Key.{Key}
 use Rattle.json_fields.specs.declared.fault.LineFault.{LineFault}
-use Rattle.json_primitives.specs.Requests.{reserve_from, commit_from, abort_from}
+use Rattle.json_primitives.specs.Requests.{reserve_from, commit_from, abort_from, provision_from, release_from, terminate_from}
 
--- by its kind; three are read
+-- by its kind; six are read
 abbrev pub of_kind : Data → Kind → Result Message LineFault
 of_kind d Kind.Reserve = reserve_from d
 of_kind d Kind.ReserveCommit = commit_from d
 of_kind d Kind.ReserveAbort = abort_from d
+of_kind d Kind.Provision = provision_from d
+of_kind d Kind.Release = release_from d
+of_kind d Kind.Terminate = terminate_from d
 of_kind d _ = Err LineFault.Unbuilt
 
 -- the kinds of lines are those of messages, and `ack`
@@ -49,6 +52,29 @@ message_of_json (Some d) = message_from d
 unfoldable pub object_of : List ℕ → Result Message LineFault
 object_of bytes = message_of_json (json_of bytes)
 
+-- the kind that an object names
+abbrev pub kind_in : Data → Option Kind
+kind_in d = option_and_then kind_named (option_and_then as_str (get (name_of Key.Kind) d))
+
+-- the requests that are read, and that no provider takes yet
+abbrev pub is_for_later : Option Kind → Bool
+is_for_later (Some Kind.Provision) = true
+is_for_later (Some Kind.Release) = true
+is_for_later (Some Kind.Terminate) = true
+is_for_later _ = false
+
+-- the message that is taken; what is for later is refused before its other keys are looked at
+abbrev pub taken_from : Data → Result Message LineFault
+taken_from d = if is_for_later (kind_in d) then Err LineFault.Unbuilt else message_from d
+
+abbrev pub taken_of_json : Option Data → Result Message LineFault
+taken_of_json None = Err LineFault.NotJson
+taken_of_json (Some d) = taken_from d
+
+-- the message that is taken, of any length
+unfoldable pub taken_of : List ℕ → Result Message LineFault
+taken_of bytes = taken_of_json (json_of bytes)
+
 -- the same within the limit of a line
 abbrev pub line_of : List ℕ → Result Message LineFault
-line_of bytes = if nat_lt 65536 (length bytes) then Err LineFault.TooLong else object_of bytes
+line_of bytes = if nat_lt 65536 (length bytes) then Err LineFault.TooLong else taken_of bytes

@@ -66,3 +66,18 @@ unfoldable pub abort_from : Data → Result Message LineFault
 abort_from d = do
   asked ← connected_from d
   Ok (record { header = asked.1; body = Body.ReserveAbort asked.0 })
+
+unfoldable pub provision_from : Data → Result Message LineFault
+provision_from d = do
+  asked ← connected_from d
+  Ok (record { header = asked.1; body = Body.Provision asked.0 })
+
+unfoldable pub release_from : Data → Result Message LineFault
+release_from d = do
+  asked ← connected_from d
+  Ok (record { header = asked.1; body = Body.Release asked.0 })
+
+unfoldable pub terminate_from : Data → Result Message LineFault
+terminate_from d = do
+  asked ← connected_from d
+  Ok (record { header = asked.1; body = Body.Terminate asked.0 })

@@ -3,7 +3,7 @@ use Rattle.std.specs.Prelude.{ℕ, List, [], ◌∷◌, ◌++◌, codes, Option,
 use Rattle.serde_json.specs.Data.{Data, no_members, object}
 use Rattle.serde_json.specs.Written.{compact_text}
 use Rattle.nsi_base.specs.declared.flow.Flow.{Flow}
-use Rattle.nsi_primitive.specs.Kinds.{kind_name, error_text}
+use Rattle.nsi_primitive.specs.Kinds.{kind_name, error_text, event_text}
 use Rattle.nsi_primitive.specs.Messages.{kind_of}
 use Rattle.nsi_primitive.specs.declared.kind.Kind.{Kind}
 use Rattle.nsi_primitive.specs.declared.kind.ErrorName.{ErrorName}
@@ -11,6 +11,9 @@ use Rattle.nsi_primitive.specs.declared.message.Header.{Header}
 use Rattle.nsi_primitive.specs.declared.message.ReserveRequest.{ReserveRequest}
 use Rattle.nsi_primitive.specs.declared.message.ReserveConfirmation.{ReserveConfirmation}
 use Rattle.nsi_primitive.specs.declared.message.HoldTimeout.{HoldTimeout}
+use Rattle.nsi_primitive.specs.declared.message.FaultNotice.{FaultNotice}
+use Rattle.nsi_primitive.specs.declared.message.PlaneNotice.{PlaneNotice}
+use Rattle.nsi_primitive.specs.declared.message.DeliveryTimeout.{DeliveryTimeout}
 use Rattle.nsi_primitive.specs.declared.message.Cause.{Cause}
 use Rattle.nsi_primitive.specs.declared.message.Exception.{Exception}
 use Rattle.nsi_primitive.specs.declared.message.Body.{Body}
@@ -104,6 +107,37 @@ timeout_fields t =
     ∷ (Key.TimeoutValue, Some (digits t.value))
     ∷ []
 
+-- what an errorEvent has besides
+abbrev pub fault_fields : FaultNotice → List Field
+fault_fields n =
+    (Key.ConnectionId, Some (id_scalar n.connection))
+    ∷ (Key.Event, Some (words (event_text n.event)))
+    ∷ (Key.NotificationId, Some (digits n.notification))
+    ∷ (Key.OriginatingConnectionId, Some (id_scalar n.originating_connection))
+    ∷ (Key.OriginatingNsa, Some (words n.originating_nsa))
+    ∷ (Key.TimeStamp, Some (digits n.time))
+    ∷ []
+
+-- what a dataPlaneStateChange has besides
+abbrev pub plane_fields : PlaneNotice → List Field
+plane_fields n =
+    (Key.Active, Some (flag n.active))
+    ∷ (Key.ConnectionId, Some (id_scalar n.connection))
+    ∷ (Key.NotificationId, Some (digits n.notification))
+    ∷ (Key.TimeStamp, Some (digits n.time))
+    ∷ (Key.Version, Some (digits n.version))
+    ∷ (Key.VersionConsistent, Some (flag n.consistent))
+    ∷ []
+
+-- what a messageDeliveryTimeout has besides
+abbrev pub delivery_fields : DeliveryTimeout → List Field
+delivery_fields t =
+    (Key.ConnectionId, Some (id_scalar t.connection))
+    ∷ (Key.DeliveryCorrelationId, Some (id_scalar t.delivery))
+    ∷ (Key.NotificationId, Some (digits t.notification))
+    ∷ (Key.TimeStamp, Some (digits t.time))
+    ∷ []
+
 -- what a line of its kind has besides the header
 abbrev pub body_fields : Body → List Field
 body_fields (Body.Reserve r) = reserve_fields r
@@ -115,8 +149,17 @@ body_fields (Body.ReserveCommitConfirmed connection) = connection_fields connect
 body_fields (Body.ReserveCommitFailed connection e) = refusal_fields connection e
 body_fields (Body.ReserveAbort connection) = connection_fields connection
 body_fields (Body.ReserveAbortConfirmed connection) = connection_fields connection
+body_fields (Body.Provision connection) = connection_fields connection
+body_fields (Body.ProvisionConfirmed connection) = connection_fields connection
+body_fields (Body.Release connection) = connection_fields connection
+body_fields (Body.ReleaseConfirmed connection) = connection_fields connection
+body_fields (Body.Terminate connection) = connection_fields connection
+body_fields (Body.TerminateConfirmed connection) = connection_fields connection
 body_fields (Body.Error connection e) = (Key.ConnectionId, option_map id_scalar connection) ∷ exception_fields e
 body_fields (Body.ReserveTimeout t) = timeout_fields t
+body_fields (Body.ErrorEvent n) = fault_fields n
+body_fields (Body.DataPlaneStateChange n) = plane_fields n
+body_fields (Body.MessageDeliveryTimeout t) = delivery_fields t
 
 -- all keys of a message's line, each with what stands there, if anything
 abbrev pub fields_of : Message → List Field

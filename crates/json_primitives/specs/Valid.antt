@@ -28,6 +28,9 @@ abbrev pub IsValidBody : Body → Type 0
 IsValidBody (Body.Reserve r) = IsValidReserve r
 IsValidBody (Body.ReserveCommit connection) = IsReadBack id_from (id_scalar connection) connection
 IsValidBody (Body.ReserveAbort connection) = IsReadBack id_from (id_scalar connection) connection
+IsValidBody (Body.Provision connection) = IsReadBack id_from (id_scalar connection) connection
+IsValidBody (Body.Release connection) = IsReadBack id_from (id_scalar connection) connection
+IsValidBody (Body.Terminate connection) = IsReadBack id_from (id_scalar connection) connection
 IsValidBody _ = Unit {0}
 
 abbrev pub IsValid : Message → Type 0

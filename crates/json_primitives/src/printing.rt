@@ -15,7 +15,7 @@ mod requests;
 
 use answers::{put_confirmation, put_exception, put_refusal};
 use json_fields::{JsonObject, Key};
-use notifications::put_timeout;
+use notifications::{put_delivery, put_fault, put_plane, put_timeout};
 use nsi_primitive::{Body, Header, Kind, Message};
 use requests::put_reserve;
 use std::alloc::{AllocError, Global};
@@ -67,7 +67,13 @@ fn put_body(alloc: Global, object: &mut JsonObject, body: &Body) -> Result<(), A
         | Body::ReserveCommit { connection }
         | Body::ReserveCommitConfirmed { connection }
         | Body::ReserveAbort { connection }
-        | Body::ReserveAbortConfirmed { connection } => {
+        | Body::ReserveAbortConfirmed { connection }
+        | Body::Provision { connection }
+        | Body::ProvisionConfirmed { connection }
+        | Body::Release { connection }
+        | Body::ReleaseConfirmed { connection }
+        | Body::Terminate { connection }
+        | Body::TerminateConfirmed { connection } => {
             object.put_id(alloc, Key::ConnectionId, *connection)
         }
         Body::ReserveConfirmed(confirmation) => put_confirmation(alloc, object, confirmation),
@@ -87,5 +93,8 @@ fn put_body(alloc: Global, object: &mut JsonObject, body: &Body) -> Result<(), A
             put_exception(alloc, object, exception)
         }
         Body::ReserveTimeout(timeout) => put_timeout(alloc, object, timeout),
+        Body::ErrorEvent(notice) => put_fault(alloc, object, notice),
+        Body::DataPlaneStateChange(notice) => put_plane(alloc, object, notice),
+        Body::MessageDeliveryTimeout(timeout) => put_delivery(alloc, object, timeout),
     }
 }

@@ -4,6 +4,7 @@ use Rattle.std.specs.Str.{bytes_eq}
 use Rattle.nsi_primitive.specs.declared.kind.Kind.{Kind}
 use Rattle.nsi_primitive.specs.declared.kind.ErrorName.{ErrorName}
 use Rattle.nsi_primitive.specs.declared.kind.Directionality.{Directionality}
+use Rattle.nsi_primitive.specs.declared.kind.FaultEvent.{FaultEvent}
 
 -- the standard's name of a primitive
 unfoldable pub kind_name : Kind → List ℕ
@@ -83,6 +84,10 @@ error_text ErrorName.Passed = codes "PASSED"
 error_text ErrorName.NoPath = codes "NO_PATH"
 error_text ErrorName.Child = codes "CHILD"
 error_text ErrorName.Timeout = codes "TIMEOUT"
+
+-- an event's name in a line
+unfoldable pub event_text : FaultEvent → List ℕ
+event_text FaultEvent.ForcedEnd = codes "forcedEnd"
 
 -- a directionality's name in a line
 unfoldable pub direction_text : Directionality → List ℕ

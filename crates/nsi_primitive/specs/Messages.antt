@@ -17,8 +17,17 @@ kind_of (Body.ReserveCommitConfirmed _) = Kind.ReserveCommitConfirmed
 kind_of (Body.ReserveCommitFailed _ _) = Kind.ReserveCommitFailed
 kind_of (Body.ReserveAbort _) = Kind.ReserveAbort
 kind_of (Body.ReserveAbortConfirmed _) = Kind.ReserveAbortConfirmed
+kind_of (Body.Provision _) = Kind.Provision
+kind_of (Body.ProvisionConfirmed _) = Kind.ProvisionConfirmed
+kind_of (Body.Release _) = Kind.Release
+kind_of (Body.ReleaseConfirmed _) = Kind.ReleaseConfirmed
+kind_of (Body.Terminate _) = Kind.Terminate
+kind_of (Body.TerminateConfirmed _) = Kind.TerminateConfirmed
 kind_of (Body.Error _ _) = Kind.Error
 kind_of (Body.ReserveTimeout _) = Kind.ReserveTimeout
+kind_of (Body.ErrorEvent _) = Kind.ErrorEvent
+kind_of (Body.DataPlaneStateChange _) = Kind.DataPlaneStateChange
+kind_of (Body.MessageDeliveryTimeout _) = Kind.MessageDeliveryTimeout
 
 -- whether it asks for something
 abbrev pub is_request : Body → Bool
@@ -29,6 +38,9 @@ unfoldable pub connection_of : Body → Option ℕ
 connection_of (Body.Reserve r) = r.connection
 connection_of (Body.ReserveCommit connection) = Some connection
 connection_of (Body.ReserveAbort connection) = Some connection
+connection_of (Body.Provision connection) = Some connection
+connection_of (Body.Release connection) = Some connection
+connection_of (Body.Terminate connection) = Some connection
 connection_of _ = None
 
 -- the two agents, the correlation and the kind

@@ -45,8 +45,17 @@ IsPrintableBody (Body.ReserveCommitConfirmed connection) = Unit {0}
 IsPrintableBody (Body.ReserveCommitFailed connection exception) = IsPrintableCause exception.cause
 IsPrintableBody (Body.ReserveAbort connection) = Unit {0}
 IsPrintableBody (Body.ReserveAbortConfirmed connection) = Unit {0}
+IsPrintableBody (Body.Provision connection) = Unit {0}
+IsPrintableBody (Body.ProvisionConfirmed connection) = Unit {0}
+IsPrintableBody (Body.Release connection) = Unit {0}
+IsPrintableBody (Body.ReleaseConfirmed connection) = Unit {0}
+IsPrintableBody (Body.Terminate connection) = Unit {0}
+IsPrintableBody (Body.TerminateConfirmed connection) = Unit {0}
 IsPrintableBody (Body.Error connection exception) = IsPrintableCause exception.cause
 IsPrintableBody (Body.ReserveTimeout t) = Unit {0}
+IsPrintableBody (Body.ErrorEvent notice) = Unit {0}
+IsPrintableBody (Body.DataPlaneStateChange notice) = Unit {0}
+IsPrintableBody (Body.MessageDeliveryTimeout timeout) = Unit {0}
 
 -- what the types of a message leave open, so that it can be written and read again
 abbrev pub IsPrintable : Message → Type 0

@@ -193,6 +193,26 @@ impl ErrorName {
     }
 }
 
+/// What ended a connection before its time (GFD.237, errorEvent). Of the standard's events this one occurs.
+#[derive(Clone, Copy, Debug, PartialEq, Eq)]
+pub enum FaultEvent {
+    ForcedEnd,
+}
+
+impl FaultEvent {
+    ghost use Rattle.nsi_primitive.specs.Kinds.{event_text};
+
+    /// The name by which the event is written.
+    #[tactic(auto, unfolding(crate::specs::Kinds::event_text))]
+    pub fn text(self) -> &'static str
+        ensures { result.now ≡ event_text self }
+    {
+        match self {
+            FaultEvent::ForcedEnd => "forcedEnd",
+        }
+    }
+}
+
 /// Whether a connection carries traffic both ways (GFD.237, directionality).
 #[derive(Clone, Copy, Debug, PartialEq, Eq)]
 pub enum Directionality {

@@ -4,7 +4,7 @@ ghost use Rattle.std.specs.Prelude.{◌≡◌, IfOk};
 ghost use Rattle.nsi_primitive.specs.Messages.{kind_of, is_request, connection_of, identity};
 
 use crate::id::Id;
-use crate::kind::{Directionality, ErrorName, Kind};
+use crate::kind::{Directionality, ErrorName, FaultEvent, Kind};
 use nsi_base::{Flow, HoldTime, Interval, Mbps, Name, Second, Text, Version};
 use std::alloc::AllocError;
 
@@ -135,6 +135,38 @@ pub struct HoldTimeout {
     pub value: HoldTime,
 }
 
+/// A connection that failed, by what, and where that was (GFD.237, errorEvent).
+#[derive(Debug, Drop)]
+pub struct FaultNotice {
+    pub connection: Id,
+    pub event: FaultEvent,
+    pub notification: u64,
+    pub originating_connection: Id,
+    pub originating_nsa: Name,
+    pub time: Second,
+}
+
+/// A data plane that changed (GFD.237, dataPlaneStateChange): whether it carries traffic, and by which version. It is
+/// consistent where all parts of the connection have this version.
+#[derive(Clone, Copy, Debug, PartialEq, Eq)]
+pub struct PlaneNotice {
+    pub active: bool,
+    pub connection: Id,
+    pub notification: u64,
+    pub time: Second,
+    pub version: Version,
+    pub consistent: bool,
+}
+
+/// A message that wasn't acknowledged in time (GFD.237, messageDeliveryTimeout), by its correlationId.
+#[derive(Clone, Copy, Debug, PartialEq, Eq)]
+pub struct DeliveryTimeout {
+    pub connection: Id,
+    pub delivery: Id,
+    pub notification: u64,
+    pub time: Second,
+}
+
 /// What a message says, by its kind.
 #[derive(Debug, Drop)]
 pub enum Body {
@@ -163,11 +195,32 @@ pub enum Body {
     ReserveAbortConfirmed {
         connection: Id,
     },
+    Provision {
+        connection: Id,
+    },
+    ProvisionConfirmed {
+        connection: Id,
+    },
+    Release {
+        connection: Id,
+    },
+    ReleaseConfirmed {
+        connection: Id,
+    },
+    Terminate {
+        connection: Id,
+    },
+    TerminateConfirmed {
+        connection: Id,
+    },
     Error {
         connection: Option<Id>,
         exception: Exception,
     },
     ReserveTimeout(HoldTimeout),
+    ErrorEvent(FaultNotice),
+    DataPlaneStateChange(PlaneNotice),
+    MessageDeliveryTimeout(DeliveryTimeout),
 }
 
 /// A primitive on its way from one agent to another.
@@ -194,8 +247,11 @@ impl Body {
     {
         match self {
             Body::Reserve(request) => request.connection,
-            Body::ReserveCommit { connection } => Some(*connection),
-            Body::ReserveAbort { connection } => Some(*connection),
+            Body::ReserveCommit { connection }
+            | Body::ReserveAbort { connection }
+            | Body::Provision { connection }
+            | Body::Release { connection }
+            | Body::Terminate { connection } => Some(*connection),
             _ => None,
         }
     }
@@ -215,8 +271,17 @@ impl Message {
             Body::ReserveCommitFailed { .. } => Kind::ReserveCommitFailed,
             Body::ReserveAbort { .. } => Kind::ReserveAbort,
             Body::ReserveAbortConfirmed { .. } => Kind::ReserveAbortConfirmed,
+            Body::Provision { .. } => Kind::Provision,
+            Body::ProvisionConfirmed { .. } => Kind::ProvisionConfirmed,
+            Body::Release { .. } => Kind::Release,
+            Body::ReleaseConfirmed { .. } => Kind::ReleaseConfirmed,
+            Body::Terminate { .. } => Kind::Terminate,
+            Body::TerminateConfirmed { .. } => Kind::TerminateConfirmed,
             Body::Error { .. } => Kind::Error,
             Body::ReserveTimeout(_) => Kind::ReserveTimeout,
+            Body::ErrorEvent(_) => Kind::ErrorEvent,
+            Body::DataPlaneStateChange(_) => Kind::DataPlaneStateChange,
+            Body::MessageDeliveryTimeout(_) => Kind::MessageDeliveryTimeout,
         }
     }
 

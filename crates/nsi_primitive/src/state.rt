@@ -38,3 +38,10 @@ pub enum Machine {
     Provision,
     Lifecycle,
 }
+
+/// Whether an agent has ports of its own (GFD.237, the ultimate provider agent), or children that it asks.
+#[derive(Clone, Copy, Debug, PartialEq, Eq)]
+pub enum Side {
+    Provider,
+    Aggregator,
+}

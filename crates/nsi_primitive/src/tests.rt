@@ -1,6 +1,8 @@
 //! Ids in their text forms, and names of kinds.
 
-use crate::{Directionality, ErrorName, IdFault, Kind, agent_and_n, id_of, print_id, read_id};
+use crate::{
+    Directionality, ErrorName, FaultEvent, IdFault, Kind, agent_and_n, id_of, print_id, read_id,
+};
 use nsi_base::AgentNo;
 use std::test::Fail;
 
@@ -58,5 +60,6 @@ fn kinds_are_named(rt: HostRuntime) {
     }
     assert!(rt; Kind::named(b"Reserve").is_none());
     assert_eq!(rt; ErrorName::WrongProvider.text(), "WRONG_PROVIDER");
+    assert_eq!(rt; FaultEvent::ForcedEnd.text(), "forcedEnd");
     assert!(rt; Directionality::named(b"Bidirectional") == Some(Directionality::Bidirectional));
 }

@@ -3,10 +3,10 @@
 ghost use Rattle.std.specs.Prelude.{◌≡◌, OnOk};
 ghost use Rattle.json_fields.specs.Objects.{with_fields};
 ghost use Rattle.json_fields.specs.Written.{members_of};
-ghost use Rattle.json_primitives.specs.Spelling.{timeout_fields};
+ghost use Rattle.json_primitives.specs.Spelling.{timeout_fields, fault_fields, plane_fields, delivery_fields};
 
 use json_fields::{JsonObject, Key};
-use nsi_primitive::HoldTimeout;
+use nsi_primitive::{DeliveryTimeout, FaultNotice, HoldTimeout, PlaneNotice};
 use std::alloc::{AllocError, Global};
 
 #[tactic(auto, unfolding(json_fields::specs::Objects::with_fields))]
@@ -24,4 +24,51 @@ pub fn put_timeout(
     object.put_name(alloc, Key::OriginatingNsa, &timeout.originating_nsa)?;
     object.put_second(alloc, Key::TimeStamp, timeout.time)?;
     object.put_number(alloc, Key::TimeoutValue, u64::from(timeout.value.get()))
+}
+
+#[tactic(auto, unfolding(json_fields::specs::Objects::with_fields))]
+pub fn put_fault(
+    alloc: Global,
+    object: &mut JsonObject,
+    notice: &FaultNotice,
+) -> Result<(), AllocError>
+    ensures { OnOk result (members_of object.new ≡ with_fields (members_of object.old) (fault_fields notice.now)) }
+{
+    let origin = notice.originating_connection;
+    object.put_id(alloc, Key::ConnectionId, notice.connection)?;
+    object.put_text(alloc, Key::Event, notice.event.text())?;
+    object.put_number(alloc, Key::NotificationId, notice.notification)?;
+    object.put_id(alloc, Key::OriginatingConnectionId, origin)?;
+    object.put_name(alloc, Key::OriginatingNsa, &notice.originating_nsa)?;
+    object.put_second(alloc, Key::TimeStamp, notice.time)
+}
+
+#[tactic(auto, unfolding(json_fields::specs::Objects::with_fields))]
+pub fn put_plane(
+    alloc: Global,
+    object: &mut JsonObject,
+    notice: &PlaneNotice,
+) -> Result<(), AllocError>
+    ensures { OnOk result (members_of object.new ≡ with_fields (members_of object.old) (plane_fields notice.now)) }
+{
+    object.put_flag(alloc, Key::Active, notice.active)?;
+    object.put_id(alloc, Key::ConnectionId, notice.connection)?;
+    object.put_number(alloc, Key::NotificationId, notice.notification)?;
+    object.put_second(alloc, Key::TimeStamp, notice.time)?;
+    object.put_version(alloc, Key::Version, notice.version)?;
+    object.put_flag(alloc, Key::VersionConsistent, notice.consistent)
+}
+
+#[tactic(auto, unfolding(json_fields::specs::Objects::with_fields))]
+pub fn put_delivery(
+    alloc: Global,
+    object: &mut JsonObject,
+    timeout: &DeliveryTimeout,
+) -> Result<(), AllocError>
+    ensures { OnOk result (members_of object.new ≡ with_fields (members_of object.old) (delivery_fields timeout.now)) }
+{
+    object.put_id(alloc, Key::ConnectionId, timeout.connection)?;
+    object.put_id(alloc, Key::DeliveryCorrelationId, timeout.delivery)?;
+    object.put_number(alloc, Key::NotificationId, timeout.notification)?;
+    object.put_second(alloc, Key::TimeStamp, timeout.time)
 }

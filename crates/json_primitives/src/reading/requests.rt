@@ -4,7 +4,7 @@ ghost use Rattle.std.specs.Prelude.{◌≡◌, false, IfOk, IfNone, IsSome};
 ghost use Rattle.serde_json.specs.View.{view};
 ghost use Rattle.nsi_primitive.specs.Printable.{IsPrintable, IsRequest, AreApart};
 ghost use Rattle.json_fields.specs.Faults.{Gives};
-ghost use Rattle.json_primitives.specs.Requests.{reserve_from, point_from, is_one_point, connected_from, commit_from, abort_from};
+ghost use Rattle.json_primitives.specs.Requests.{reserve_from, point_from, is_one_point, connected_from, commit_from, abort_from, provision_from, release_from, terminate_from};
 
 use json_fields::reading::{
     optional_directionality, optional_empty_list, optional_flag, optional_id, optional_name,
@@ -109,6 +109,39 @@ pub fn abort_from(alloc: Global, value: &Value) -> Result<Message, LineFault>
 {
     let (connection, header) = connected_from(alloc, value)?;
     let body = Body::ReserveAbort { connection };
+    Ok(Message { header, body })
+}
+
+#[tactic(auto, unfolding(crate::specs::Requests::provision_from))]
+pub fn provision_from(alloc: Global, value: &Value) -> Result<Message, LineFault>
+    ensures gives { Gives result (provision_from (view value.now)) }
+    ensures printable { IfOk result IsPrintable }
+    ensures request { IfOk result IsRequest }
+{
+    let (connection, header) = connected_from(alloc, value)?;
+    let body = Body::Provision { connection };
+    Ok(Message { header, body })
+}
+
+#[tactic(auto, unfolding(crate::specs::Requests::release_from))]
+pub fn release_from(alloc: Global, value: &Value) -> Result<Message, LineFault>
+    ensures gives { Gives result (release_from (view value.now)) }
+    ensures printable { IfOk result IsPrintable }
+    ensures request { IfOk result IsRequest }
+{
+    let (connection, header) = connected_from(alloc, value)?;
+    let body = Body::Release { connection };
+    Ok(Message { header, body })
+}
+
+#[tactic(auto, unfolding(crate::specs::Requests::terminate_from))]
+pub fn terminate_from(alloc: Global, value: &Value) -> Result<Message, LineFault>
+    ensures gives { Gives result (terminate_from (view value.now)) }
+    ensures printable { IfOk result IsPrintable }
+    ensures request { IfOk result IsRequest }
+{
+    let (connection, header) = connected_from(alloc, value)?;
+    let body = Body::Terminate { connection };
     Ok(Message { header, body })
 }
 

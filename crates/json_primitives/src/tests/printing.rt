@@ -6,8 +6,8 @@ ghost use Rattle.nsi_primitive.specs.Printable.{IsPrintable, IsPrintableBody, Is
 use crate::{Key, LineFault, print_line, print_payload};
 use nsi_base::{Flow, HoldTime, Mbps, Name, Second, Version};
 use nsi_primitive::{
-    Body, Cause, Directionality, ErrorName, Exception, Header, HoldTimeout, Id, Message,
-    ReserveConfirmation, read_id,
+    Body, Cause, DeliveryTimeout, Directionality, ErrorName, Exception, FaultEvent, FaultNotice,
+    Header, HoldTimeout, Id, Message, PlaneNotice, ReserveConfirmation, read_id,
 };
 use std::alloc::Global;
 use std::test::Fail;
@@ -38,6 +38,18 @@ const COMMIT_FAILED: &str =
 /// A hold of 60 seconds that ended at second 60.
 const TIMEOUT: &str =
     r#"{"connectionId":"urn:uuid:00000000-0000-8000-8000-000000000001","correlationId":"urn:uuid:00000000-0001-8000-8000-000000000001","kind":"reserveTimeout","notificationId":1,"originatingConnectionId":"urn:uuid:00000000-0000-8000-8000-000000000001","originatingNSA":"p1","providerNSA":"p1","requesterNSA":"r1","timeStamp":60,"timeoutValue":60}"#;
+
+/// A connection that was ended by force at second 60.
+const ERROR_EVENT: &str =
+    r#"{"connectionId":"urn:uuid:00000000-0000-8000-8000-000000000001","correlationId":"urn:uuid:00000000-0001-8000-8000-000000000001","event":"forcedEnd","kind":"errorEvent","notificationId":2,"originatingConnectionId":"urn:uuid:00000000-0000-8000-8000-000000000001","originatingNSA":"p1","providerNSA":"p1","requesterNSA":"r1","timeStamp":60}"#;
+
+/// Traffic that flows from second 150 on.
+const PLANE_CHANGE: &str =
+    r#"{"active":true,"connectionId":"urn:uuid:00000000-0000-8000-8000-000000000001","correlationId":"urn:uuid:00000000-0001-8000-8000-000000000001","kind":"dataPlaneStateChange","notificationId":1,"providerNSA":"p1","requesterNSA":"r1","timeStamp":150,"version":0,"versionConsistent":true}"#;
+
+/// A message that wasn't acknowledged up to second 120.
+const DELIVERY_TIMEOUT: &str =
+    r#"{"connectionId":"urn:uuid:00000000-0000-8000-8000-000000000001","correlationId":"urn:uuid:00000000-0001-8000-8000-000000000001","deliveryCorrelationId":"urn:uuid:00000000-0001-8000-8000-000000000001","kind":"messageDeliveryTimeout","notificationId":3,"providerNSA":"p1","requesterNSA":"r1","timeStamp":120}"#;
 
 const ERROR: &str =
     r#"{"correlationId":"urn:uuid:00000000-0001-8000-8000-000000000001","errorId":"WRONG_PROVIDER","kind":"error","nsaId":"p1","providerNSA":"p1","requesterNSA":"r1"}"#;
@@ -208,6 +220,76 @@ fn timeout_is_written(rt: HostRuntime) -> Result<(), Fail> {
     };
     let body = Body::ReserveTimeout(timeout);
     let is_right = is_body_written(rt.alloc(), body, TIMEOUT)?;
+    assert!(rt; is_right);
+    Ok(())
+}
+
+/// Whether a body that names the connection and nothing else is written as this kind.
+fn is_written_as(alloc: Global, body: Body, kind: &str) -> Result<bool, Fail>
+    requires { IsPrintableBody body }
+{
+    let line = RESPONSE.replace(alloc, "reserveResponse", kind)?;
+    is_body_written(alloc, body, line.as_str())
+}
+
+#[test]
+fn confirmations_of_provisions_are_written(rt: HostRuntime) -> Result<(), Fail> {
+    let connection = read_id(CONNECTION)?;
+    let of_provision = Body::ProvisionConfirmed { connection };
+    let is_right = is_written_as(rt.alloc(), of_provision, "provisionConfirmed")?;
+    assert!(rt; is_right);
+    let of_release = Body::ReleaseConfirmed { connection };
+    let is_right = is_written_as(rt.alloc(), of_release, "releaseConfirmed")?;
+    assert!(rt; is_right);
+    let of_terminate = Body::TerminateConfirmed { connection };
+    let is_right = is_written_as(rt.alloc(), of_terminate, "terminateConfirmed")?;
+    assert!(rt; is_right);
+    Ok(())
+}
+
+#[test]
+fn error_event_is_written(rt: HostRuntime) -> Result<(), Fail> {
+    let connection = read_id(CONNECTION)?;
+    let notice = FaultNotice {
+        connection,
+        event: FaultEvent::ForcedEnd,
+        notification: 2,
+        originating_connection: connection,
+        originating_nsa: Name::of(rt.alloc(), b"p1")?,
+        time: Second::new(60).unwrap(),
+    };
+    let body = Body::ErrorEvent(notice);
+    let is_right = is_body_written(rt.alloc(), body, ERROR_EVENT)?;
+    assert!(rt; is_right);
+    Ok(())
+}
+
+#[test]
+fn plane_change_is_written(rt: HostRuntime) -> Result<(), Fail> {
+    let notice = PlaneNotice {
+        active: true,
+        connection: read_id(CONNECTION)?,
+        notification: 1,
+        time: Second::new(150).unwrap(),
+        version: Version::new(0).unwrap(),
+        consistent: true,
+    };
+    let body = Body::DataPlaneStateChange(notice);
+    let is_right = is_body_written(rt.alloc(), body, PLANE_CHANGE)?;
+    assert!(rt; is_right);
+    Ok(())
+}
+
+#[test]
+fn delivery_timeout_is_written(rt: HostRuntime) -> Result<(), Fail> {
+    let timeout = DeliveryTimeout {
+        connection: read_id(CONNECTION)?,
+        delivery: read_id(b"urn:uuid:00000000-0001-8000-8000-000000000001")?,
+        notification: 3,
+        time: Second::new(120).unwrap(),
+    };
+    let body = Body::MessageDeliveryTimeout(timeout);
+    let is_right = is_body_written(rt.alloc(), body, DELIVERY_TIMEOUT)?;
     assert!(rt; is_right);
     Ok(())
 }

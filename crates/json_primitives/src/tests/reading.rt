@@ -269,7 +269,7 @@ const MODIFIED: [(&str, &str, Option<LineFault>); 32] = [
     ),
 ];
 
-/// The same for a commit and for an abort.
+/// The same for a request that names a connection and nothing else.
 const CONNECTED: [(&str, &str, LineFault); 10] = [
     (
         r#""connectionId":"urn:uuid:00000000-0000-8000-8000-000000000001","#,
@@ -350,13 +350,60 @@ fn modifications_are_refused(rt: HostRuntime) -> Result<(), Fail> {
     Ok(())
 }
 
-#[test]
-fn commits_and_aborts_are_refused(rt: HostRuntime) -> Result<(), Fail> {
+/// Requests that name a connection and nothing else.
+const KINDS: [&str; 5] = [
+    "reserveCommit",
+    "reserveAbort",
+    "provision",
+    "release",
+    "terminate",
+];
+
+fn object_fault_of(alloc: Global, line: &[u8]) -> Option<LineFault> {
+    match read_object(alloc, line) {
+        Ok(_) => None,
+        Err(fault) => Some(fault),
+    }
+}
+
+/// Whether each change of the line has its fault.
+fn are_refused(alloc: Global, line: &str) -> Result<bool, Fail> {
     for (old, new, fault) in &CONNECTED {
-        let of_commit = fault_where(rt.alloc(), COMMIT, *old, *new)?;
-        assert_eq!(rt; of_commit, Some(*fault), "{new}");
-        let of_abort = fault_where(rt.alloc(), ABORT, *old, *new)?;
-        assert_eq!(rt; of_abort, Some(*fault), "{new}");
+        let changed = line.replace(alloc, *old, new)?;
+        if object_fault_of(alloc, changed.as_bytes()) != Some(*fault) {
+            return Ok(false);
+        }
+    }
+    Ok(true)
+}
+
+#[test]
+fn requests_about_a_connection_are_refused(rt: HostRuntime) -> Result<(), Fail> {
+    for kind in &KINDS {
+        let line = COMMIT.replace(rt.alloc(), "reserveCommit", *kind)?;
+        let is_right = are_refused(rt.alloc(), line.as_str())?;
+        assert!(rt; is_right, "{kind}");
+    }
+    Ok(())
+}
+
+fn is_written_again(alloc: Global, line: &str) -> Result<bool, Fail> {
+    let message = read_object(alloc, line.as_bytes())?;
+    let written = print_line(alloc, &message)?;
+    Ok(written.as_slice() == line.as_bytes())
+}
+
+/// They are read as objects, and no line is taken of them.
+#[test]
+fn kinds_for_later_are_read_and_written(rt: HostRuntime) -> Result<(), Fail> {
+    for kind in ["provision", "release", "terminate"] {
+        let line = COMMIT.replace(rt.alloc(), "reserveCommit", kind)?;
+        let is_right = is_written_again(rt.alloc(), line.as_str())?;
+        assert!(rt; is_right, "{kind}");
+        assert_eq!(rt;
+            fault_of(rt.alloc(), line.as_bytes()),
+            Some(LineFault::Unbuilt)
+        );
     }
     Ok(())
 }
