@@ -3,7 +3,6 @@ use Rattle.std.specs.Prelude.{ℕ, ◌+◌, Bool, true, false, List, [], ◌∷�
 use Rattle.nsi_base.specs.Range.{Span, span_of, within}
 use Rattle.nsi_primitive.specs.declared.kind.Directionality.{Directionality}
 use Rattle.nsi_primitive.specs.declared.kind.Kind.{Kind}
-use Rattle.nsi_primitive.specs.declared.state.Machine.{Machine}
 use Rattle.nsi_primitive.specs.declared.state.Rsm.{Rsm}
 use Rattle.nsi_primitive.specs.declared.state.Psm.{Psm}
 use Rattle.nsi_primitive.specs.declared.state.Lsm.{Lsm}
@@ -148,17 +147,6 @@ criteria_with (Some span) (Some version) mbps = Some (record { version = version
 abbrev pub asked_criteria : ReserveRequest → List Criteria → Option Criteria
 asked_criteria q committed = criteria_with (span_of q.start q.end) (asked_version q.version (last committed)) q.capacity
 
-abbrev pub reserve_move : ℕ → Option Criteria → Option ReservationMove
-reserve_move c None = None
-reserve_move c (Some criteria) = Some (ReservationMove.Reserve c criteria)
-
--- the move that a request is
-unfoldable pub requested : Body → ℕ → Record → Option ReservationMove
-requested (Body.Reserve q) c r = reserve_move c (asked_criteria q r.committed)
-requested (Body.ReserveCommit _) c r = Some (ReservationMove.Commit c)
-requested (Body.ReserveAbort _) c r = Some (ReservationMove.Abort c)
-requested _ c r = None
-
 ---- Time
 
 abbrev pub is_due : Option ℕ → ℕ → Bool
@@ -184,10 +172,6 @@ is_live _ = true
 abbrev pub is_over : ℕ → Record → Bool
 is_over now r = is_live r.lsm && (is_held r.rsm && is_due r.deadline now)
 
--- what a tick moves
-abbrev pub ticking : ℕ → Origin → Record → Option ReservationMove
-ticking now origin r = if is_live r.lsm then hold_end r.rsm r.deadline now origin else None
-
 ---- Waiting work
 
 -- whether the reservation machine has work to do
@@ -197,18 +181,12 @@ is_working Rsm.ReserveCommitting = true
 is_working Rsm.ReserveAborting = true
 is_working _ = false
 
--- whether a machine of a record has work to do; a connection that ends has none of this sort
-unfoldable pub waits : Machine → Record → Bool
-waits Machine.Reserve r = is_live r.lsm && is_working r.rsm
-waits Machine.Provision r = false
-waits Machine.Lifecycle r = false
-
 -- a lack is told by the agent; what lacks nothing is held until the deadline
 abbrev pub fit_or_lack : Option Cause → List ℕ → ℕ → ReservationMove
 fit_or_lack None agent deadline = ReservationMove.Fit (Some deadline)
 fit_or_lack (Some cause) agent deadline = ReservationMove.Lack (record { nsa = agent; cause = cause })
 
--- the move that a provider's work makes: what was asked fits or lacks, a commit and an abort are carried out
+-- the move that a provider's work on the reservation machine makes: what was asked fits or lacks, a commit and an abort are carried out
 unfoldable pub worked : Rsm → Option Cause → List ℕ → ℕ → Option ReservationMove
 worked Rsm.ReserveChecking lack agent deadline = Some (fit_or_lack lack agent deadline)
 worked Rsm.ReserveCommitting lack agent deadline = Some ReservationMove.Done

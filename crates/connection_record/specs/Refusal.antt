@@ -5,12 +5,17 @@ use Rattle.nsi_primitive.specs.Messages.{connection_of}
 use Rattle.nsi_primitive.specs.declared.kind.Directionality.{Directionality}
 use Rattle.nsi_primitive.specs.declared.kind.ErrorName.{ErrorName}
 use Rattle.nsi_primitive.specs.declared.state.Lsm.{Lsm}
+use Rattle.nsi_primitive.specs.declared.state.Side.{Side}
 use Rattle.nsi_primitive.specs.declared.message.Body.{Body}
 use Rattle.nsi_primitive.specs.declared.message.Criteria.{Criteria}
 use Rattle.nsi_primitive.specs.declared.message.Message.{Message}
 use Rattle.nsi_primitive.specs.declared.message.ReserveRequest.{ReserveRequest}
 use Rattle.reserve_machine.specs.declared.table.RsmEvent.{RsmEvent}
 use Rattle.reserve_machine.specs.Table.{step}
+use Rattle.provision_machine.specs.declared.table.PsmEvent.{PsmEvent}
+use Rattle.provision_machine.specs.Table.{step as provision_step}
+use Rattle.lifecycle_machine.specs.declared.table.LsmEvent.{LsmEvent}
+use Rattle.lifecycle_machine.specs.Table.{step as lifecycle_step}
 use Rattle.connection_record.specs.declared.record.Record.{Record}
 use Rattle.connection_record.specs.Demand.{last}
 use Rattle.connection_record.specs.Moves.{is_live}
@@ -32,17 +37,21 @@ abbrev pub is_created : Lsm → Bool
 is_created Lsm.Created = true
 is_created _ = false
 
--- whether the machine's table has a row for a request
+-- whether the machine's table has a row for a request; both sides have rows for a provision and a release in the same states
 unfoldable pub has_row : Body → Record → Bool
 has_row (Body.Reserve _) r = is_some (step r.rsm RsmEvent.Reserve)
 has_row (Body.ReserveCommit _) r = is_some (step r.rsm RsmEvent.Commit)
 has_row (Body.ReserveAbort _) r = is_some (step r.rsm RsmEvent.Abort)
+has_row (Body.Provision _) r = is_some (provision_step Side.Provider r.psm PsmEvent.Provision)
+has_row (Body.Release _) r = is_some (provision_step Side.Provider r.psm PsmEvent.Release)
+has_row (Body.Terminate _) r = is_some (lifecycle_step r.lsm LsmEvent.Terminate)
 has_row _ r = true
 
--- whether a request fits the life of the connection: what is reserved and committed belongs to a created one, and a mixed one isn't reserved again
+-- whether a request fits the life of the connection: reserve, commit and provision belong to a created one, a mixed one isn't reserved again, and what is provisioned was committed
 unfoldable pub is_in_place : Body → Record → Bool
 is_in_place (Body.Reserve _) r = is_created r.lsm && not r.mixed
 is_in_place (Body.ReserveCommit _) r = is_created r.lsm
+is_in_place (Body.Provision _) r = is_created r.lsm && is_some (last r.committed)
 is_in_place _ r = true
 
 -- whether a key that may be absent says the same as what is there

@@ -22,6 +22,14 @@ pub record Moved : Type 0 where
 abbrev pub stays : Record → Moved
 stays r = record { rec = r; out = [] }
 
+-- more is said behind what was said
+abbrev pub behind : List Reply → Moved → Moved
+behind out x = record { rec = x.rec; out = out ++ x.out }
+
+-- one move, and then another
+abbrev pub then_moves : Moved → (Record → Moved) → Moved
+then_moves x f = behind x.out (f x.rec)
+
 abbrev pub reply : ℕ → Body → Reply
 reply correlation body = record { correlation = correlation; body = body }
 

@@ -1,17 +1,14 @@
 //! The moves of the reservation machine, done to a record.
 
-ghost use Rattle.std.specs.Prelude.{◌≡◌, ℕ, IfOk, OnOk, OnErr, ◌++◌, ◌∷◌, [], option_to_list, if◌then◌else◌, Some, None};
+ghost use Rattle.std.specs.Prelude.{◌≡◌, IfOk, OnErr, option_to_list};
 ghost use Rattle.connection_record.specs.Demand.{last};
 ghost use Rattle.connection_record.specs.Replies.{Moved, stays, id_or};
-ghost use Rattle.connection_record.specs.Moves.{event_of, asked, dropped, checking, answered, fits, fails, times_out, timeout_reply, notified, lapsed, commits, committed_with, spoils, frees, asked_criteria, asked_version, is_due, reserve_move};
+ghost use Rattle.connection_record.specs.Moves.{asked, dropped, checking, answered, fits, fails, times_out, commits, committed_with, spoils, frees, asked_criteria, asked_version};
 
 use crate::record::Record;
 use crate::reply::{confirmation, id_or};
 use nsi_base::{HoldTime, Interval, Name, Second, Version};
-use nsi_primitive::{
-    Body, Criteria, Exception, HoldTimeout, Id, Kind, Lsm, Machine, ReserveRequest, Rsm,
-};
-use reserve_machine::RsmEvent;
+use nsi_primitive::{Body, Criteria, Exception, HoldTimeout, Id, Kind, Lsm, ReserveRequest, Rsm};
 use std::alloc::AllocError;
 
 /// What a record says: the header is put on by the agent.
@@ -45,28 +42,8 @@ pub enum ReservationMove {
     Freed,
 }
 
-impl ReservationMove {
-    /// The event of the machine's table.
-    #[tactic(auto, unfolding(crate::specs::Moves::event_of))]
-    pub fn event(&self) -> RsmEvent
-        ensures { result ≡ event_of self.now }
-    {
-        match self {
-            ReservationMove::Reserve { .. } => RsmEvent::Reserve,
-            ReservationMove::Fit { .. } => RsmEvent::Fit,
-            ReservationMove::Lack { .. } => RsmEvent::Lack,
-            ReservationMove::Commit { .. } => RsmEvent::Commit,
-            ReservationMove::Abort { .. } => RsmEvent::Abort,
-            ReservationMove::HoldEnd { .. } => RsmEvent::HoldEnd,
-            ReservationMove::Done => RsmEvent::Done,
-            ReservationMove::Spoiled { .. } => RsmEvent::Spoiled,
-            ReservationMove::Freed => RsmEvent::Freed,
-        }
-    }
-}
-
 impl Record {
-    ghost use Rattle.connection_record.specs.Moves.{reserves, requested, hold_end, ticking, is_over, is_live, is_working, waits};
+    ghost use Rattle.connection_record.specs.Moves.{reserves, is_live, is_working};
 
     /// Does what the table's row for its state and the move says, and gives what is then said. Where the table has no
     /// row, or memory is wanting, nothing changes.
@@ -189,24 +166,18 @@ impl Record {
         self.reserve_request = Some(correlation);
     }
 
+    /// The hold ends, of which the owner is notified.
     fn time_out(&mut self, origin: Origin, now: Second) -> Result<Option<Reply>, AllocError>
         ensures rec { IfOk result (λ _. self.new ≡ (times_out origin now self.old).rec) }
         ensures out { IfOk result (λ out. option_to_list out ≡ (times_out origin now self.old).out) }
         ensures err { OnErr result (self.new ≡ self.old) }
     {
-        let reply = self.timeout_reply(origin, now)?;
-        self.note_hold_end(now)?;
-        self.end_hold();
-        Ok(Some(reply))
-    }
-
-    /// What the owner is told when the hold ends, before that is noted.
-    pub fn timeout_reply(&self, origin: Origin, now: Second) -> Result<Reply, AllocError>
-        ensures { IfOk result (λ reply. reply ≡ timeout_reply origin now self.now) }
-    {
-        let notification = self.next_notice()?;
-        Ok(Reply {
-            correlation: id_or(self.attempt),
+        let correlation = id_or(self.attempt);
+        let notification = self.add_notice(Kind::ReserveTimeout, correlation, now)?;
+        self.rsm = Rsm::ReserveTimeout;
+        self.pending = None;
+        Ok(Some(Reply {
+            correlation,
             body: Body::ReserveTimeout(HoldTimeout {
                 connection: self.id,
                 notification,
@@ -215,32 +186,7 @@ impl Record {
                 time: now,
                 value: origin.value,
             }),
-        })
-    }
-
-    /// Counts the end of the hold as a notice.
-    pub fn note_hold_end(&mut self, now: Second) -> Result<(), AllocError>
-        ensures ok { OnOk result (self.new ≡ notified now self.old) }
-        ensures err { OnErr result (self.new ≡ self.old) }
-    {
-        let correlation = id_or(self.attempt);
-        self.add_notice(Kind::ReserveTimeout, correlation, now)?;
-        Ok(())
-    }
-
-    /// Takes back the notice of the end of the hold, where it was the last. It takes no memory.
-    pub fn take_back_hold_end(&mut self)
-        ensures { (r : Record) (now : ℕ) → self.old ≡ notified now r → self.new ≡ r }
-    {
-        self.notices.take_back();
-    }
-
-    /// What was held isn't any more. It takes no memory.
-    pub fn end_hold(&mut self)
-        ensures { self.new ≡ lapsed self.old }
-    {
-        self.rsm = Rsm::ReserveTimeout;
-        self.pending = None;
+        }))
     }
 
     fn commit(&mut self, now: Second) -> Result<Option<Reply>, AllocError>
@@ -320,26 +266,8 @@ impl Record {
         }))
     }
 
-    /// The move that a request is.
-    #[tactic(auto, unfolding(crate::specs::Moves::requested))]
-    pub fn requested(&self, body: &Body, correlation: Id) -> Option<ReservationMove>
-        ensures { result ≡ requested body.now correlation self.now }
-    {
-        match body {
-            Body::Reserve(request) => {
-                let criteria = self.asked_criteria(request)?;
-                Some(ReservationMove::Reserve {
-                    correlation,
-                    criteria,
-                })
-            }
-            Body::ReserveCommit { .. } => Some(ReservationMove::Commit { correlation }),
-            Body::ReserveAbort { .. } => Some(ReservationMove::Abort { correlation }),
-            _ => None,
-        }
-    }
-
-    fn asked_criteria(&self, request: &ReserveRequest) -> Option<Criteria>
+    /// What a reserve asks, where its schedule and its version have a form.
+    pub(crate) fn asked_criteria(&self, request: &ReserveRequest) -> Option<Criteria>
         ensures { result ≡ asked_criteria request.now self.now.committed }
     {
         let interval = Interval::new(request.start, request.end)?;
@@ -364,19 +292,9 @@ impl Record {
         }
     }
 
-    /// Whether a machine has work to do.
-    #[tactic(auto, unfolding(crate::specs::Moves::waits))]
-    pub fn waits(&self, machine: Machine) -> bool
-        ensures { result ≡ waits machine self.now }
-    {
-        match machine {
-            Machine::Reserve => self.is_live() && self.is_working(),
-            Machine::Provision | Machine::Lifecycle => false,
-        }
-    }
-
+    /// Whether the reservation machine has work to do.
     #[tactic(auto, unfolding(crate::specs::Moves::is_working))]
-    fn is_working(&self) -> bool
+    pub fn is_working(&self) -> bool
         ensures { result ≡ is_working self.now.rsm }
     {
         matches!(
@@ -391,23 +309,5 @@ impl Record {
         ensures { result ≡ is_live self.now.lsm }
     {
         !matches!(self.lsm, Lsm::Terminating | Lsm::Terminated)
-    }
-
-    /// Whether a tick at that second ends its hold.
-    #[tactic(auto, unfolding(crate::specs::Moves::hold_end))]
-    pub fn is_hold_over(&self, now: Second) -> bool
-        ensures over { result ≡ is_over now self.now }
-        ensures ticking { (origin : Origin) → ticking now origin self.now ≡ (if result then Some (ReservationMove.HoldEnd origin) else None) }
-    {
-        self.is_live() && self.rsm == Rsm::ReserveHeld && is_due(self.deadline, now)
-    }
-}
-
-fn is_due(deadline: Option<u64>, now: Second) -> bool
-    ensures { result ≡ is_due deadline now }
-{
-    match deadline {
-        None => false,
-        Some(deadline) => deadline <= now.get(),
     }
 }

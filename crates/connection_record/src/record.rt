@@ -135,13 +135,6 @@ impl Record {
         }
     }
 
-    /// The number of the next notification.
-    pub fn next_notice(&self) -> Result<u64, AllocError>
-        ensures { IfOk result (λ n. n ≡ length self.now.notices + 1) }
-    {
-        number_after(self.notices.items().len())
-    }
-
     /// Counts a notification, and answers its number.
     pub fn add_notice(
         &mut self,
@@ -153,7 +146,7 @@ impl Record {
         ensures ok { OnOk result (self.new ≡ record self.old { notices = noted kind correlation second self.old.notices }) }
         ensures err { OnErr result (self.new ≡ self.old) }
     {
-        let number = self.next_notice()?;
+        let number = number_after(self.notices.items().len())?;
         self.notices.push(Notice {
             number,
             kind,

@@ -7,8 +7,10 @@ ghost use Rattle.connection_record.specs.Moves.{is_live};
 ghost use Rattle.connection_record.specs.Refusal.{has_row, is_in_place, agrees, is_same_direction, direction_agrees, keeps_service, version_refusal, schedule_refusal, modification_refusal, record_refusal};
 
 use crate::record::Record;
+use lifecycle_machine::{LsmEvent, step as life};
 use nsi_base::{Interval, Name, Version};
-use nsi_primitive::{Body, Directionality, ErrorName, Lsm, ReserveRequest};
+use nsi_primitive::{Body, Directionality, ErrorName, Lsm, ReserveRequest, Side};
+use provision_machine::{PsmEvent, step as provision};
 use reserve_machine::{RsmEvent, step};
 
 /// A schedule that has no second.
@@ -47,6 +49,17 @@ impl Record {
             Body::Reserve(_) => step(self.rsm, RsmEvent::Reserve).is_some(),
             Body::ReserveCommit { .. } => step(self.rsm, RsmEvent::Commit).is_some(),
             Body::ReserveAbort { .. } => step(self.rsm, RsmEvent::Abort).is_some(),
+            Body::Provision { .. } => provision(
+                Side::Provider,
+                self.psm,
+                PsmEvent::Provision,
+            ).is_some(),
+            Body::Release { .. } => provision(
+                Side::Provider,
+                self.psm,
+                PsmEvent::Release,
+            ).is_some(),
+            Body::Terminate { .. } => life(self.lsm, LsmEvent::Terminate).is_some(),
             _ => true,
         }
     }
@@ -59,6 +72,7 @@ impl Record {
         match body {
             Body::Reserve(_) => is_created && !self.mixed,
             Body::ReserveCommit { .. } => is_created,
+            Body::Provision { .. } => is_created && self.last().is_some(),
             _ => true,
         }
     }

@@ -11,8 +11,6 @@ fault_name LineFault.NotObject = codes "NotObject"
 fault_name LineFault.NoKind = codes "NoKind"
 fault_name (LineFault.Bad key) = codes "Bad"
 fault_name (LineFault.Missing key) = codes "Missing"
-fault_name LineFault.Unbuilt = codes "Unbuilt"
-fault_name LineFault.Tick = codes "Tick"
 fault_name LineFault.NoMemory = codes "NoMemory"
 
 -- the key that a fault is about, where it is about one
@@ -23,8 +21,6 @@ fault_key LineFault.NotObject = None
 fault_key LineFault.NoKind = None
 fault_key (LineFault.Bad key) = Some key
 fault_key (LineFault.Missing key) = Some key
-fault_key LineFault.Unbuilt = None
-fault_key LineFault.Tick = None
 fault_key LineFault.NoMemory = None
 
 -- the fault is the one that reading gives, where it isn't want of memory
@@ -36,8 +32,6 @@ Fails LineFault.NotObject read = read ≡ Err LineFault.NotObject
 Fails LineFault.NoKind read = read ≡ Err LineFault.NoKind
 Fails (LineFault.Bad key) read = read ≡ Err (LineFault.Bad key)
 Fails (LineFault.Missing key) read = read ≡ Err (LineFault.Missing key)
-Fails LineFault.Unbuilt read = read ≡ Err LineFault.Unbuilt
-Fails LineFault.Tick read = read ≡ Err LineFault.Tick
 
 -- what was returned is what reading gives, value or fault, unless memory ran out
 abbrev pub Gives : {X : Type 0} → Result X LineFault → Result X LineFault → Type 0

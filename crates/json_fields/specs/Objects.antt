@@ -1,7 +1,7 @@
 -- Objects that are written key by key.
-use Rattle.std.specs.Prelude.{◌≡◌, ℕ, List, [], ◌∷◌, Bool, false, Option, Some, None}
-use Rattle.serde_json.specs.Data.{Data, Members, put, string, number, boolean, unsigned, members_depth}
-use Rattle.serde_json.specs.Written.{members_have_float}
+use Rattle.std.specs.Prelude.{◌≡◌, ◌≤◌, ℕ, List, [], ◌∷◌, Bool, false, Option, Some, None}
+use Rattle.serde_json.specs.Data.{Data, Members, put, string, number, boolean, unsigned, depth, members_depth}
+use Rattle.serde_json.specs.Written.{has_float, members_have_float}
 use Rattle.nsi_primitive.specs.Ids.{id_text}
 use Rattle.nsi_primitive.specs.Kinds.{direction_text}
 use Rattle.nsi_primitive.specs.declared.kind.Directionality.{Directionality}
@@ -43,6 +43,11 @@ with_fields ms (f ∷ fs) = with_fields (with_value f.0 f.1 ms) fs
 -- what is written for a value reads as it
 abbrev pub IsReadBack : {A : Type 0} → (Data → Option A) → Scalar → A → Type 0
 IsReadBack form s x = form (scalar_data s) ≡ Some x
+
+-- an object with nothing but numbers, texts and flags in it
+pub record IsFlatRow (d : Data) : Type 0 where
+  pub shallow : depth d ≤ 1
+  pub exact : has_float d ≡ false
 
 -- members without lists, objects and floats in them
 pub record IsFlat (ms : Members) : Type 0 where

@@ -1,8 +1,20 @@
 -- What an object that is being written holds.
-use Rattle.serde_json.specs.Data.{Members}
-use Rattle.serde_json.specs.View.{members_view}
+use Rattle.std.specs.Prelude.{List, map}
+use Rattle.serde_json.specs.Data.{Data, Members, put, array}
+use Rattle.serde_json.specs.View.{view, items_of, members_view}
+use Rattle.json_fields.specs.Keys.{name_of}
+use Rattle.json_fields.specs.declared.key.Key.{Key}
 use Rattle.json_fields.specs.declared.object.JsonObject.{JsonObject}
+use Rattle.json_fields.specs.declared.rows.JsonRows.{JsonRows}
 
 -- the keys and what stands at them
 abbrev pub members_of : JsonObject → Members
 members_of o = members_view o.members.entries
+
+-- the rows of a list that is being written
+abbrev pub rows_of : JsonRows → List Data
+rows_of rows = map view rows.items.items
+
+-- the members with a list of rows at a key
+abbrev pub with_rows : Key → List Data → Members → Members
+with_rows key rows ms = put (name_of key) (array (items_of rows)) ms

@@ -14,11 +14,6 @@ pub enum LineFault {
     NoKind,
     Bad(Key),
     Missing(Key),
-    /// The kind is one that isn't read yet.
-    Unbuilt,
-    /// The line begins with `tick` and isn't `tick N` with a second N that isn't before now. No reader of objects
-    /// answers it, since what begins so is no object: it is for those that take both kinds of lines.
-    Tick,
     NoMemory,
 }
 
@@ -37,8 +32,6 @@ impl LineFault {
             LineFault::NoKind => "NoKind",
             LineFault::Bad(_) => "Bad",
             LineFault::Missing(_) => "Missing",
-            LineFault::Unbuilt => "Unbuilt",
-            LineFault::Tick => "Tick",
             LineFault::NoMemory => "NoMemory",
         }
     }

@@ -5,7 +5,10 @@ pub mod fault;
 pub mod key;
 pub mod object;
 pub mod reading;
+pub mod row_fields;
+pub mod rows;
 
 pub use fault::LineFault;
 pub use key::Key;
 pub use object::JsonObject;
+pub use rows::JsonRows;

@@ -1,18 +1,19 @@
 //! What stands at a key of an object.
 
-ghost use Rattle.std.specs.Prelude.{◌≡◌, ◌≤◌, length, option_map, is_some, Some, None, IfOk, IfErr, IfSome, IsTrue, ◌≢◌};
+ghost use Rattle.std.specs.Prelude.{◌≡◌, ◌≤◌, false, length, option_map, is_some, Some, None, IfOk, IfErr, IfSome, IsTrue, ◌≢◌};
 ghost use Rattle.serde_json.specs.Data.{Data};
 ghost use Rattle.serde_json.specs.Find.{get};
 ghost use Rattle.serde_json.specs.View.{view};
 ghost use Rattle.nsi_primitive.specs.Ids.{id_from_text};
+ghost use Rattle.nsi_primitive.specs.Printable.{has_further_keys};
 ghost use Rattle.json_fields.specs.Keys.{name_of};
 ghost use Rattle.json_fields.specs.Faults.{Gives};
-ghost use Rattle.json_fields.specs.Fields.{json_of, formed, required, optional, id_from, name_from, text_from, capacity_from, second_from, version_from, flag_from, directionality_from, empty_list_from};
+ghost use Rattle.json_fields.specs.Fields.{json_of, formed, required, optional, id_from, name_from, text_from, capacity_from, second_from, version_from, hold_from, count_from, flag_from, kind_from, error_from, plain_error_from, event_from, flow_named, flow_from, directionality_from, empty_list_from};
 
 use crate::fault::LineFault;
 use crate::key::Key;
-use nsi_base::{Mbps, Name, NameFault, Second, Text, Version};
-use nsi_primitive::{Directionality, Id, read_id};
+use nsi_base::{Flow, HoldTime, Mbps, Name, NameFault, Second, Text, Version};
+use nsi_primitive::{Directionality, ErrorName, FaultEvent, Id, Kind, read_id};
 use serde_json::Value;
 use std::alloc::Global;
 
@@ -56,13 +57,13 @@ fn id_from(value: &Value) -> Option<Id>
     parse_id(value.as_str()?.as_bytes())
 }
 
-fn capacity_from(value: &Value) -> Option<Mbps>
+pub(crate) fn capacity_from(value: &Value) -> Option<Mbps>
     ensures { result ≡ capacity_from (view value.now) }
 {
     Mbps::new(value.as_u64()?)
 }
 
-fn second_from(value: &Value) -> Option<Second>
+pub(crate) fn second_from(value: &Value) -> Option<Second>
     ensures { result ≡ second_from (view value.now) }
 {
     Second::new(value.as_u64()?)
@@ -83,6 +84,73 @@ fn directionality_from(value: &Value) -> Option<Directionality>
     ensures { result ≡ directionality_from (view value.now) }
 {
     Directionality::named(value.as_str()?.as_bytes())
+}
+
+fn hold_from(value: &Value) -> Option<HoldTime>
+    ensures { result ≡ hold_from (view value.now) }
+{
+    let n = value.as_u64()?;
+    if n <= u64::from(HoldTime::MAX) {
+        HoldTime::new(n as u32)
+    } else {
+        None
+    }
+}
+
+fn kind_from(value: &Value) -> Option<Kind>
+    ensures { result ≡ kind_from (view value.now) }
+{
+    Kind::named(value.as_str()?.as_bytes())
+}
+
+/// The error that a text names.
+pub fn error_from(value: &Value) -> Option<ErrorName>
+    ensures { result ≡ error_from (view value.now) }
+{
+    ErrorName::named(value.as_str()?.as_bytes())
+}
+
+/// Whether an error says more than its name.
+fn has_further_keys(error: ErrorName) -> bool
+    ensures { result ≡ has_further_keys error }
+{
+    matches!(error, ErrorName::Bandwidth | ErrorName::Child)
+}
+
+fn plain_error_from(value: &Value) -> Option<ErrorName>
+    ensures gives { result ≡ plain_error_from (view value.now) }
+    ensures plain { IfSome result (λ error. has_further_keys error ≡ false) }
+{
+    let error = error_from(value)?;
+    if has_further_keys(error) {
+        None
+    } else {
+        Some(error)
+    }
+}
+
+fn event_from(value: &Value) -> Option<FaultEvent>
+    ensures { result ≡ event_from (view value.now) }
+{
+    FaultEvent::named(value.as_str()?.as_bytes())
+}
+
+fn flow_named(name: &[u8]) -> Option<Flow>
+    ensures { result ≡ flow_named name.now }
+{
+    if name == b"in".as_slice() {
+        Some(Flow::In)
+    } else if name == b"out".as_slice() {
+        Some(Flow::Out)
+    } else {
+        None
+    }
+}
+
+fn flow_from(value: &Value) -> Option<Flow>
+    ensures { result ≡ flow_from (view value.now) }
+{
+    flow_named(value.as_str()?.as_bytes())
 }
 
 fn is_empty_list(value: &Value) -> bool
@@ -154,6 +222,99 @@ pub fn required_second(value: &Value, key: Key) -> Result<Second, LineFault>
 }
 
 #[tactic(auto, unfolding(crate::specs::Fields::required))]
+pub fn required_version(value: &Value, key: Key) -> Result<Version, LineFault>
+    ensures { Gives result (required version_from key (view value.now)) }
+{
+    let Some(found) = at(value, key) else {
+        return Err(LineFault::Missing(key));
+    };
+    version_from(found).ok_or(LineFault::Bad(key))
+}
+
+#[tactic(auto, unfolding(crate::specs::Fields::required))]
+pub fn required_hold(value: &Value, key: Key) -> Result<HoldTime, LineFault>
+    ensures { Gives result (required hold_from key (view value.now)) }
+{
+    let Some(found) = at(value, key) else {
+        return Err(LineFault::Missing(key));
+    };
+    hold_from(found).ok_or(LineFault::Bad(key))
+}
+
+/// A number of 64 bits.
+#[tactic(auto, unfolding(crate::specs::Fields::required))]
+pub fn required_count(value: &Value, key: Key) -> Result<u64, LineFault>
+    ensures { Gives result (required count_from key (view value.now)) }
+{
+    let Some(found) = at(value, key) else {
+        return Err(LineFault::Missing(key));
+    };
+    found.as_u64().ok_or(LineFault::Bad(key))
+}
+
+#[tactic(auto, unfolding(crate::specs::Fields::required))]
+pub fn required_flag(value: &Value, key: Key) -> Result<bool, LineFault>
+    ensures { Gives result (required flag_from key (view value.now)) }
+{
+    let Some(found) = at(value, key) else {
+        return Err(LineFault::Missing(key));
+    };
+    found.as_bool().ok_or(LineFault::Bad(key))
+}
+
+#[tactic(auto, unfolding(crate::specs::Fields::required))]
+pub fn required_directionality(value: &Value, key: Key) -> Result<Directionality, LineFault>
+    ensures { Gives result (required directionality_from key (view value.now)) }
+{
+    let Some(found) = at(value, key) else {
+        return Err(LineFault::Missing(key));
+    };
+    directionality_from(found).ok_or(LineFault::Bad(key))
+}
+
+#[tactic(auto, unfolding(crate::specs::Fields::required))]
+pub fn required_kind(value: &Value, key: Key) -> Result<Kind, LineFault>
+    ensures { Gives result (required kind_from key (view value.now)) }
+{
+    let Some(found) = at(value, key) else {
+        return Err(LineFault::Missing(key));
+    };
+    kind_from(found).ok_or(LineFault::Bad(key))
+}
+
+#[tactic(auto, unfolding(crate::specs::Fields::required))]
+pub fn required_error(value: &Value, key: Key) -> Result<ErrorName, LineFault>
+    ensures { Gives result (required error_from key (view value.now)) }
+{
+    let Some(found) = at(value, key) else {
+        return Err(LineFault::Missing(key));
+    };
+    error_from(found).ok_or(LineFault::Bad(key))
+}
+
+/// An error that is given by its name alone.
+#[tactic(auto, unfolding(crate::specs::Fields::required))]
+pub fn required_plain_error(value: &Value, key: Key) -> Result<ErrorName, LineFault>
+    ensures gives { Gives result (required plain_error_from key (view value.now)) }
+    ensures plain { IfOk result (λ error. has_further_keys error ≡ false) }
+{
+    let Some(found) = at(value, key) else {
+        return Err(LineFault::Missing(key));
+    };
+    plain_error_from(found).ok_or(LineFault::Bad(key))
+}
+
+#[tactic(auto, unfolding(crate::specs::Fields::required))]
+pub fn required_event(value: &Value, key: Key) -> Result<FaultEvent, LineFault>
+    ensures { Gives result (required event_from key (view value.now)) }
+{
+    let Some(found) = at(value, key) else {
+        return Err(LineFault::Missing(key));
+    };
+    event_from(found).ok_or(LineFault::Bad(key))
+}
+
+#[tactic(auto, unfolding(crate::specs::Fields::required))]
 pub fn required_name(alloc: Global, value: &Value, key: Key) -> Result<Name, LineFault>
     ensures { Gives result (required name_from key (view value.now)) }
 {
@@ -200,6 +361,20 @@ pub fn optional_version(value: &Value, key: Key) -> Result<Option<Version>, Line
     }
 }
 
+/// A number of a notification or a result.
+#[tactic(auto, unfolding(crate::specs::Fields::optional))]
+pub fn optional_count(value: &Value, key: Key) -> Result<Option<u64>, LineFault>
+    ensures { Gives result (optional count_from key (view value.now)) }
+{
+    match at(value, key) {
+        None => Ok(None),
+        Some(found) => match found.as_u64() {
+            Some(count) => Ok(Some(count)),
+            None => Err(LineFault::Bad(key)),
+        },
+    }
+}
+
 #[tactic(auto, unfolding(crate::specs::Fields::optional))]
 pub fn optional_flag(value: &Value, key: Key) -> Result<Option<bool>, LineFault>
     ensures { Gives result (optional flag_from key (view value.now)) }
@@ -221,6 +396,20 @@ pub fn optional_directionality(value: &Value, key: Key) -> Result<Option<Directi
         None => Ok(None),
         Some(found) => match directionality_from(found) {
             Some(directionality) => Ok(Some(directionality)),
+            None => Err(LineFault::Bad(key)),
+        },
+    }
+}
+
+/// A direction of traffic, which is named where a point has one capacity for each.
+#[tactic(auto, unfolding(crate::specs::Fields::optional))]
+pub fn optional_flow(value: &Value, key: Key) -> Result<Option<Flow>, LineFault>
+    ensures { Gives result (optional flow_from key (view value.now)) }
+{
+    match at(value, key) {
+        None => Ok(None),
+        Some(found) => match flow_from(found) {
+            Some(flow) => Ok(Some(flow)),
             None => Err(LineFault::Bad(key)),
         },
     }

@@ -1,20 +1,22 @@
 -- Lines that the definitions themselves compute.
-use Rattle.std.proofs.Common.{◌≡◌, codes, refl, Some, Err}
+use Rattle.std.proofs.Common.{◌≡◌, codes, refl, Err}
 use Rattle.serde_json.proofs.OnLiterals.{serde_json_on_literals}
 use Rattle.std.specs.Fmt.{digits}
 use Rattle.std.specs.Str.{is_utf8, chars}
 use Rattle.nsi_primitive.specs.Kinds.{kind_name, kind_named, first_named, error_text}
 use Rattle.json_fields.specs.Keys.{name_of}
+use Rattle.json_fields.specs.Faults.{fault_name}
 use Rattle.json_fields.specs.Fields.{json_of, required, optional}
 use Rattle.json_fields.specs.declared.key.Key.{Key}
 use Rattle.json_fields.specs.declared.fault.LineFault.{LineFault}
 use Rattle.json_primitives.specs.Lines.{object_of}
 use Rattle.json_primitives.specs.Requests.{reserve_from}
-use Rattle.json_primitives.specs.Payload.{payload_spelling}
+use Rattle.json_primitives.specs.Payload.{payload_spelling, payload_name}
+use Rattle.json_primitives.specs.declared.payload.PayloadFault.{PayloadFault}
 
 -- the answer to a sixth line with a capacity of 0
-payload : payload_spelling (codes "Bad") (Some Key.Capacity) 6 ≡ codes "{\"errorId\":\"PAYLOAD\",\"fault\":\"Bad\",\"key\":\"capacity\",\"kind\":\"error\",\"line\":6}"
-unfolding serde_json_on_literals digits name_of error_text kind_name
+payload : payload_spelling (PayloadFault.Line (LineFault.Bad Key.Capacity)) 6 ≡ codes "{\"errorId\":\"PAYLOAD\",\"fault\":\"Bad\",\"key\":\"capacity\",\"kind\":\"error\",\"line\":6}"
+unfolding serde_json_on_literals digits name_of error_text kind_name payload_name fault_name
 payload = refl
 
 -- a capacity of 0

@@ -1,5 +1,12 @@
 pub mod Requests
+pub mod Connected
+pub mod Answers
+pub mod Notifications
+pub mod Queries
+pub mod RowLines
+pub mod Rows
 pub mod Lines
 pub mod Spelling
 pub mod Payload
 pub mod Valid
+pub mod ValidRows

@@ -1,8 +1,7 @@
--- Which request an object of each kind is: key by key in byte order.
+-- Which reserve an object is: key by key in byte order.
 use Rattle.std.specs.Prelude.{ℕ, List, Bool, false, if◌then◌else◌, Option, Some, None, Result, Ok, Err}
 use Rattle.std.specs.Str.{bytes_eq}
 use Rattle.serde_json.specs.Data.{Data}
-use Rattle.nsi_primitive.specs.declared.message.Header.{Header}
 use Rattle.nsi_primitive.specs.declared.message.Body.{Body}
 use Rattle.nsi_primitive.specs.declared.message.Message.{Message}
 use Rattle.json_fields.specs.Faults.{◌>>=◌}
@@ -47,37 +46,3 @@ reserve_from d = do
     header = record { correlation = correlation; requester = requester; provider = provider };
     body = Body.Reserve (record { capacity = capacity; connection = connection; description = description; dest = dest; directionality = directionality; end = end; global = global; source = source; start = start; symmetric = symmetric; version = version });
   })
-
--- the connection and the header, where there is nothing else
-unfoldable pub connected_from : Data → Result (ℕ × Header) LineFault
-connected_from d = do
-  connection ← required id_from Key.ConnectionId d
-  correlation ← required id_from Key.CorrelationId d
-  provider ← required name_from Key.ProviderNsa d
-  requester ← required name_from Key.RequesterNsa d
-  Ok (connection, record { correlation = correlation; requester = requester; provider = provider })
-
-unfoldable pub commit_from : Data → Result Message LineFault
-commit_from d = do
-  asked ← connected_from d
-  Ok (record { header = asked.1; body = Body.ReserveCommit asked.0 })
-
-unfoldable pub abort_from : Data → Result Message LineFault
-abort_from d = do
-  asked ← connected_from d
-  Ok (record { header = asked.1; body = Body.ReserveAbort asked.0 })
-
-unfoldable pub provision_from : Data → Result Message LineFault
-provision_from d = do
-  asked ← connected_from d
-  Ok (record { header = asked.1; body = Body.Provision asked.0 })
-
-unfoldable pub release_from : Data → Result Message LineFault
-release_from d = do
-  asked ← connected_from d
-  Ok (record { header = asked.1; body = Body.Release asked.0 })
-
-unfoldable pub terminate_from : Data → Result Message LineFault
-terminate_from d = do
-  asked ← connected_from d
-  Ok (record { header = asked.1; body = Body.Terminate asked.0 })

@@ -1,6 +1,6 @@
--- The printed spelling of a message.
-use Rattle.std.specs.Prelude.{ℕ, List, [], ◌∷◌, ◌++◌, codes, Option, Some, None, option_map}
-use Rattle.serde_json.specs.Data.{Data, no_members, object}
+-- The printed spelling of a parcel.
+use Rattle.std.specs.Prelude.{ℕ, Bool, List, [], ◌∷◌, ◌++◌, codes, Option, Some, None, option_map}
+use Rattle.serde_json.specs.Data.{Data, Members, no_members, object}
 use Rattle.serde_json.specs.Written.{compact_text}
 use Rattle.nsi_base.specs.declared.flow.Flow.{Flow}
 use Rattle.nsi_primitive.specs.Kinds.{kind_name, error_text, event_text}
@@ -14,12 +14,17 @@ use Rattle.nsi_primitive.specs.declared.message.HoldTimeout.{HoldTimeout}
 use Rattle.nsi_primitive.specs.declared.message.FaultNotice.{FaultNotice}
 use Rattle.nsi_primitive.specs.declared.message.PlaneNotice.{PlaneNotice}
 use Rattle.nsi_primitive.specs.declared.message.DeliveryTimeout.{DeliveryTimeout}
+use Rattle.nsi_primitive.specs.declared.message.NumberRange.{NumberRange}
 use Rattle.nsi_primitive.specs.declared.message.Cause.{Cause}
 use Rattle.nsi_primitive.specs.declared.message.Exception.{Exception}
 use Rattle.nsi_primitive.specs.declared.message.Body.{Body}
+use Rattle.nsi_primitive.specs.declared.message.Identity.{Identity}
 use Rattle.nsi_primitive.specs.declared.message.Message.{Message}
+use Rattle.nsi_primitive.specs.declared.message.Parcel.{Parcel}
 use Rattle.json_fields.specs.Objects.{Field, digits, words, flag, id_scalar, directionality_scalar, with_fields}
+use Rattle.json_fields.specs.Written.{with_rows}
 use Rattle.json_fields.specs.declared.key.Key.{Key}
+use Rattle.json_primitives.specs.Rows.{rows_in}
 
 -- what every line has
 abbrev pub header_fields : Kind → Header → List Field
@@ -92,9 +97,9 @@ cause_fields (Cause.Child child error) =
 abbrev pub exception_fields : Exception → List Field
 exception_fields e = (Key.NsaId, Some (words e.nsa)) ∷ cause_fields e.cause
 
--- the connection, and why it was refused
-abbrev pub refusal_fields : ℕ → Exception → List Field
-refusal_fields connection e = (Key.ConnectionId, Some (id_scalar connection)) ∷ exception_fields e
+-- the connection, where one is named, and why its request was refused
+abbrev pub refusal_fields : Option ℕ → Exception → List Field
+refusal_fields connection e = (Key.ConnectionId, option_map id_scalar connection) ∷ exception_fields e
 
 -- what a reserveTimeout has besides
 abbrev pub timeout_fields : HoldTimeout → List Field
@@ -138,15 +143,40 @@ delivery_fields t =
     ∷ (Key.TimeStamp, Some (digits t.time))
     ∷ []
 
--- what a line of its kind has besides the header
+-- what a query of notifications or results has besides, by the keys of its end and start
+abbrev pub range_fields : Key → Key → NumberRange → List Field
+range_fields end_key start_key r =
+    (Key.ConnectionId, Some (id_scalar r.connection))
+    ∷ (end_key, option_map digits r.end)
+    ∷ (start_key, option_map digits r.start)
+    ∷ []
+
+-- what the answer to a query of one connection has besides its rows
+abbrev pub listed_fields : ℕ → Bool → List Field
+listed_fields connection more = (Key.ConnectionId, Some (id_scalar connection)) ∷ (Key.More, Some (flag more)) ∷ []
+
+-- what an answer or a notification has besides the header, rows aside
+abbrev pub told_fields : Body → List Field
+told_fields (Body.ReserveConfirmed r) = confirmation_fields r
+told_fields (Body.ReserveFailed connection e) = refusal_fields (Some connection) e
+told_fields (Body.ReserveCommitFailed connection e) = refusal_fields (Some connection) e
+told_fields (Body.Error connection e) = refusal_fields connection e
+told_fields (Body.ReserveTimeout t) = timeout_fields t
+told_fields (Body.ErrorEvent n) = fault_fields n
+told_fields (Body.DataPlaneStateChange n) = plane_fields n
+told_fields (Body.MessageDeliveryTimeout t) = delivery_fields t
+told_fields (Body.QuerySummaryConfirmed more rows) = (Key.More, Some (flag more)) ∷ []
+told_fields (Body.QueryNotificationConfirmed connection more rows) = listed_fields connection more
+told_fields (Body.QueryResultConfirmed connection more rows) = listed_fields connection more
+told_fields (Body.QueryRecursiveConfirmed connection more rows) = listed_fields connection more
+told_fields _ = []
+
+-- what a line of its kind has besides the header, rows aside
 abbrev pub body_fields : Body → List Field
 body_fields (Body.Reserve r) = reserve_fields r
 body_fields (Body.ReserveResponse connection) = connection_fields connection
-body_fields (Body.ReserveConfirmed r) = confirmation_fields r
-body_fields (Body.ReserveFailed connection e) = refusal_fields connection e
 body_fields (Body.ReserveCommit connection) = connection_fields connection
 body_fields (Body.ReserveCommitConfirmed connection) = connection_fields connection
-body_fields (Body.ReserveCommitFailed connection e) = refusal_fields connection e
 body_fields (Body.ReserveAbort connection) = connection_fields connection
 body_fields (Body.ReserveAbortConfirmed connection) = connection_fields connection
 body_fields (Body.Provision connection) = connection_fields connection
@@ -155,20 +185,44 @@ body_fields (Body.Release connection) = connection_fields connection
 body_fields (Body.ReleaseConfirmed connection) = connection_fields connection
 body_fields (Body.Terminate connection) = connection_fields connection
 body_fields (Body.TerminateConfirmed connection) = connection_fields connection
-body_fields (Body.Error connection e) = (Key.ConnectionId, option_map id_scalar connection) ∷ exception_fields e
-body_fields (Body.ReserveTimeout t) = timeout_fields t
-body_fields (Body.ErrorEvent n) = fault_fields n
-body_fields (Body.DataPlaneStateChange n) = plane_fields n
-body_fields (Body.MessageDeliveryTimeout t) = delivery_fields t
+body_fields (Body.QuerySummary connection) = (Key.ConnectionId, option_map id_scalar connection) ∷ []
+body_fields (Body.QueryNotification r) = range_fields Key.EndNotificationId Key.StartNotificationId r
+body_fields (Body.QueryResult r) = range_fields Key.EndResultId Key.StartResultId r
+body_fields (Body.QueryRecursive connection) = connection_fields connection
+body_fields body = told_fields body
 
 -- all keys of a message's line, each with what stands there, if anything
 abbrev pub fields_of : Message → List Field
 fields_of m = header_fields (kind_of m.body) m.header ++ body_fields m.body
 
+-- the members with the rows of a message, where it has some
+abbrev pub with_rows_in : Option (Key × List Data) → Members → Members
+with_rows_in None ms = ms
+with_rows_in (Some rows) ms = with_rows rows.0 rows.1 ms
+
 -- the object that a message is written as; its keys stand in byte order
 unfoldable pub data_of : Message → Data
-data_of m = object (with_fields no_members (fields_of m))
+data_of m = object (with_rows_in (rows_in m.body) (with_fields no_members (fields_of m)))
 
 -- the bytes of a message's line, without the end of a line
 abbrev pub spelling : Message → List ℕ
 spelling m = compact_text (data_of m)
+
+-- what an acknowledgement has
+abbrev pub ack_fields : Identity → List Field
+ack_fields i =
+    (Key.CorrelationId, Some (id_scalar i.correlation))
+    ∷ (Key.Kind, Some (words (codes "ack")))
+    ∷ (Key.Of, Some (words (kind_name i.kind)))
+    ∷ (Key.ProviderNsa, Some (words i.provider))
+    ∷ (Key.RequesterNsa, Some (words i.requester))
+    ∷ []
+
+-- the object that an acknowledgement is written as
+unfoldable pub ack_data : Identity → Data
+ack_data i = object (with_fields no_members (ack_fields i))
+
+-- the bytes of a parcel's line, without the end of a line
+abbrev pub parcel_spelling : Parcel → List ℕ
+parcel_spelling (Parcel.Message m) = spelling m
+parcel_spelling (Parcel.Ack i) = compact_text (ack_data i)

@@ -1,4 +1,4 @@
-//! Messages as lines of JSON: one object a line, its keys in byte order.
+//! Messages and acknowledgements as lines of JSON: one object a line, its keys in byte order.
 #![tactic(auto)]
 
 pub mod payload;
@@ -6,8 +6,8 @@ pub mod printing;
 pub mod reading;
 
 pub use json_fields::{Key, LineFault};
-pub use payload::print_payload;
-pub use printing::print_line;
+pub use payload::{PayloadFault, print_payload};
+pub use printing::{print_line, print_message};
 pub use reading::{read_line, read_object};
 
 #[cfg(test)]

@@ -1,33 +1,73 @@
-//! From a message to the bytes of its line.
+//! From a parcel to the bytes of its line.
 
 ghost use Rattle.std.specs.Prelude.{◌≡◌, OnOk, IfOk, Ok};
 ghost use Rattle.serde_json.specs.Data.{no_members};
-ghost use Rattle.nsi_primitive.specs.Printable.{IsPrintable, IsRequest};
+ghost use Rattle.nsi_primitive.specs.Printable.{IsPrintable};
+ghost use Rattle.nsi_primitive.specs.declared.message.Parcel.{Parcel};
 ghost use Rattle.json_fields.specs.Objects.{with_fields};
 ghost use Rattle.json_fields.specs.Written.{members_of};
-ghost use Rattle.json_primitives.specs.Lines.{object_of};
-ghost use Rattle.json_primitives.specs.Spelling.{spelling, fields_of, body_fields, header_fields};
-ghost use Rattle.json_primitives.specs.Valid.{IsValidHeader, IsValidBody, IsValid};
+ghost use Rattle.json_primitives.specs.Lines.{object_of, IsPrintableParcel};
+ghost use Rattle.json_primitives.specs.Spelling.{spelling, parcel_spelling, fields_of, body_fields, told_fields, header_fields, ack_fields};
+ghost use Rattle.json_primitives.specs.Valid.{IsValidHeader, IsValidIdentity, IsValidTold, IsValidBody, IsValid};
 
 mod answers;
 mod notifications;
 mod requests;
+mod rows;
 
-use answers::{put_confirmation, put_exception, put_refusal};
+use answers::{put_confirmation, put_error, put_listed, put_refusal};
 use json_fields::{JsonObject, Key};
 use notifications::{put_delivery, put_fault, put_plane, put_timeout};
-use nsi_primitive::{Body, Header, Kind, Message};
-use requests::put_reserve;
+use nsi_primitive::{Body, Header, Identity, Kind, Message, Parcel};
+use requests::{put_range, put_reserve};
+use rows::rows_in;
 use std::alloc::{AllocError, Global};
 
+/// Writes a parcel as compact JSON, without a line's end.
+pub fn print_line(alloc: Global, parcel: &Parcel) -> Result<Vec<u8>, AllocError>
+    requires { IsPrintableParcel parcel.now }
+    ensures spelled { IfOk result (λ b. b.items ≡ parcel_spelling parcel.now) }
+    ensures again { IfOk result (λ b. object_of b.items ≡ Ok parcel.now) }
+{
+    match parcel {
+        Parcel::Message(message) => print_message(alloc, message),
+        Parcel::Ack(identity) => print_ack(alloc, identity),
+    }
+}
+
 /// Writes a message as compact JSON, without a line's end.
-pub fn print_line(alloc: Global, message: &Message) -> Result<Vec<u8>, AllocError>
+pub fn print_message(alloc: Global, message: &Message) -> Result<Vec<u8>, AllocError>
     requires { IsPrintable message.now }
     ensures spelled { IfOk result (λ b. b.items ≡ spelling message.now) }
-    ensures again { IfOk result (λ b. IsRequest message.now → object_of b.items ≡ Ok message.now) }
+    ensures again { IfOk result (λ b. object_of b.items ≡ Ok (Parcel.Message message.now)) }
 {
     let object = object_of(alloc, message)?;
+    match rows_in(alloc, &message.body)? {
+        None => object.print(alloc),
+        Some((key, rows)) => object.print_with(alloc, key, rows),
+    }
+}
+
+fn print_ack(alloc: Global, identity: &Identity) -> Result<Vec<u8>, AllocError>
+    ensures spelled { IfOk result (λ b. b.items ≡ parcel_spelling (Parcel.Ack identity.now)) }
+    ensures again { IfOk result (λ b. object_of b.items ≡ Ok (Parcel.Ack identity.now)) }
+{
+    let object = ack_of(alloc, identity)?;
     object.print(alloc)
+}
+
+#[tactic(auto, unfolding(json_fields::specs::Objects::with_fields))]
+fn ack_of(alloc: Global, identity: &Identity) -> Result<JsonObject, AllocError>
+    ensures fields { IfOk result (λ o. members_of o ≡ with_fields no_members (ack_fields identity.now)) }
+    ensures valid { OnOk result (IsValidIdentity identity.now) }
+{
+    let mut object = JsonObject::new(alloc);
+    object.put_id(alloc, Key::CorrelationId, identity.correlation)?;
+    object.put_text(alloc, Key::Kind, "ack")?;
+    object.put_text(alloc, Key::Of, identity.kind.name())?;
+    object.put_name(alloc, Key::ProviderNsa, &identity.provider)?;
+    object.put_name(alloc, Key::RequesterNsa, &identity.requester)?;
+    Ok(object)
 }
 
 fn object_of(alloc: Global, message: &Message) -> Result<JsonObject, AllocError>
@@ -73,9 +113,34 @@ fn put_body(alloc: Global, object: &mut JsonObject, body: &Body) -> Result<(), A
         | Body::Release { connection }
         | Body::ReleaseConfirmed { connection }
         | Body::Terminate { connection }
-        | Body::TerminateConfirmed { connection } => {
+        | Body::TerminateConfirmed { connection }
+        | Body::QueryRecursive { connection } => {
             object.put_id(alloc, Key::ConnectionId, *connection)
         }
+        Body::QuerySummary { connection } => {
+            object.put_optional_id(alloc, Key::ConnectionId, *connection)
+        }
+        Body::QueryNotification(range) => put_range(
+            alloc,
+            object,
+            Key::EndNotificationId,
+            Key::StartNotificationId,
+            range,
+        ),
+        Body::QueryResult(range) => {
+            put_range(alloc, object, Key::EndResultId, Key::StartResultId, range)
+        }
+        _ => put_told(alloc, object, body),
+    }
+}
+
+/// What answers and notifications have, rows aside.
+#[tactic(auto, unfolding(json_fields::specs::Objects::with_fields))]
+fn put_told(alloc: Global, object: &mut JsonObject, body: &Body) -> Result<(), AllocError>
+    ensures put { OnOk result (members_of object.new ≡ with_fields (members_of object.old) (told_fields body.now)) }
+    ensures valid { OnOk result (IsValidTold body.now) }
+{
+    match body {
         Body::ReserveConfirmed(confirmation) => put_confirmation(alloc, object, confirmation),
         Body::ReserveFailed {
             connection,
@@ -88,13 +153,27 @@ fn put_body(alloc: Global, object: &mut JsonObject, body: &Body) -> Result<(), A
         Body::Error {
             connection,
             exception,
-        } => {
-            object.put_optional_id(alloc, Key::ConnectionId, *connection)?;
-            put_exception(alloc, object, exception)
-        }
+        } => put_error(alloc, object, connection, exception),
         Body::ReserveTimeout(timeout) => put_timeout(alloc, object, timeout),
         Body::ErrorEvent(notice) => put_fault(alloc, object, notice),
         Body::DataPlaneStateChange(notice) => put_plane(alloc, object, notice),
         Body::MessageDeliveryTimeout(timeout) => put_delivery(alloc, object, timeout),
+        Body::QuerySummaryConfirmed { more, .. } => object.put_flag(alloc, Key::More, *more),
+        Body::QueryNotificationConfirmed {
+            connection,
+            more,
+            ..
+        }
+        | Body::QueryResultConfirmed {
+            connection,
+            more,
+            ..
+        }
+        | Body::QueryRecursiveConfirmed {
+            connection,
+            more,
+            ..
+        } => put_listed(alloc, object, *connection, *more),
+        _ => Ok(()),
     }
 }

@@ -1,93 +1,63 @@
-//! From the bytes of a line to a message.
+//! From the bytes of a line to a parcel.
 
 ghost use Rattle.std.specs.Prelude.{◌≡◌, IfOk, Some};
 ghost use Rattle.serde_json.specs.View.{view};
-ghost use Rattle.nsi_primitive.specs.Printable.{IsPrintable, IsRequest};
+ghost use Rattle.nsi_primitive.specs.Printable.{IsPrintable};
 ghost use Rattle.json_fields.specs.Faults.{Gives};
-ghost use Rattle.json_primitives.specs.Lines.{line_of, taken_of, taken_from, kind_in, is_for_later, object_of, message_from, of_text, of_kind};
+ghost use Rattle.json_primitives.specs.Lines.{line_of, object_of, parcel_from, of_text, of_kind, as_parcel, ack_from, IsPrintableParcel};
 
+mod answers;
+mod connected;
+mod notifications;
+mod queries;
 mod requests;
+mod rows;
 
-use json_fields::reading::{at, read_json};
-use json_fields::{Key, LineFault};
-use nsi_primitive::{Kind, Message};
-use requests::{
-    abort_from, commit_from, provision_from, release_from, reserve_from, terminate_from,
+use answers::{commit_failed_from, confirmation_from, error_message_from, failed_from};
+use connected::{
+    abort_confirmation_from, abort_from, commit_confirmation_from, commit_from,
+    provision_confirmation_from, provision_from, recursive_from, release_confirmation_from,
+    release_from, response_from, terminate_confirmation_from, terminate_from,
 };
+use json_fields::reading::{at, read_json, required_id, required_kind, required_name};
+use json_fields::{Key, LineFault};
+use notifications::{delivery_from, fault_from, plane_from, timeout_from};
+use nsi_primitive::{Identity, Kind, Message, Parcel};
+use queries::{notifications_from, results_from, summary_from};
+use requests::reserve_from;
+use rows::{notice_rows_from, outcome_rows_from, recursive_rows_from, summary_rows_from};
 use serde_json::Value;
 use std::alloc::Global;
 
 /// The bytes of the longest line, without its end.
 const LONGEST_LINE: usize = 65_536;
 
-/// Reads one line without its end. Requests that no provider takes yet have the fault Unbuilt.
-pub fn read_line(alloc: Global, bytes: &[u8]) -> Result<Message, LineFault>
+/// Reads one line without its end.
+pub fn read_line(alloc: Global, bytes: &[u8]) -> Result<Parcel, LineFault>
     ensures gives { Gives result (line_of bytes.now) }
-    ensures printable { IfOk result IsPrintable }
-    ensures request { IfOk result IsRequest }
+    ensures printable { IfOk result IsPrintableParcel }
 {
     if bytes.len() > LONGEST_LINE {
         return Err(LineFault::TooLong);
     }
-    read_taken(alloc, bytes)
-}
-
-#[tactic(auto, unfolding(crate::specs::Lines::taken_of))]
-fn read_taken(alloc: Global, bytes: &[u8]) -> Result<Message, LineFault>
-    ensures gives { Gives result (taken_of bytes.now) }
-    ensures printable { IfOk result IsPrintable }
-    ensures request { IfOk result IsRequest }
-{
-    match read_json(alloc, bytes) {
-        Ok(value) => taken_from(alloc, &value),
-        Err(fault) => Err(fault),
-    }
-}
-
-fn taken_from(alloc: Global, value: &Value) -> Result<Message, LineFault>
-    ensures gives { Gives result (taken_from (view value.now)) }
-    ensures printable { IfOk result IsPrintable }
-    ensures request { IfOk result IsRequest }
-{
-    if is_for_later(kind_in(value)) {
-        return Err(LineFault::Unbuilt);
-    }
-    message_from(alloc, value)
-}
-
-fn kind_in(value: &Value) -> Option<Kind>
-    ensures { result ≡ kind_in (view value.now) }
-{
-    Kind::named(at(value, Key::Kind)?.as_str()?.as_bytes())
-}
-
-/// Whether no provider takes the kind yet, although it is read.
-fn is_for_later(kind: Option<Kind>) -> bool
-    ensures { result ≡ is_for_later kind }
-{
-    matches!(
-        kind,
-        Some(Kind::Provision | Kind::Release | Kind::Terminate)
-    )
+    read_object(alloc, bytes)
 }
 
 /// Reads an object of any length. Keys that its kind doesn't have are passed over.
 #[tactic(auto, unfolding(crate::specs::Lines::object_of))]
-pub fn read_object(alloc: Global, bytes: &[u8]) -> Result<Message, LineFault>
+pub fn read_object(alloc: Global, bytes: &[u8]) -> Result<Parcel, LineFault>
     ensures gives { Gives result (object_of bytes.now) }
-    ensures printable { IfOk result IsPrintable }
-    ensures request { IfOk result IsRequest }
+    ensures printable { IfOk result IsPrintableParcel }
 {
     match read_json(alloc, bytes) {
-        Ok(value) => message_from(alloc, &value),
+        Ok(value) => parcel_from(alloc, &value),
         Err(fault) => Err(fault),
     }
 }
 
-fn message_from(alloc: Global, value: &Value) -> Result<Message, LineFault>
-    ensures gives { Gives result (message_from (view value.now)) }
-    ensures printable { IfOk result IsPrintable }
-    ensures request { IfOk result IsRequest }
+fn parcel_from(alloc: Global, value: &Value) -> Result<Parcel, LineFault>
+    ensures gives { Gives result (parcel_from (view value.now)) }
+    ensures printable { IfOk result IsPrintableParcel }
 {
     if !value.is_object() {
         return Err(LineFault::NotObject);
@@ -101,30 +71,75 @@ fn message_from(alloc: Global, value: &Value) -> Result<Message, LineFault>
     }
 }
 
-fn of_name(alloc: Global, value: &Value, name: &[u8]) -> Result<Message, LineFault>
+fn of_name(alloc: Global, value: &Value, name: &[u8]) -> Result<Parcel, LineFault>
     ensures gives { Gives result (of_text (view value.now) (Some name.now)) }
-    ensures printable { IfOk result IsPrintable }
-    ensures request { IfOk result IsRequest }
+    ensures printable { IfOk result IsPrintableParcel }
 {
     match Kind::named(name) {
-        Some(kind) => of_kind(alloc, value, kind),
-        None if name == b"ack".as_slice() => Err(LineFault::Unbuilt),
+        Some(kind) => as_parcel(alloc, value, kind),
+        None if name == b"ack".as_slice() => ack_from(alloc, value),
         None => Err(LineFault::Bad(Key::Kind)),
     }
+}
+
+fn as_parcel(alloc: Global, value: &Value, kind: Kind) -> Result<Parcel, LineFault>
+    ensures gives { Gives result (as_parcel (of_kind (view value.now) kind)) }
+    ensures printable { IfOk result IsPrintableParcel }
+{
+    let message = of_kind(alloc, value, kind)?;
+    Ok(Parcel::Message(message))
+}
+
+/// An acknowledgement has the header of the message that it is for, and that message's kind.
+#[tactic(auto, unfolding(crate::specs::Lines::ack_from))]
+fn ack_from(alloc: Global, value: &Value) -> Result<Parcel, LineFault>
+    ensures gives { Gives result (ack_from (view value.now)) }
+    ensures printable { IfOk result IsPrintableParcel }
+{
+    let correlation = required_id(value, Key::CorrelationId)?;
+    let kind = required_kind(value, Key::Of)?;
+    let provider = required_name(alloc, value, Key::ProviderNsa)?;
+    let requester = required_name(alloc, value, Key::RequesterNsa)?;
+    Ok(Parcel::Ack(Identity {
+        requester,
+        provider,
+        correlation,
+        kind,
+    }))
 }
 
 fn of_kind(alloc: Global, value: &Value, kind: Kind) -> Result<Message, LineFault>
     ensures gives { Gives result (of_kind (view value.now) kind) }
     ensures printable { IfOk result IsPrintable }
-    ensures request { IfOk result IsRequest }
 {
     match kind {
         Kind::Reserve => reserve_from(alloc, value),
+        Kind::ReserveResponse => response_from(alloc, value),
+        Kind::ReserveConfirmed => confirmation_from(alloc, value),
+        Kind::ReserveFailed => failed_from(alloc, value),
         Kind::ReserveCommit => commit_from(alloc, value),
+        Kind::ReserveCommitConfirmed => commit_confirmation_from(alloc, value),
+        Kind::ReserveCommitFailed => commit_failed_from(alloc, value),
         Kind::ReserveAbort => abort_from(alloc, value),
+        Kind::ReserveAbortConfirmed => abort_confirmation_from(alloc, value),
         Kind::Provision => provision_from(alloc, value),
+        Kind::ProvisionConfirmed => provision_confirmation_from(alloc, value),
         Kind::Release => release_from(alloc, value),
+        Kind::ReleaseConfirmed => release_confirmation_from(alloc, value),
         Kind::Terminate => terminate_from(alloc, value),
-        _ => Err(LineFault::Unbuilt),
+        Kind::TerminateConfirmed => terminate_confirmation_from(alloc, value),
+        Kind::Error => error_message_from(alloc, value),
+        Kind::ReserveTimeout => timeout_from(alloc, value),
+        Kind::ErrorEvent => fault_from(alloc, value),
+        Kind::DataPlaneStateChange => plane_from(alloc, value),
+        Kind::MessageDeliveryTimeout => delivery_from(alloc, value),
+        Kind::QuerySummary => summary_from(alloc, value),
+        Kind::QueryNotification => notifications_from(alloc, value),
+        Kind::QueryResult => results_from(alloc, value),
+        Kind::QueryRecursive => recursive_from(alloc, value),
+        Kind::QuerySummaryConfirmed => summary_rows_from(alloc, value),
+        Kind::QueryNotificationConfirmed => notice_rows_from(alloc, value),
+        Kind::QueryResultConfirmed => outcome_rows_from(alloc, value),
+        Kind::QueryRecursiveConfirmed => recursive_rows_from(alloc, value),
     }
 }

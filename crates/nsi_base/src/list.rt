@@ -1,6 +1,6 @@
 //! A list that contracts see as one.
 
-ghost use Rattle.std.specs.Prelude.{◌≡◌, [], ◌∷◌, ◌++◌, OnOk, OnErr};
+ghost use Rattle.std.specs.Prelude.{◌≡◌, [], ◌∷◌, ◌++◌, take, OnOk, OnErr};
 ghost use Rattle.std.specs.Prelude.{List as Sequence};
 
 use std::alloc::{AllocError, Global};
@@ -52,6 +52,15 @@ impl<T> List<T> {
         ensures { (xs : Sequence T) (x : T) → self.old ≡ xs ++ x ∷ [] → self.new ≡ xs }
     {
         let _ = self.items.pop();
+    }
+
+    /// Keeps the first items. It takes no memory.
+    pub fn shorten(&mut self, count: usize)
+    where
+        T: Drop,
+        ensures { self.new ≡ take count self.old }
+    {
+        self.items.truncate(count);
     }
 
     pub fn items(&self) -> &[T]

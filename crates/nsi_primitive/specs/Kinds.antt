@@ -68,6 +68,14 @@ is_request_kind Kind.QueryResult = true
 is_request_kind Kind.QueryRecursive = true
 is_request_kind _ = false
 
+-- the requests that ask what an agent knows
+abbrev pub is_query_kind : Kind → Bool
+is_query_kind Kind.QuerySummary = true
+is_query_kind Kind.QueryNotification = true
+is_query_kind Kind.QueryResult = true
+is_query_kind Kind.QueryRecursive = true
+is_query_kind _ = false
+
 -- an error's name in a line
 unfoldable pub error_text : ErrorName → List ℕ
 error_text ErrorName.Payload = codes "PAYLOAD"
@@ -85,9 +93,28 @@ error_text ErrorName.NoPath = codes "NO_PATH"
 error_text ErrorName.Child = codes "CHILD"
 error_text ErrorName.Timeout = codes "TIMEOUT"
 
+-- every error
+abbrev pub errors : List ErrorName
+errors =
+    ErrorName.Payload ∷ ErrorName.Version ∷ ErrorName.WrongProvider ∷ ErrorName.Nonexistent ∷ ErrorName.Gone ∷ ErrorName.InvalidTransition ∷ ErrorName.VersionLow ∷
+    ErrorName.UnknownStp ∷ ErrorName.Schedule ∷ ErrorName.Bandwidth ∷ ErrorName.Passed ∷ ErrorName.NoPath ∷ ErrorName.Child ∷ ErrorName.Timeout ∷ []
+
+-- the first of the errors that has the name
+unfoldable pub first_error_named : List ℕ → List ErrorName → Option ErrorName
+first_error_named name [] = None
+first_error_named name (error ∷ others) = if bytes_eq name (error_text error) then Some error else first_error_named name others
+
+-- the error that has the name
+unfoldable pub error_named : List ℕ → Option ErrorName
+error_named name = first_error_named name errors
+
 -- an event's name in a line
 unfoldable pub event_text : FaultEvent → List ℕ
 event_text FaultEvent.ForcedEnd = codes "forcedEnd"
+
+-- the event that has the name
+abbrev pub event_named : List ℕ → Option FaultEvent
+event_named name = if bytes_eq name (event_text FaultEvent.ForcedEnd) then Some FaultEvent.ForcedEnd else None
 
 -- a directionality's name in a line
 unfoldable pub direction_text : Directionality → List ℕ

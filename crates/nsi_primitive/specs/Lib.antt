@@ -2,3 +2,4 @@ pub mod Ids
 pub mod Kinds
 pub mod Messages
 pub mod Printable
+pub mod States

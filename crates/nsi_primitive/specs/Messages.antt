@@ -1,6 +1,6 @@
 -- Messages: their kinds and identities.
 use Rattle.std.specs.Prelude.{ℕ, Bool, Option, Some, None}
-use Rattle.nsi_primitive.specs.Kinds.{is_request_kind}
+use Rattle.nsi_primitive.specs.Kinds.{is_request_kind, is_query_kind}
 use Rattle.nsi_primitive.specs.declared.kind.Kind.{Kind}
 use Rattle.nsi_primitive.specs.declared.message.Body.{Body}
 use Rattle.nsi_primitive.specs.declared.message.Identity.{Identity}
@@ -28,10 +28,22 @@ kind_of (Body.ReserveTimeout _) = Kind.ReserveTimeout
 kind_of (Body.ErrorEvent _) = Kind.ErrorEvent
 kind_of (Body.DataPlaneStateChange _) = Kind.DataPlaneStateChange
 kind_of (Body.MessageDeliveryTimeout _) = Kind.MessageDeliveryTimeout
+kind_of (Body.QuerySummary _) = Kind.QuerySummary
+kind_of (Body.QueryNotification _) = Kind.QueryNotification
+kind_of (Body.QueryResult _) = Kind.QueryResult
+kind_of (Body.QueryRecursive _) = Kind.QueryRecursive
+kind_of (Body.QuerySummaryConfirmed _ _) = Kind.QuerySummaryConfirmed
+kind_of (Body.QueryNotificationConfirmed _ _ _) = Kind.QueryNotificationConfirmed
+kind_of (Body.QueryResultConfirmed _ _ _) = Kind.QueryResultConfirmed
+kind_of (Body.QueryRecursiveConfirmed _ _ _) = Kind.QueryRecursiveConfirmed
 
 -- whether it asks for something
 abbrev pub is_request : Body → Bool
 is_request body = is_request_kind (kind_of body)
+
+-- whether it asks what an agent knows
+abbrev pub is_query : Body → Bool
+is_query body = is_query_kind (kind_of body)
 
 -- the connection that a request is about, where it names one
 unfoldable pub connection_of : Body → Option ℕ
@@ -41,6 +53,10 @@ connection_of (Body.ReserveAbort connection) = Some connection
 connection_of (Body.Provision connection) = Some connection
 connection_of (Body.Release connection) = Some connection
 connection_of (Body.Terminate connection) = Some connection
+connection_of (Body.QuerySummary connection) = connection
+connection_of (Body.QueryNotification range) = Some range.connection
+connection_of (Body.QueryResult range) = Some range.connection
+connection_of (Body.QueryRecursive connection) = Some connection
 connection_of _ = None
 
 -- the two agents, the correlation and the kind

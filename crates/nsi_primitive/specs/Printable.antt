@@ -1,5 +1,6 @@
 -- Which messages have a spelling as a line.
 use Rattle.std.specs.Prelude.{◌≡◌, ◌≤◌, ℕ, List, Bool, true, false, length, Option, None, IfSome, IfNone, IsSome}
+use Rattle.std.specs.List.{All}
 use Rattle.std.specs.Str.{bytes_eq}
 use Rattle.nsi_primitive.specs.Messages.{is_request}
 use Rattle.nsi_primitive.specs.declared.kind.ErrorName.{ErrorName}
@@ -56,6 +57,14 @@ IsPrintableBody (Body.ReserveTimeout t) = Unit {0}
 IsPrintableBody (Body.ErrorEvent notice) = Unit {0}
 IsPrintableBody (Body.DataPlaneStateChange notice) = Unit {0}
 IsPrintableBody (Body.MessageDeliveryTimeout timeout) = Unit {0}
+IsPrintableBody (Body.QuerySummary connection) = Unit {0}
+IsPrintableBody (Body.QueryNotification range) = Unit {0}
+IsPrintableBody (Body.QueryResult range) = Unit {0}
+IsPrintableBody (Body.QueryRecursive connection) = Unit {0}
+IsPrintableBody (Body.QuerySummaryConfirmed more rows) = All (λ r. IsShort 256 r.description × IsShort 128 r.global) rows
+IsPrintableBody (Body.QueryNotificationConfirmed connection more rows) = Unit {0}
+IsPrintableBody (Body.QueryResultConfirmed connection more rows) = Unit {0}
+IsPrintableBody (Body.QueryRecursiveConfirmed connection more rows) = Unit {0}
 
 -- what the types of a message leave open, so that it can be written and read again
 abbrev pub IsPrintable : Message → Type 0

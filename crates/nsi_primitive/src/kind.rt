@@ -1,7 +1,7 @@
 //! The kinds of primitives, the names of errors, and directions.
 
 ghost use Rattle.std.specs.Prelude.{◌≡◌};
-ghost use Rattle.nsi_primitive.specs.Kinds.{first_named};
+ghost use Rattle.nsi_primitive.specs.Kinds.{first_named, first_error_named};
 
 const KINDS: [Kind; 28] = [
     Kind::Reserve,
@@ -32,6 +32,23 @@ const KINDS: [Kind; 28] = [
     Kind::QueryResultConfirmed,
     Kind::QueryRecursive,
     Kind::QueryRecursiveConfirmed,
+];
+
+const ERRORS: [ErrorName; 14] = [
+    ErrorName::Payload,
+    ErrorName::Version,
+    ErrorName::WrongProvider,
+    ErrorName::Nonexistent,
+    ErrorName::Gone,
+    ErrorName::InvalidTransition,
+    ErrorName::VersionLow,
+    ErrorName::UnknownStp,
+    ErrorName::Schedule,
+    ErrorName::Bandwidth,
+    ErrorName::Passed,
+    ErrorName::NoPath,
+    ErrorName::Child,
+    ErrorName::Timeout,
 ];
 
 /// A primitive of the Connection Service (GFD.237, section 8). Each kind is written by the standard's name.
@@ -68,7 +85,7 @@ pub enum Kind {
 }
 
 impl Kind {
-    ghost use Rattle.nsi_primitive.specs.Kinds.{kind_name, kind_named, is_request_kind};
+    ghost use Rattle.nsi_primitive.specs.Kinds.{kind_name, kind_named, is_request_kind, is_query_kind};
 
     /// The name by which the kind is written.
     #[tactic(auto, unfolding(crate::specs::Kinds::kind_name))]
@@ -133,6 +150,16 @@ impl Kind {
                 | Kind::QueryRecursive
         )
     }
+
+    /// Whether it is one of the requests that ask what an agent knows (GFD.237, section 8, the queries).
+    pub fn is_query(self) -> bool
+        ensures { result ≡ is_query_kind self }
+    {
+        matches!(
+            self,
+            Kind::QuerySummary | Kind::QueryNotification | Kind::QueryResult | Kind::QueryRecursive
+        )
+    }
 }
 
 #[tactic(auto, unfolding(crate::specs::Kinds::first_named))]
@@ -167,7 +194,7 @@ pub enum ErrorName {
 }
 
 impl ErrorName {
-    ghost use Rattle.nsi_primitive.specs.Kinds.{error_text};
+    ghost use Rattle.nsi_primitive.specs.Kinds.{error_text, error_named};
 
     /// The name by which the error is written.
     #[tactic(auto, unfolding(crate::specs::Kinds::error_text))]
@@ -191,6 +218,26 @@ impl ErrorName {
             ErrorName::Timeout => "TIMEOUT",
         }
     }
+
+    /// The error that is written so.
+    #[tactic(auto, unfolding(crate::specs::Kinds::error_named))]
+    pub fn named(name: &[u8]) -> Option<ErrorName>
+        ensures { result ≡ error_named name.now }
+    {
+        first_error_named(name, &ERRORS)
+    }
+}
+
+#[tactic(auto, unfolding(crate::specs::Kinds::first_error_named))]
+fn first_error_named(name: &[u8], errors: &[ErrorName]) -> Option<ErrorName>
+    ensures { result ≡ first_error_named name.now errors.now }
+{
+    for error in errors {
+        if name == error.text().as_bytes() {
+            return Some(*error);
+        }
+    }
+    None
 }
 
 /// What ended a connection before its time (GFD.237, errorEvent). Of the standard's events this one occurs.
@@ -200,7 +247,7 @@ pub enum FaultEvent {
 }
 
 impl FaultEvent {
-    ghost use Rattle.nsi_primitive.specs.Kinds.{event_text};
+    ghost use Rattle.nsi_primitive.specs.Kinds.{event_text, event_named};
 
     /// The name by which the event is written.
     #[tactic(auto, unfolding(crate::specs::Kinds::event_text))]
@@ -209,6 +256,17 @@ impl FaultEvent {
     {
         match self {
             FaultEvent::ForcedEnd => "forcedEnd",
+        }
+    }
+
+    /// The event that is written so.
+    pub fn named(name: &[u8]) -> Option<FaultEvent>
+        ensures { result ≡ event_named name.now }
+    {
+        if name == FaultEvent::ForcedEnd.text().as_bytes() {
+            Some(FaultEvent::ForcedEnd)
+        } else {
+            None
         }
     }
 }

@@ -1,11 +1,12 @@
 //! Messages: a header and a body (GFD.237, section 8).
 
 ghost use Rattle.std.specs.Prelude.{◌≡◌, IfOk};
-ghost use Rattle.nsi_primitive.specs.Messages.{kind_of, is_request, connection_of, identity};
+ghost use Rattle.nsi_primitive.specs.Messages.{kind_of, is_request, is_query, connection_of, identity};
 
 use crate::id::Id;
 use crate::kind::{Directionality, ErrorName, FaultEvent, Kind};
-use nsi_base::{Flow, HoldTime, Interval, Mbps, Name, Second, Text, Version};
+use crate::state::{Lsm, Psm, Rsm};
+use nsi_base::{Flow, HoldTime, Interval, List, Mbps, Name, Second, Text, Version};
 use std::alloc::AllocError;
 
 /// Who asks whom, and under which correlationId. An answer has the header of its request.
@@ -167,6 +168,49 @@ pub struct DeliveryTimeout {
     pub time: Second,
 }
 
+/// Which notifications or results of a connection are asked for, by their numbers (GFD.237, queryNotification and
+/// queryResult): from `start` to `end`, both of them included. Without a start they are all from the first one, and
+/// without an end all up to the last.
+#[derive(Clone, Copy, Debug, PartialEq, Eq)]
+pub struct NumberRange {
+    pub connection: Id,
+    pub end: Option<u64>,
+    pub start: Option<u64>,
+}
+
+/// A connection in the answer to a querySummary (GFD.237, querySummaryConfirmed). Capacity, times and version are those
+/// of the last committed criteria, where there are some.
+#[derive(Debug, Drop)]
+pub struct SummaryRow {
+    pub active: bool,
+    pub capacity: Option<Mbps>,
+    pub connection: Id,
+    pub description: Option<Text>,
+    pub dest: Name,
+    pub directionality: Directionality,
+    pub end: Option<Second>,
+    pub global: Option<Text>,
+    pub lifecycle: Lsm,
+    pub provision: Psm,
+    pub reservation: Rsm,
+    pub source: Name,
+    pub start: Option<Second>,
+    pub version: Option<Version>,
+}
+
+/// A connection in the answer to a queryRecursive (GFD.237, queryRecursiveConfirmed): that of the agent that answers at
+/// depth 0, and below it those of its children, one deeper.
+#[derive(Debug, Drop)]
+pub struct RecursiveRow {
+    pub connection: Id,
+    pub depth: u8,
+    pub lifecycle: Lsm,
+    pub provider: Name,
+    pub provision: Psm,
+    pub reservation: Rsm,
+    pub version: Option<Version>,
+}
+
 /// What a message says, by its kind.
 #[derive(Debug, Drop)]
 pub enum Body {
@@ -221,6 +265,35 @@ pub enum Body {
     ErrorEvent(FaultNotice),
     DataPlaneStateChange(PlaneNotice),
     MessageDeliveryTimeout(DeliveryTimeout),
+    /// Of one connection, or of all.
+    QuerySummary {
+        connection: Option<Id>,
+    },
+    QueryNotification(NumberRange),
+    QueryResult(NumberRange),
+    QueryRecursive {
+        connection: Id,
+    },
+    /// `more` where rows were left out, here and below.
+    QuerySummaryConfirmed {
+        more: bool,
+        reservations: List<SummaryRow>,
+    },
+    QueryNotificationConfirmed {
+        connection: Id,
+        more: bool,
+        notifications: List<Notice>,
+    },
+    QueryResultConfirmed {
+        connection: Id,
+        more: bool,
+        results: List<Outcome>,
+    },
+    QueryRecursiveConfirmed {
+        connection: Id,
+        more: bool,
+        reservations: List<RecursiveRow>,
+    },
 }
 
 /// A primitive on its way from one agent to another.
@@ -239,6 +312,13 @@ pub struct Identity {
     pub kind: Kind,
 }
 
+/// What comes to an agent: a message, or the acknowledgement of one that it sent.
+#[derive(Debug, Drop)]
+pub enum Parcel {
+    Message(Message),
+    Ack(Identity),
+}
+
 impl Body {
     /// The connection that a request is about, where it names one.
     #[tactic(auto, unfolding(crate::specs::Messages::connection_of))]
@@ -251,7 +331,10 @@ impl Body {
             | Body::ReserveAbort { connection }
             | Body::Provision { connection }
             | Body::Release { connection }
-            | Body::Terminate { connection } => Some(*connection),
+            | Body::Terminate { connection }
+            | Body::QueryRecursive { connection } => Some(*connection),
+            Body::QuerySummary { connection } => *connection,
+            Body::QueryNotification(range) | Body::QueryResult(range) => Some(range.connection),
             _ => None,
         }
     }
@@ -282,6 +365,14 @@ impl Message {
             Body::ErrorEvent(_) => Kind::ErrorEvent,
             Body::DataPlaneStateChange(_) => Kind::DataPlaneStateChange,
             Body::MessageDeliveryTimeout(_) => Kind::MessageDeliveryTimeout,
+            Body::QuerySummary { .. } => Kind::QuerySummary,
+            Body::QueryNotification(_) => Kind::QueryNotification,
+            Body::QueryResult(_) => Kind::QueryResult,
+            Body::QueryRecursive { .. } => Kind::QueryRecursive,
+            Body::QuerySummaryConfirmed { .. } => Kind::QuerySummaryConfirmed,
+            Body::QueryNotificationConfirmed { .. } => Kind::QueryNotificationConfirmed,
+            Body::QueryResultConfirmed { .. } => Kind::QueryResultConfirmed,
+            Body::QueryRecursiveConfirmed { .. } => Kind::QueryRecursiveConfirmed,
         }
     }
 
@@ -290,6 +381,13 @@ impl Message {
         ensures { result ≡ is_request self.now.body }
     {
         self.kind().is_request()
+    }
+
+    /// Whether it asks what an agent knows, and changes nothing.
+    pub fn is_query(&self) -> bool
+        ensures { result ≡ is_query self.now.body }
+    {
+        self.kind().is_query()
     }
 
     pub fn identity(&self) -> Result<Identity, AllocError>

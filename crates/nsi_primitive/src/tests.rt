@@ -60,6 +60,10 @@ fn kinds_are_named(rt: HostRuntime) {
     }
     assert!(rt; Kind::named(b"Reserve").is_none());
     assert_eq!(rt; ErrorName::WrongProvider.text(), "WRONG_PROVIDER");
+    assert!(rt; ErrorName::named(b"TIMEOUT") == Some(ErrorName::Timeout));
+    assert!(rt; ErrorName::named(b"Timeout").is_none());
     assert_eq!(rt; FaultEvent::ForcedEnd.text(), "forcedEnd");
+    assert!(rt; FaultEvent::named(b"forcedEnd") == Some(FaultEvent::ForcedEnd));
+    assert!(rt; FaultEvent::named(b"ForcedEnd").is_none());
     assert!(rt; Directionality::named(b"Bidirectional") == Some(Directionality::Bidirectional));
 }

@@ -6,7 +6,7 @@ use Rattle.std.proofs.lemmas.List.{map-append}
 use Rattle.std.proofs.lemmas.List.Folds.{concat-append}
 use Rattle.nsi_primitive.specs.declared.entry.Entry.{Entry}
 use Rattle.nsi_primitive.specs.declared.message.Message.{Message}
-use Rattle.json_fields.specs.declared.fault.LineFault.{LineFault}
+use Rattle.json_primitives.specs.declared.payload.PayloadFault.{PayloadFault}
 use Rattle.json_primitives.specs.Spelling.{spelling}
 use Rattle.provider_agent.specs.Home.{Home}
 use Rattle.provider_agent.specs.Runs.{after_all}
@@ -61,7 +61,7 @@ pub woven_messages : (ms : List Message) → IsWoven ms (lines_of_messages ms)
 woven_messages [] = woven_none
 woven_messages (m ∷ ms) = let r = woven_messages ms in (Ok m ∷ r.0, ap (λ (xs : List Message). m ∷ xs) r.1, ap (λ t. as_line (spelling m) ++ t) r.2)
 
-pub woven_fault : (number : ℕ) (fault : LineFault) → IsWoven [] (payload number fault)
+pub woven_fault : (number : ℕ) (fault : PayloadFault) → IsWoven [] (payload number fault)
 woven_fault number fault = (Err (number, fault) ∷ [], refl, sym (append-nil (payload number fault)))
 
 ---- Lines from a state on

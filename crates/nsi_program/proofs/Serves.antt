@@ -1,14 +1,20 @@
 -- How a provider that serves lines goes on.
-use Rattle.std.proofs.Common.{◌≡◌, ◌≤◌, ◌<◌, ◌+◌, inl, inr, ℕ, List, [], ◌∷◌, length, leb, eqb, cond, Bool, true, false, Option, Some, None, Result, Ok, Err, refl, ap, ◌∙◌, subst, arith}
+use Rattle.std.proofs.Common.{◌≡◌, ◌≤◌, ◌<◌, ◌+◌, inl, inr, ℕ, List, [], ◌∷◌, length, leb, eqb, cond, Bool, true, false, Option, Some, None, Result, Ok, Err, refl, not, ap, ◌∙◌, subst, arith}
 use Rattle.std.specs.Prelude.{nat_eq, codes}
 use Rattle.std.specs.List.{starts_with}
 use Rattle.std.proofs.lemmas.Bool.Decides.{nat_tests}
+use Rattle.nsi_primitive.specs.Messages.{is_request, is_query}
 use Rattle.nsi_primitive.specs.declared.entry.Entry.{Entry}
 use Rattle.nsi_primitive.specs.declared.entry.Input.{Input}
+use Rattle.nsi_primitive.specs.Printable.{IsPrintable}
+use Rattle.nsi_primitive.specs.declared.message.Body.{Body}
 use Rattle.nsi_primitive.specs.declared.message.Message.{Message}
+use Rattle.nsi_primitive.specs.declared.message.Parcel.{Parcel}
 use Rattle.json_fields.specs.declared.fault.LineFault.{LineFault}
+use Rattle.json_fields.specs.declared.key.Key.{Key}
 use Rattle.json_primitives.specs.Lines.{line_of}
-use Rattle.json_primitives.proofs.ReadRequests.{line_printable}
+use Rattle.json_primitives.specs.declared.payload.PayloadFault.{PayloadFault}
+use Rattle.json_primitives.proofs.ReadParcels.{line_printable}
 use Rattle.stp_topology.specs.declared.network.Network.{Network}
 use Rattle.provider_agent.specs.Home.{Home, home_of}
 use Rattle.provider_agent.specs.Runs.{after_all}
@@ -21,7 +27,7 @@ use Rattle.provider_run.specs.Works.{all_works, with_works}
 use Rattle.provider_run.proofs.Working.{taken_after, first_state}
 use Rattle.provider_run.proofs.WorkRuns.{with_works_run}
 use Rattle.provider_run.proofs.Idle.{idle_after}
-use Rattle.nsi_program.specs.Hearing.{heard, read, requested, ticked, second_in, IsTimely, IsTimelyEntry}
+use Rattle.nsi_program.specs.Hearing.{heard, read, unserved, heard_unless, requested, ticked, second_in, IsTimely, IsTimelyEntry}
 use Rattle.nsi_program.specs.Lines.{Served, answered, entered, lines_of_messages}
 use Rattle.nsi_program.specs.Runs.{entries_of, run_of, events_of, with_sync, IsSafeText, IsServed}
 use Rattle.nsi_program.specs.Runs.IsServed.{served_all, served_some}
@@ -40,23 +46,36 @@ ticked_timely : (s : State) (second : Option ℕ) → IsTimely s (ticked second 
 ticked_timely s None = tt
 ticked_timely s (Some second) = by_test (leb s.now second) refl
   where
-    by_test : (b : Bool) → leb s.now second ≡ b → IsTimely s (cond b (Heard.Entry (record { second = second; input = Input.Tick })) (Heard.Fault LineFault.Tick))
-    by_test true e = record { on_time = e; printable = tt }
+    by_test : (b : Bool) → leb s.now second ≡ b → IsTimely s (cond b (Heard.Entry (record { second = second; input = Input.Tick })) (Heard.Fault PayloadFault.Tick))
+    by_test true e = record { own = refl; on_time = e; printable = tt }
     by_test false e = tt
 
-requested_timely : (s : State) (line : List ℕ) (m : Message) → line_of line ≡ Ok m → IsTimely s (requested m s)
-requested_timely s line m e = by_test (is_seen s m)
+requested_timely : (s : State) (m : Message) → IsPrintable m → is_query m.body ≡ false → IsTimely s (requested m s)
+requested_timely s m p q = by_test (is_seen s m)
   where
     now_is : (n : ℕ) → eqb n n ≡ true
     now_is n = grind arith
 
     by_test : (b : Bool) → IsTimely s (cond b Heard.Nothing (Heard.Entry (record { second = s.now; input = Input.Got m })))
     by_test true = tt
-    by_test false = record { on_time = now_is s.now; printable = line_printable line m e }
+    by_test false = record { own = ap not q; on_time = now_is s.now; printable = p }
 
-read_timely : (s : State) (line : List ℕ) (r : Result Message LineFault) → line_of line ≡ r → IsTimely s (read r s)
+served_query : (body : Body) → unserved body ≡ None → is_query body ≡ false
+served_query body e = by_tests (is_request body) (is_query body) e
+  where
+    by_tests : (a b : Bool) → cond a (cond b (Some PayloadFault.Unbuilt) None) (Some (PayloadFault.Line (LineFault.Bad Key.Kind))) ≡ None → b ≡ false
+    by_tests true false h = refl
+    by_tests true true h = absurd (cc)
+    by_tests false b h = absurd (cc)
+
+message_timely : (s : State) (m : Message) (o : Option PayloadFault) → unserved m.body ≡ o → IsPrintable m → IsTimely s (heard_unless o m s)
+message_timely s m (Some fault) e p = tt
+message_timely s m None e p = requested_timely s m p (served_query m.body e)
+
+read_timely : (s : State) (line : List ℕ) (r : Result Parcel LineFault) → line_of line ≡ r → IsTimely s (read r s)
 read_timely s line (Err fault) e = tt
-read_timely s line (Ok m) e = requested_timely s line m e
+read_timely s line (Ok (Parcel.Message m)) e = message_timely s m (unserved m.body) refl (line_printable line (Parcel.Message m) e)
+read_timely s line (Ok (Parcel.Ack identity)) e = tt
 
 pub timely : (s : State) (line : List ℕ) → IsTimely s (heard s line)
 unfolding heard
@@ -73,7 +92,10 @@ timely s line = by_empty (eqb (length line) 0)
 ---- An entry and its work
 
 may_be_taken : (s : State) (e : Entry) → IsTimelyEntry s e → s.taken ≤ 2000000 → may_take s e ≡ true
-may_be_taken s e timely few = let on_time = timely.on_time in grind (arith, nat_tests, on_time)
+may_be_taken s e timely few =
+    let own = timely.own in
+    let on_time = timely.on_time in
+    grind (arith, nat_tests, own, on_time)
 
 pub entry_text : (home : Home) (stp_of : List ℕ → Option ℕ) (s : State) (e : Entry) → IsGood home s → s.taken ≤ 2000000 → IsTimelyEntry s e
     → IsTextOf home stp_of s (with_works home stp_of s e) (lines_of_messages (after_all home stp_of s (with_works home stp_of s e)).out)
@@ -83,7 +105,7 @@ entry_text home stp_of s e good few timely =
     let next_good : IsGood home next = good_after home stp_of s e good timely.printable in
     record {
       run = with_works_run home stp_of s e good may timely.printable few;
-      idle = λ h. ap waiting_work (first_state home stp_of s e (all_works home stp_of next)) ∙ idle_after home stp_of next next_good (omega (arith, taken_after home stp_of s e may, next_good.few));
+      idle = λ h. ap waiting_work (first_state home stp_of s e (all_works home stp_of next)) ∙ idle_after home stp_of next next_good (omega (arith, taken_after home stp_of s e may, few));
       woven = woven_messages (after_all home stp_of s (with_works home stp_of s e)).out;
     }
 

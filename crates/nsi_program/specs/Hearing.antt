@@ -2,23 +2,46 @@
 use Rattle.std.specs.Prelude.{◌≡◌, ℕ, List, ◌==◌, nat_eq, nat_le, length, drop, codes, true, if◌then◌else◌, Option, Some, None, Result, Ok, Err}
 use Rattle.std.specs.List.{starts_with}
 use Rattle.nsi_base.specs.Digits.{number_of}
+use Rattle.nsi_primitive.specs.Messages.{is_request, is_query}
 use Rattle.nsi_primitive.specs.declared.entry.Entry.{Entry}
 use Rattle.nsi_primitive.specs.declared.entry.Input.{Input}
+use Rattle.nsi_primitive.specs.declared.message.Body.{Body}
 use Rattle.nsi_primitive.specs.declared.message.Message.{Message}
+use Rattle.nsi_primitive.specs.declared.message.Parcel.{Parcel}
+use Rattle.json_fields.specs.declared.key.Key.{Key}
 use Rattle.json_fields.specs.declared.fault.LineFault.{LineFault}
 use Rattle.json_primitives.specs.Lines.{line_of}
+use Rattle.json_primitives.specs.declared.payload.PayloadFault.{PayloadFault}
 use Rattle.provider_agent.specs.Safety.{IsPrintableInput}
 use Rattle.provider_agent.specs.State.{State}
-use Rattle.provider_agent.specs.Steps.{is_seen, is_on_time}
+use Rattle.provider_agent.specs.Steps.{is_seen, is_for_provider, is_on_time}
 use Rattle.nsi_program.specs.declared.hearing.Heard.{Heard}
 
 -- a request says nothing where it was taken before
 abbrev pub requested : Message → State → Heard
 requested m s = if is_seen s m then Heard.Nothing else Heard.Entry (record { second = s.now; input = Input.Got m })
 
-abbrev pub read : Result Message LineFault → State → Heard
-read (Err fault) s = Heard.Fault fault
-read (Ok m) s = requested m s
+-- why a message isn't served: it is no request, or a query, which isn't built yet
+abbrev pub unserved : Body → Option PayloadFault
+unserved body =
+    if is_request body then (if is_query body then Some PayloadFault.Unbuilt else None)
+    else Some (PayloadFault.Line (LineFault.Bad Key.Kind))
+
+abbrev pub heard_unless : Option PayloadFault → Message → State → Heard
+heard_unless (Some fault) m s = Heard.Fault fault
+heard_unless None m s = requested m s
+
+abbrev pub message_heard : Message → State → Heard
+message_heard m s = heard_unless (unserved m.body) m s
+
+-- nothing waits for an acknowledgement
+abbrev pub parcel_heard : Parcel → State → Heard
+parcel_heard (Parcel.Message m) s = message_heard m s
+parcel_heard (Parcel.Ack identity) s = Heard.Nothing
+
+abbrev pub read : Result Parcel LineFault → State → Heard
+read (Err fault) s = Heard.Fault (PayloadFault.Line fault)
+read (Ok p) s = parcel_heard p s
 
 -- the second of a line of the clock: one blank, and a second
 abbrev pub second_in : List ℕ → Option ℕ
@@ -26,8 +49,8 @@ second_in line = if starts_with nat_eq line (codes "tick ") then number_of 0 253
 
 -- the clock doesn't go back
 abbrev pub ticked : Option ℕ → State → Heard
-ticked None s = Heard.Fault LineFault.Tick
-ticked (Some second) s = if nat_le s.now second then Heard.Entry (record { second = second; input = Input.Tick }) else Heard.Fault LineFault.Tick
+ticked None s = Heard.Fault PayloadFault.Tick
+ticked (Some second) s = if nat_le s.now second then Heard.Entry (record { second = second; input = Input.Tick }) else Heard.Fault PayloadFault.Tick
 
 -- empty lines are skipped
 unfoldable pub heard : State → List ℕ → Heard
@@ -36,8 +59,9 @@ heard s line =
     else if starts_with nat_eq line (codes "tick") then ticked (second_in line) s
     else read (line_of line) s
 
--- the entry may be taken now, and its message has a spelling
+-- a provider may take the entry now, and its message has a spelling
 pub record IsTimelyEntry (s : State) (e : Entry) : Type 0 where
+  pub own : is_for_provider e.input ≡ true
   pub on_time : is_on_time e.input e.second s.now ≡ true
   pub printable : IsPrintableInput e.input
 

@@ -3,10 +3,9 @@ use Rattle.std.specs.Prelude.{ℕ, ◌+◌, List, [], ◌∷◌, ◌++◌, nat_l
 use Rattle.std.specs.List.{concat}
 use Rattle.nsi_primitive.specs.declared.entry.Entry.{Entry}
 use Rattle.nsi_primitive.specs.declared.message.Message.{Message}
-use Rattle.json_fields.specs.Faults.{fault_name, fault_key}
-use Rattle.json_fields.specs.declared.fault.LineFault.{LineFault}
 use Rattle.json_primitives.specs.Spelling.{spelling}
 use Rattle.json_primitives.specs.Payload.{payload_spelling}
+use Rattle.json_primitives.specs.declared.payload.PayloadFault.{PayloadFault}
 use Rattle.provider_agent.specs.Runs.{after_all}
 use Rattle.provider_agent.specs.State.{Stepped}
 use Rattle.provider_run.specs.Works.{with_works}
@@ -27,9 +26,9 @@ pub record Served : Type 0 where
   pub serving : Serving
   pub text : List ℕ
 
--- the answer to a line that can't be read: its fault, the key of the fault, and the number of the line
-abbrev pub payload : ℕ → LineFault → List ℕ
-payload number fault = as_line (payload_spelling (fault_name fault) (fault_key fault) number)
+-- the answer to a line that can't be read or isn't served: its fault, the key of the fault, and the number of the line
+abbrev pub payload : ℕ → PayloadFault → List ℕ
+payload number fault = as_line (payload_spelling fault number)
 
 -- nothing is taken
 abbrev pub says : Serving → List ℕ → Option Served

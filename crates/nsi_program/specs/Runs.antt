@@ -3,7 +3,7 @@ use Rattle.std.specs.Prelude.{◌≡◌, ℕ, ◌+◌, List, [], ◌∷◌, ◌+
 use Rattle.std.specs.List.{concat, flat_map}
 use Rattle.nsi_primitive.specs.declared.entry.Entry.{Entry}
 use Rattle.nsi_primitive.specs.declared.message.Message.{Message}
-use Rattle.json_fields.specs.declared.fault.LineFault.{LineFault}
+use Rattle.json_primitives.specs.declared.payload.PayloadFault.{PayloadFault}
 use Rattle.json_primitives.specs.Spelling.{spelling}
 use Rattle.stp_topology.specs.declared.network.Network.{Network}
 use Rattle.stp_topology.specs.Network.{nothing, first_provider}
@@ -44,7 +44,7 @@ events_of home stp_of s (line ∷ lines) =
 
 -- a line of the text: a message, or the fault of the line of that number
 abbrev pub Piece : Type 0
-Piece = Result Message (ℕ × LineFault)
+Piece = Result Message (ℕ × PayloadFault)
 
 abbrev pub piece_text : Piece → List ℕ
 piece_text (Ok m) = as_line (spelling m)

@@ -1,25 +1,26 @@
 //! What a line behind the topology says.
 
-ghost use Rattle.std.specs.Prelude.{◌≡◌, IfOk};
+ghost use Rattle.std.specs.Prelude.{◌≡◌, false, IfOk};
+ghost use Rattle.nsi_primitive.specs.Messages.{is_query};
 ghost use Rattle.nsi_primitive.specs.Printable.{IsPrintable};
 ghost use Rattle.provider_agent.specs.State.{State};
-ghost use Rattle.nsi_program.specs.Hearing.{requested, second_in, ticked, heard, IsTimely};
+ghost use Rattle.json_primitives.specs.Lines.{IsPrintableParcel};
+ghost use Rattle.nsi_program.specs.Hearing.{unserved, requested, message_heard, parcel_heard, second_in, ticked, heard, IsTimely};
 
-use json_fields::LineFault;
-use json_primitives::read_line;
+use json_primitives::{Key, LineFault, PayloadFault, read_line};
 use nsi_base::Second;
 use nsi_base::digits::number_of;
-use nsi_primitive::{Entry, Input, Message};
+use nsi_primitive::{Entry, Input, Message, Parcel};
 use provider_agent::Provider;
 use std::alloc::{AllocError, Global};
 
 /// What a line says to a provider.
 #[derive(Drop)]
 pub enum Heard {
-    /// The line is empty, or its request was taken before.
+    /// The line is empty, an acknowledgement, or a request that was taken before.
     Nothing,
-    /// The line can't be read.
-    Fault(LineFault),
+    /// The line can't be read, or isn't served.
+    Fault(PayloadFault),
     /// A request that comes now, or a second of the clock.
     Entry(Entry),
 }
@@ -37,15 +38,53 @@ pub(crate) fn hear(alloc: Global, provider: &Provider, line: &[u8]) -> Result<He
         return Ok(ticked(provider.now(), second_in(line)));
     }
     match read_line(alloc, line) {
-        Ok(message) => Ok(requested(provider, message)),
+        Ok(parcel) => Ok(parcel_heard(provider, parcel)),
         Err(LineFault::NoMemory) => Err(AllocError),
-        Err(fault) => Ok(Heard::Fault(fault)),
+        Err(fault) => Ok(Heard::Fault(PayloadFault::Line(fault))),
     }
+}
+
+/// Nothing waits for an acknowledgement.
+fn parcel_heard(provider: &Provider, parcel: Parcel) -> Heard
+    requires { IsPrintableParcel parcel }
+    ensures heard { result ≡ parcel_heard parcel provider.now.state }
+    ensures timely { IsTimely provider.now.state result }
+{
+    match parcel {
+        Parcel::Message(message) => message_heard(provider, message),
+        Parcel::Ack(_) => Heard::Nothing,
+    }
+}
+
+/// A request that is served comes now.
+fn message_heard(provider: &Provider, message: Message) -> Heard
+    requires { IsPrintable message }
+    ensures heard { result ≡ message_heard message provider.now.state }
+    ensures timely { IsTimely provider.now.state result }
+{
+    match unserved(&message) {
+        Some(fault) => Heard::Fault(fault),
+        None => requested(provider, message),
+    }
+}
+
+/// Why a message isn't served: it is no request, or a query, which isn't built yet.
+fn unserved(message: &Message) -> Option<PayloadFault>
+    ensures { result ≡ unserved message.now.body }
+{
+    if !message.is_request() {
+        return Some(PayloadFault::Line(LineFault::Bad(Key::Kind)));
+    }
+    if message.is_query() {
+        return Some(PayloadFault::Unbuilt);
+    }
+    None
 }
 
 /// A request, where it wasn't taken before.
 fn requested(provider: &Provider, message: Message) -> Heard
-    requires { IsPrintable message }
+    requires printable { IsPrintable message }
+    requires served { is_query message.body ≡ false }
     ensures heard { result ≡ requested message provider.now.state }
     ensures timely { IsTimely provider.now.state result }
 {
@@ -83,6 +122,6 @@ fn ticked(now: Second, second: Option<Second>) -> Heard
             second,
             input: Input::Tick,
         }),
-        _ => Heard::Fault(LineFault::Tick),
+        _ => Heard::Fault(PayloadFault::Tick),
     }
 }

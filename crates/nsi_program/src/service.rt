@@ -9,8 +9,7 @@ ghost use Rattle.nsi_program.specs.Lines.{payload, entered, answered, serve, lin
 use crate::hearing::{Heard, hear};
 use crate::provide::as_line;
 use crate::words::EventLimit;
-use json_fields::LineFault;
-use json_primitives::{print_line, print_payload};
+use json_primitives::{PayloadFault, print_message, print_payload};
 use nsi_base::AgentNo;
 use nsi_primitive::{Entry, Message};
 use provider_agent::Provider;
@@ -115,11 +114,11 @@ impl Service {
     }
 }
 
-/// The answer to a line that can't be read.
-fn payload(alloc: Global, number: u64, fault: LineFault) -> Result<Vec<u8>, AllocError>
+/// The answer to a line that can't be read, or isn't served.
+fn payload(alloc: Global, number: u64, fault: PayloadFault) -> Result<Vec<u8>, AllocError>
     ensures { IfOk result (λ text. text.items ≡ payload number fault) }
 {
-    let text = print_payload(alloc, fault.name(), fault.key(), number)?;
+    let text = print_payload(alloc, fault, number)?;
     as_line(text)
 }
 
@@ -130,7 +129,7 @@ fn lines_of_messages(alloc: Global, messages: &[Message]) -> Result<Vec<u8>, All
 {
     let mut text = Vec::new(alloc);
     for message in messages {
-        let line = print_line(alloc, message)?;
+        let line = print_message(alloc, message)?;
         text.extend_from_slice(&line)?;
         text.push(b'\n')?;
     }

@@ -1,12 +1,16 @@
 //! A run over bytes in memory. The modules of tests stand below it, so nothing here is public.
 
 mod clock;
+mod counting;
 mod holds;
 mod hostile;
+mod kinds;
 mod modifications;
 mod outside;
 mod paths;
+mod provisioning;
 mod rows;
+mod terminating;
 
 use nsi_outside::{MemorySink, MemorySource};
 use nsi_program::top_plain;
@@ -87,4 +91,33 @@ fn is_answered(alloc: Global, lines: &str, written: &str) -> Result<bool, AllocE
     let written = in_full(alloc, written)?;
     let input = behind_topology(alloc, lines.as_bytes())?;
     Ok(provide(alloc, input)?.is(0, written.as_bytes()))
+}
+
+/// Whether the words let the lines behind the topology be answered so.
+fn is_limited(
+    alloc: Global,
+    words: &str,
+    lines: &str,
+    status: u8,
+    written: &str,
+) -> Result<bool, AllocError> {
+    let lines = in_full(alloc, lines)?;
+    let written = in_full(alloc, written)?;
+    let input = behind_topology(alloc, lines.as_bytes())?;
+    Ok(run_whole(alloc, words, input)?.is(status, written.as_bytes()))
+}
+
+/// Whether both forms of the option let the lines be answered so.
+fn is_limited_by(
+    alloc: Global,
+    most: &str,
+    lines: &str,
+    status: u8,
+    written: &str,
+) -> Result<bool, AllocError> {
+    let parted = format!(in alloc; "provide --events {most}")?;
+    let is_parted = is_limited(alloc, parted.as_str(), lines, status, written)?;
+    let joined = format!(in alloc; "provide --events={most}")?;
+    let is_joined = is_limited(alloc, joined.as_str(), lines, status, written)?;
+    Ok(is_parted && is_joined)
 }

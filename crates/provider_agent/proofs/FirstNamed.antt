@@ -7,27 +7,26 @@ use Rattle.std.proofs.lemmas.Bool.Decides.{nat_tests}
 use Rattle.std.proofs.lemmas.List.{get_or_default}
 use Rattle.std.proofs.lemmas.List.Sums.{position_or_len_is}
 use Rattle.std.proofs.lemmas.Map.Keys.{non_decreasing_from_sorted, sorted_from_strictly_increasing}
-use Rattle.nsi_primitive.specs.declared.state.Machine.{Machine}
 use Rattle.connection_record.specs.declared.record.Record.{Record}
-use Rattle.connection_record.specs.Moves.{waits}
+use Rattle.connection_record.specs.Turns.{has_work}
 use Rattle.provider_agent.specs.State.{no_record, record_at}
 use Rattle.provider_agent.specs.Indexed.{NamesWork}
 
 -- whether there is a record at a place, which has work to do
 abbrev pub is_at_work : List Record → ℕ → Bool
-is_at_work records n = nat_lt n (length records) && waits Machine.Reserve (record_at n records)
+is_at_work records n = nat_lt n (length records) && has_work (record_at n records)
 
 pub unless : (b : Bool) → (b ≡ true → ⊥) → b ≡ false
 unless true h = absurd (h refl)
 unless false h = refl
 
-at_work : (records : List Record) (n : ℕ) → n < length records → waits Machine.Reserve (record_at n records) ≡ true → is_at_work records n ≡ true
+at_work : (records : List Record) (n : ℕ) → n < length records → has_work (record_at n records) ≡ true → is_at_work records n ≡ true
 at_work records n l w = grind (arith, nat_tests)
 
 pub within_at_work : (records : List Record) (n : ℕ) → is_at_work records n ≡ true → n < length records
 within_at_work records n h = grind (arith, nat_tests)
 
-waits_at_work : (records : List Record) (n : ℕ) → is_at_work records n ≡ true → waits Machine.Reserve (record_at n records) ≡ true
+waits_at_work : (records : List Record) (n : ℕ) → is_at_work records n ≡ true → has_work (record_at n records) ≡ true
 waits_at_work records n h = grind (arith, nat_tests)
 
 -- the first names are of places that have no work
@@ -44,7 +43,7 @@ idle_more records waiting i place idle l is none j m = elim (cases_lt j i) [
 
 module _ (records : List Record) (waiting : List ℕ) (names : NamesWork records waiting) where
   -- a place that has work is named behind those that have none
-  named_behind : (i k : ℕ) → IsIdleBefore records waiting i → k < length records → waits Machine.Reserve (record_at k records) ≡ true → (j : ℕ) × (i ≤ j) × (j < length waiting) × (get_or waiting j 0 ≡ k)
+  named_behind : (i k : ℕ) → IsIdleBefore records waiting i → k < length records → has_work (record_at k records) ≡ true → (j : ℕ) × (i ≤ j) × (j < length waiting) × (get_or waiting j 0 ≡ k)
   named_behind i k idle l w =
       let has : Contains waiting k = names k l w in
       let at : get_or waiting has.0 0 ≡ k = get_or_default waiting has.0 0 k has.1 ∙ has.2 in
@@ -53,7 +52,7 @@ module _ (records : List Record) (waiting : List ℕ) (names : NamesWork records
         | inr le ↦ (has.0, le, has.1, at)
       ]
 
-  pub first_named : (i : ℕ) → IsStrictlyIncreasing waiting → IsIdleBefore records waiting i → i < length waiting → is_at_work records (get_or waiting i 0) ≡ true → Some (get_or waiting i 0) ≡ position (waits Machine.Reserve) records
+  pub first_named : (i : ℕ) → IsStrictlyIncreasing waiting → IsIdleBefore records waiting i → i < length waiting → is_at_work records (get_or waiting i 0) ≡ true → Some (get_or waiting i 0) ≡ position has_work records
   first_named i up idle l w = sym (ap (λ n. cond (nat_lt n (length records)) (Some n) None) first ∙ there)
     where
       place : ℕ
@@ -62,25 +61,25 @@ module _ (records : List Record) (waiting : List ℕ) (names : NamesWork records
       within : place < length records
       within = within_at_work records place w
 
-      none_before : (k : ℕ) → k < place → waits Machine.Reserve (record_at k records) ≡ false
-      none_before k m = unless (waits Machine.Reserve (record_at k records)) (λ h.
+      none_before : (k : ℕ) → k < place → has_work (record_at k records) ≡ false
+      none_before k m = unless (has_work (record_at k records)) (λ h.
           let behind = named_behind i k idle (omega (arith, within)) h in
           omega (arith, behind.3, m, non_decreasing_from_sorted waiting (sorted_from_strictly_increasing waiting up) i behind.0 0 behind.1 behind.2))
 
-      first : position_or_len (waits Machine.Reserve) records ≡ place
-      first = position_or_len_is (waits Machine.Reserve) records place no_record (omega (arith, within)) none_before (λ _. waits_at_work records place w)
+      first : position_or_len has_work records ≡ place
+      first = position_or_len_is has_work records place no_record (omega (arith, within)) none_before (λ _. waits_at_work records place w)
 
       there : cond (nat_lt place (length records)) (Some place) None ≡ Some place
       there = grind (arith, nat_tests, within)
 
-  pub none_named : (i : ℕ) → IsIdleBefore records waiting i → length waiting ≤ i → None ≡ position (waits Machine.Reserve) records
+  pub none_named : (i : ℕ) → IsIdleBefore records waiting i → length waiting ≤ i → None ≡ position has_work records
   none_named i idle le = sym (ap (λ n. cond (nat_lt n (length records)) (Some n) None) first ∙ there)
     where
-      never : (k : ℕ) → k < length records → waits Machine.Reserve (record_at k records) ≡ false
-      never k m = unless (waits Machine.Reserve (record_at k records)) (λ h. let behind = named_behind i k idle m h in omega (arith, behind.1, behind.2))
+      never : (k : ℕ) → k < length records → has_work (record_at k records) ≡ false
+      never k m = unless (has_work (record_at k records)) (λ h. let behind = named_behind i k idle m h in omega (arith, behind.1, behind.2))
 
-      first : position_or_len (waits Machine.Reserve) records ≡ length records
-      first = position_or_len_is (waits Machine.Reserve) records (length records) no_record (omega arith) never (λ m. absurd (omega (arith, m)))
+      first : position_or_len has_work records ≡ length records
+      first = position_or_len_is has_work records (length records) no_record (omega arith) never (λ m. absurd (omega (arith, m)))
 
       there : cond (nat_lt (length records) (length records)) (Some (length records)) None ≡ None
       there = grind (arith, nat_tests)

@@ -1,14 +1,14 @@
--- The moves of requests, of work and of time: what is asked is above what is committed, and only work that finds no lack makes a fit.
+-- The moves of requests and of work: what is asked is above what is committed, and only work that finds no lack makes a fit.
 use Rattle.std.proofs.Common.{◌≡◌, ℕ, List, Option, Some, None, IfSome, arith}
 use Rattle.std.proofs.lemmas.Bool.Decides.{nat_tests}
-use Rattle.nsi_primitive.specs.declared.state.Rsm.{Rsm}
+use Rattle.nsi_primitive.specs.declared.state.Machine.{Machine}
 use Rattle.nsi_primitive.specs.declared.message.Body.{Body}
 use Rattle.nsi_primitive.specs.declared.message.Cause.{Cause}
 use Rattle.connection_record.specs.declared.record.Record.{Record}
-use Rattle.connection_record.specs.declared.moves.Origin.{Origin}
 use Rattle.connection_record.specs.Demand.{last}
-use Rattle.connection_record.specs.Moves.{requested, worked, hold_end, ticking, is_live}
+use Rattle.connection_record.specs.Moves.{worked}
 use Rattle.connection_record.specs.Refusal.{modification_refusal}
+use Rattle.connection_record.specs.Turns.{requested, provided, work_of}
 use Rattle.provider_agent.proofs.GoodMoves.{IsFitting}
 use Rattle.provider_agent.proofs.Demands.{IsNoFit}
 
@@ -26,18 +26,19 @@ pub requested_no_fit : (body : Body) (c : ℕ) (r : Record) → IfSome (requeste
 unfolding requested
 requested_no_fit body c r = grind arith
 
-pub worked_fitting : (k : Rsm) (lack : Option Cause) (agent : List ℕ) (deadline : ℕ) (r : Record) → IfSome (worked k lack agent deadline) (λ m. IsFitting m r)
-unfolding worked
-worked_fitting k lack agent deadline r = grind arith
+pub worked_fitting : (machine : Machine) (lack : Option Cause) (agent : List ℕ) (deadline : ℕ) (r : Record) → IfSome (work_of machine r lack agent deadline) (λ m. IsFitting m r)
+unfolding work_of worked provided
+worked_fitting machine lack agent deadline r = grind arith
 
-pub lack_no_fit : (k : Rsm) (cause : Cause) (agent : List ℕ) (deadline : ℕ) → IfSome (worked k (Some cause) agent deadline) IsNoFit
-unfolding worked
-lack_no_fit k cause agent deadline = grind arith
+-- work that isn't on a reserve that fits
+pub lack_no_fit : (machine : Machine) (r : Record) (cause : Cause) (agent : List ℕ) (deadline : ℕ) → IfSome (work_of machine r (Some cause) agent deadline) IsNoFit
+unfolding work_of worked provided
+lack_no_fit machine r cause agent deadline = grind arith
 
-pub ticking_fitting : (now : ℕ) (origin : Origin) (r : Record) → IfSome (ticking now origin r) (λ m. IsFitting m r)
-unfolding hold_end is_live
-ticking_fitting now origin r = grind arith
+pub provision_no_fit : (r : Record) (lack : Option Cause) (agent : List ℕ) (deadline : ℕ) → IfSome (work_of Machine.Provision r lack agent deadline) IsNoFit
+unfolding work_of provided
+provision_no_fit r lack agent deadline = grind arith
 
-pub ticking_no_fit : (now : ℕ) (origin : Origin) (r : Record) → IfSome (ticking now origin r) IsNoFit
-unfolding hold_end is_live
-ticking_no_fit now origin r = grind arith
+pub close_no_fit : (r : Record) (lack : Option Cause) (agent : List ℕ) (deadline : ℕ) → IfSome (work_of Machine.Lifecycle r lack agent deadline) IsNoFit
+unfolding work_of
+close_no_fit r lack agent deadline = tt

@@ -1,13 +1,17 @@
 -- A good provider's work on a reserve is honest, and nothing else causes a refusal for bandwidth.
-use Rattle.std.proofs.Common.{◌≡◌, ◌<◌, ◌+◌, ◌⊎◌, inl, inr, ◌∙◌, ℕ, Bool, true, false, ◌&&◌, nat_le, nat_lt, List, [], Option, Some, None, IfSome, arith, refl, sym, ap, subst, length, slice_get}
+use Rattle.std.proofs.Common.{◌≡◌, ◌<◌, ◌+◌, ◌⊎◌, inl, inr, ◌∙◌, ℕ, Bool, true, false, ◌&&◌, nat_le, nat_lt, List, [], Option, Some, None, IfSome, arith, refl, sym, ap, subst, length, slice_get, option_map}
 use Rattle.std.specs.List.{Contains}
 use Rattle.std.proofs.lemmas.Bool.{le-leb, lt-leb, lt-ltb, and_parts, and_from}
 use Rattle.std.proofs.lemmas.List.Elements.{All-contains}
 use Rattle.std.proofs.lemmas.Option.{slice_get-get_or, slice_get_within, get_or_from_slice_get}
+use Rattle.nsi_primitive.specs.Ids.{id_of}
 use Rattle.nsi_primitive.specs.Messages.{is_request}
 use Rattle.nsi_primitive.specs.declared.kind.ErrorName.{ErrorName}
+use Rattle.nsi_primitive.specs.declared.state.Lsm.{Lsm}
 use Rattle.nsi_primitive.specs.declared.state.Machine.{Machine}
+use Rattle.nsi_primitive.specs.declared.state.Psm.{Psm}
 use Rattle.nsi_primitive.specs.declared.state.Rsm.{Rsm}
+use Rattle.nsi_primitive.specs.declared.state.Side.{Side}
 use Rattle.nsi_primitive.specs.declared.message.Body.{Body}
 use Rattle.nsi_primitive.specs.declared.message.Cause.{Cause}
 use Rattle.nsi_primitive.specs.declared.message.Criteria.{Criteria}
@@ -17,60 +21,92 @@ use Rattle.nsi_primitive.specs.declared.entry.Input.{Input}
 use Rattle.message_retry.specs.Taken.{is_taken}
 use Rattle.capacity_calendar.specs.declared.booking.Lack.{Lack}
 use Rattle.connection_record.specs.declared.record.Record.{Record}
+use Rattle.connection_record.specs.declared.life.LifecycleMove.{LifecycleMove}
 use Rattle.connection_record.specs.declared.moves.Origin.{Origin}
 use Rattle.connection_record.specs.declared.moves.ReservationMove.{ReservationMove}
-use Rattle.connection_record.specs.Replies.{confirmation}
-use Rattle.connection_record.specs.Moves.{reserves, reserves_if, requested, worked, waits, ticking, hold_end, is_live, is_working}
+use Rattle.connection_record.specs.declared.provisioning.ProvisionMove.{ProvisionMove}
+use Rattle.connection_record.specs.declared.turn.Move.{Move}
+use Rattle.connection_record.specs.Demand.{last}
+use Rattle.connection_record.specs.Lives.{provisions, provisions_if, lives, lives_if}
+use Rattle.connection_record.specs.Moves.{reserves, reserves_if, worked, fit_or_lack, hold_end, is_live, is_working}
+use Rattle.connection_record.specs.Replies.{Moved, confirmation, plain}
+use Rattle.connection_record.specs.Turns.{reservation_closing, provision_closing, moves, moves_if, requested, provided, work_of, waits, schedule_end, status_of, tells}
+use Rattle.provider_agent.specs.declared.agent.Agent.{Agent}
 use Rattle.provider_agent.specs.Home.{Home}
 use Rattle.provider_agent.specs.Others.{first_lack, bandwidth, cause_of, lack_of, lacking}
 use Rattle.provider_agent.specs.State.{State, record_at, no_record}
-use Rattle.provider_agent.specs.Steps.{step, hears, works, ticks, taken_at, with_new, messages_of, error_reply, is_waiting, may_take, after_if, after, own_origin}
-use Rattle.provider_agent.specs.Safety.{places_of, others_load, said, is_refusal, IsHonestWork, IsChecking, IsHonest}
+use Rattle.provider_agent.specs.Steps.{step, hears, works, work_at, forces, force_move, is_forcible, keeps, ticks, taken_at, with_new, messages_of, error_reply, is_waiting, may_take, after_if, after, agent_of, own_origin}
+use Rattle.provider_agent.specs.Safety.{places_of, others_load, said, is_bandwidth, is_refusal, IsHonestWork, IsChecking, IsHonest}
 use Rattle.provider_agent.specs.Good.{IsGood}
-use Rattle.provider_agent.proofs.EachSays.{EachReply, EachMessage, nothing_said, one_said, moved_each, ticks_each}
+use Rattle.provider_agent.proofs.Turning.{IsNoCommit, reserves_untold}
+use Rattle.provider_agent.proofs.EachSays.{EachReply, EachMessage, EachPlane, nothing_said, one_said, closes_each, ticked_each, kept_each, ticks_each}
 use Rattle.provider_agent.proofs.FirstIsOne.{first_lack_found, none_where_room}
 use Rattle.provider_agent.proofs.GoodAfter.{waits_within, asked_at}
 use Rattle.provider_agent.proofs.RequestCases.{seen_with, heard_by}
 
 ---- Work on a reserve
 
+-- what work on a reserve makes of a record, where this lacks
+abbrev tried : Home → (c now deadline : ℕ) → Option Cause → Record → Moved
+tried home c now deadline lack r = tells (status_of now r) c now (moves_if Side.Provider (work_of Machine.Reserve r lack home.name deadline) now r)
+
+no_commit : (lack : Option Cause) (agent : List ℕ) (deadline : ℕ) → IsNoCommit (fit_or_lack lack agent deadline)
+no_commit None agent deadline = tt
+no_commit (Some cause) agent deadline = tt
+
+-- nothing is told of the data plane then
+tried_is : (home : Home) (c now deadline : ℕ) (lack : Option Cause) (r : Record) → r.rsm ≡ Rsm.ReserveChecking → tried home c now deadline lack r ≡ reserves r.rsm (fit_or_lack lack home.name deadline) now r
+unfolding work_of worked moves
+tried_is home c now deadline lack r e =
+    ap (λ k. tells (status_of now r) c now (moves_if Side.Provider (option_map Move.Reservation (worked k lack home.name deadline)) now r)) e
+    ∙ reserves_untold r.rsm (fit_or_lack lack home.name deadline) c now r (no_commit lack home.name deadline)
+
 -- what lacks is told to the owner
-says_lack : (home : Home) (now deadline : ℕ) (r : Record) (cause : Cause) → r.rsm ≡ Rsm.ReserveChecking
-    → messages_of home (reserves_if (worked r.rsm (Some cause) home.name deadline) now r) ≡ said home r (Body.ReserveFailed r.id (record { nsa = home.name; cause = cause }))
-unfolding worked reserves
-says_lack home now deadline r cause e = grind arith
+says_lack : (home : Home) (c now deadline : ℕ) (r : Record) (cause : Cause) → r.rsm ≡ Rsm.ReserveChecking
+    → messages_of home (tried home c now deadline (Some cause) r) ≡ said home r (Body.ReserveFailed r.id (record { nsa = home.name; cause = cause }))
+unfolding reserves
+says_lack home c now deadline r cause e = ap (messages_of home) (tried_is home c now deadline (Some cause) r e) ∙ by_row
+  where
+    by_row : messages_of home (reserves r.rsm (fit_or_lack (Some cause) home.name deadline) now r) ≡ said home r (Body.ReserveFailed r.id (record { nsa = home.name; cause = cause }))
+    by_row = grind arith
 
 -- and what fits is confirmed
-says_fit : (home : Home) (now deadline : ℕ) (r : Record) (c : Criteria) → r.rsm ≡ Rsm.ReserveChecking → r.pending ≡ Some c
-    → messages_of home (reserves_if (worked r.rsm None home.name deadline) now r) ≡ said home r (Body.ReserveConfirmed (confirmation r.id r.service c))
-unfolding worked reserves
-says_fit home now deadline r c e p = grind arith
+says_fit : (home : Home) (c now deadline : ℕ) (r : Record) (criteria : Criteria) → r.rsm ≡ Rsm.ReserveChecking → r.pending ≡ Some criteria
+    → messages_of home (tried home c now deadline None r) ≡ said home r (Body.ReserveConfirmed (confirmation r.id r.service criteria))
+unfolding reserves
+says_fit home c now deadline r criteria e p = ap (messages_of home) (tried_is home c now deadline None r e) ∙ by_row
+  where
+    by_row : messages_of home (reserves r.rsm (fit_or_lack None home.name deadline) now r) ≡ said home r (Body.ReserveConfirmed (confirmation r.id r.service criteria))
+    by_row = grind arith
 
 -- what work on the record at a place says
-abbrev work_out : Home → State → ℕ → List Message
-work_out home s n = messages_of home (reserves_if (worked (record_at n s.records).rsm (lacking home s n) home.name (s.now + home.hold)) s.now (record_at n s.records))
+abbrev work_out : Home → State → ℕ → Machine → List Message
+work_out home s n machine = (keeps home s n (moves_if Side.Provider (work_at home s n machine) s.now (record_at n s.records))).out
 
-honest_work : (home : Home) (s : State) (n : ℕ) (c : Criteria) → (record_at n s.records).rsm ≡ Rsm.ReserveChecking → (record_at n s.records).pending ≡ Some c → IsHonestWork home s n (record_at n s.records) c (work_out home s n)
+honest_work : (home : Home) (s : State) (n : ℕ) (c : Criteria) → (record_at n s.records).rsm ≡ Rsm.ReserveChecking → (record_at n s.records).pending ≡ Some c → IsHonestWork home s n (record_at n s.records) c (work_out home s n Machine.Reserve)
 unfolding lacking
 honest_work home s n c e p = record {
   passed = λ late. lacks (Cause.Plain ErrorName.Passed) (lacking_is true (first_lack home n s.records c) (le-leb c.interval.end s.now late) refl);
   lacking = λ early l f. lacks (bandwidth r l) (lacking_is false (Some l) (lt-leb c.interval.end s.now early) (first_lack_found (others_load s n) (places_of home r) c.interval c.capacity l f));
   fits = λ early room.
       ap out_with (lacking_is false None (lt-leb c.interval.end s.now early) (none_where_room (others_load s n) (places_of home r) c.interval c.capacity room))
-      ∙ says_fit home s.now (s.now + home.hold) r c e p;
+      ∙ says_fit home correlation s.now (s.now + home.hold) r c e p;
 }
   where
     r : Record
     r = record_at n s.records
 
+    correlation : ℕ
+    correlation = id_of home.number s.next
+
     out_with : Option Cause → List Message
-    out_with lack = messages_of home (reserves_if (worked r.rsm lack home.name (s.now + home.hold)) s.now r)
+    out_with lack = messages_of home (tried home correlation s.now (s.now + home.hold) lack r)
 
     lacking_is : (passed : Bool) (lack : Option Lack) → nat_le c.interval.end s.now ≡ passed → first_lack home n s.records c ≡ lack → lacking home s n ≡ cause_of passed lack r
     lacking_is passed lack t f = ap (λ o. lack_of o home s n) p ∙ (ap (λ b. cause_of b (first_lack home n s.records c) r) t ∙ ap (λ l. cause_of passed l r) f)
 
-    lacks : (cause : Cause) → lacking home s n ≡ Some cause → work_out home s n ≡ said home r (Body.ReserveFailed r.id (record { nsa = home.name; cause = cause }))
-    lacks cause l = ap out_with l ∙ says_lack home s.now (s.now + home.hold) r cause e
+    lacks : (cause : Cause) → lacking home s n ≡ Some cause → work_out home s n Machine.Reserve ≡ said home r (Body.ReserveFailed r.id (record { nsa = home.name; cause = cause }))
+    lacks cause l = ap out_with l ∙ says_lack home correlation s.now (s.now + home.hold) r cause e
 
 ---- Where no refusal for bandwidth comes from
 
@@ -78,26 +114,72 @@ honest_work home s n c e p = record {
 abbrev IsNoRefusal : Body → Type 0
 IsNoRefusal body = is_refusal body ≡ false
 
--- a move that tells no lack
-abbrev IsNoLack : ReservationMove → Type 0
-IsNoLack (ReservationMove.Lack exception) = ⊥
+no_plane : EachPlane IsNoRefusal
+unfolding is_refusal
+no_plane notice = refl
+
+-- a move that tells no lack of bandwidth
+abbrev IsNoLackReservation : ReservationMove → Type 0
+IsNoLackReservation (ReservationMove.Lack exception) = is_bandwidth exception.cause ≡ false
+IsNoLackReservation _ = Unit {0}
+
+abbrev IsNoLack : Move → Type 0
+IsNoLack (Move.Reservation m) = IsNoLackReservation m
 IsNoLack _ = Unit {0}
 
-reserves_quiet : (k : Rsm) (move : ReservationMove) (now : ℕ) (r : Record) → IsNoLack move → EachReply IsNoRefusal (reserves k move now r).out
+reserves_quiet : (k : Rsm) (move : ReservationMove) (now : ℕ) (r : Record) → IsNoLackReservation move → EachReply IsNoRefusal (reserves k move now r).out
 unfolding reserves is_refusal
 reserves_quiet k move now r q = grind arith
 
-reserves_if_quiet : (o : Option ReservationMove) (now : ℕ) (r : Record) → IfSome o IsNoLack → EachReply IsNoRefusal (reserves_if o now r).out
+provisions_quiet : (side : Side) (k : Psm) (move : ProvisionMove) (now : ℕ) (r : Record) → EachReply IsNoRefusal (provisions side k move now r).out
+unfolding provisions is_refusal
+provisions_quiet side k move now r = grind arith
+
+lives_quiet : (k : Lsm) (move : LifecycleMove) (now : ℕ) (r : Record) → EachReply IsNoRefusal (lives k move now r).out
+unfolding lives is_refusal
+lives_quiet k move now r = grind arith
+
+reserves_if_quiet : (o : Option ReservationMove) (now : ℕ) (r : Record) → IfSome o IsNoLackReservation → EachReply IsNoRefusal (reserves_if o now r).out
 reserves_if_quiet None now r q = tt
 reserves_if_quiet (Some move) now r q = reserves_quiet r.rsm move now r q
+
+provisions_if_quiet : (side : Side) (o : Option ProvisionMove) (now : ℕ) (r : Record) → EachReply IsNoRefusal (provisions_if side o now r).out
+provisions_if_quiet side None now r = tt
+provisions_if_quiet side (Some move) now r = provisions_quiet side r.psm move now r
+
+lives_if_quiet : (o : Option LifecycleMove) (now : ℕ) (r : Record) → EachReply IsNoRefusal (lives_if o now r).out
+lives_if_quiet None now r = tt
+lives_if_quiet (Some move) now r = lives_quiet r.lsm move now r
+
+-- the end of a connection answers what is open by GONE
+closing_quiet : (k : Rsm) (agent : List ℕ) → IfSome (reservation_closing k (plain agent ErrorName.Gone)) IsNoLackReservation
+unfolding reservation_closing
+closing_quiet k agent = grind arith
+
+moves_quiet : (side : Side) (move : Move) (now : ℕ) (r : Record) → IsNoLack move → EachReply IsNoRefusal (moves side move now r).out
+unfolding moves
+moves_quiet side (Move.Reservation m) now r q = reserves_quiet r.rsm m now r q
+moves_quiet side (Move.Provision m) now r q = provisions_quiet side r.psm m now r
+moves_quiet side (Move.Lifecycle m) now r q = lives_quiet r.lsm m now r
+moves_quiet side (Move.Close agent) now r q = closes_each IsNoRefusal agent side now r
+    (λ x. reserves_if_quiet (reservation_closing x.rsm (plain agent ErrorName.Gone)) now x (closing_quiet x.rsm agent))
+    (λ x. provisions_if_quiet side (provision_closing x.psm (plain agent ErrorName.Gone)) now x)
+    (λ x. lives_quiet x.lsm LifecycleMove.Done now x)
+
+moves_if_quiet : (side : Side) (o : Option Move) (now : ℕ) (r : Record) → IfSome o IsNoLack → EachReply IsNoRefusal (moves_if side o now r).out
+moves_if_quiet side None now r q = tt
+moves_if_quiet side (Some move) now r q = moves_quiet side move now r q
+
+kept_quiet : (home : Home) (s : State) (n : ℕ) (o : Option Move) → IfSome o IsNoLack → EachMessage IsNoRefusal (keeps home s n (moves_if Side.Provider o s.now (record_at n s.records))).out
+kept_quiet home s n o q = kept_each IsNoRefusal home s n (moves_if Side.Provider o s.now (record_at n s.records)) no_plane (moves_if_quiet Side.Provider o s.now (record_at n s.records) q)
 
 requested_quiet : (body : Body) (c : ℕ) (r : Record) → IfSome (requested body c r) IsNoLack
 unfolding requested
 requested_quiet body c r = grind arith
 
-ticking_quiet : (now : ℕ) (origin : Origin) (r : Record) → IfSome (ticking now origin r) IsNoLack
-unfolding hold_end is_live
-ticking_quiet now origin r = grind arith
+hold_end_quiet : (k : Rsm) (deadline : Option ℕ) (now : ℕ) (origin : Origin) → IfSome (hold_end k deadline now origin) IsNoLackReservation
+unfolding hold_end
+hold_end_quiet k deadline now origin = grind arith
 
 heard_quiet : (home : Home) (stp_of : List ℕ → Option ℕ) (s : State) (m : Message) → EachMessage IsNoRefusal (hears (is_request m.body) (is_taken m.header s.seen) home stp_of s m).out
 unfolding is_refusal
@@ -111,9 +193,22 @@ heard_quiet home stp_of s m = heard_by home stp_of s m (λ x. EachMessage IsNoRe
   where
     taken : (x : State) (n : ℕ) → EachMessage IsNoRefusal (taken_at home x n m).out
     taken x n =
-        let r = record_at n x.records in
-        let o = requested m.body m.header.correlation r in
-        moved_each IsNoRefusal home (reserves_if o x.now r) (reserves_if_quiet o x.now r (requested_quiet m.body m.header.correlation r))
+        let r : Record = record_at n x.records in
+        kept_quiet home x n (requested m.body m.header.correlation r) (requested_quiet m.body m.header.correlation r)
+
+forced_quiet : (b : Bool) (home : Home) (s : State) (n : ℕ) → EachMessage IsNoRefusal (forces b home s n).out
+unfolding forces
+forced_quiet false home s n = nothing_said IsNoRefusal
+forced_quiet true home s n = kept_quiet home (record s { next = s.next + 1 }) n (Some (force_move home s n)) tt
+
+ticks_quiet : (home : Home) (now : ℕ) (s : State) → EachMessage IsNoRefusal (ticks home now s).out
+unfolding ticks
+ticks_quiet home now s =
+    let agent : Agent = agent_of home in
+    ticks_each IsNoRefusal agent s.now now s.next s.records no_plane
+    (λ r. ticked_each IsNoRefusal (own_origin agent r) now r
+    (reserves_if_quiet (hold_end r.rsm r.deadline now (own_origin agent r)) now r (hold_end_quiet r.rsm r.deadline now (own_origin agent r)))
+    (λ x. lives_if_quiet (schedule_end (last x.committed) now) now x))
 
 no_refusal_in : (messages : List Message) (m : Message) → EachMessage IsNoRefusal messages → Contains messages m → is_refusal m.body ≡ true → ⊥
 no_refusal_in messages m quiet c is =
@@ -121,22 +216,19 @@ no_refusal_in messages m quiet c is =
     let clash : true ≡ false = sym is ∙ not in
     cc
 
--- the record that waits is live and at work, and the machine is the reservation's
-record IsWaitingFor (r : Record) (machine : Machine) : Type 0 where
-  machine_is : machine ≡ Machine.Reserve
-  live : is_live r.lsm ≡ true
-
-waits_for : (r : Record) (machine : Machine) → waits machine r ≡ true → IsWaitingFor r machine
-unfolding waits
-waits_for r Machine.Reserve h = record { machine_is = refl; live = (and_parts (is_live r.lsm) (is_working r.rsm) h).0 }
-waits_for r Machine.Provision h = absurd (cc)
-waits_for r Machine.Lifecycle h = absurd (cc)
-
 -- work that isn't on a reserve that is checked refuses nothing for bandwidth
-checking_or_quiet : (k : Rsm) (lack : Option Cause) (agent : List ℕ) (deadline : ℕ) → (k ≡ Rsm.ReserveChecking) ⊎ IfSome (worked k lack agent deadline) IsNoLack
-unfolding worked
-checking_or_quiet Rsm.ReserveChecking lack agent deadline = inl refl
-checking_or_quiet _ lack agent deadline = inr tt
+abbrev IsOnChecking : Machine → Record → Type 0
+IsOnChecking machine r = (machine ≡ Machine.Reserve) × (r.rsm ≡ Rsm.ReserveChecking)
+
+checking_or_quiet : (machine : Machine) (r : Record) (lack : Option Cause) (agent : List ℕ) (deadline : ℕ) → IsOnChecking machine r ⊎ IfSome (work_of machine r lack agent deadline) IsNoLack
+unfolding work_of provided worked
+checking_or_quiet Machine.Reserve r lack agent deadline = by_state r.rsm refl
+  where
+    by_state : (k : Rsm) → r.rsm ≡ k → IsOnChecking Machine.Reserve r ⊎ IfSome (option_map Move.Reservation (worked k lack agent deadline)) IsNoLack
+    by_state Rsm.ReserveChecking e = inl (refl, e)
+    by_state _ e = inr tt
+checking_or_quiet Machine.Provision r lack agent deadline = inr (grind arith)
+checking_or_quiet Machine.Lifecycle r lack agent deadline = inr tt
 
 -- work is on a reserve that is checked
 record IsCheckedAt (s : State) (n : ℕ) (machine : Machine) : Type 0 where
@@ -146,33 +238,38 @@ record IsCheckedAt (s : State) (n : ℕ) (machine : Machine) : Type 0 where
   checking : own.rsm ≡ Rsm.ReserveChecking
   live : is_live own.lsm ≡ true
 
-works_checking : (b : Bool) (home : Home) (s : State) (n : ℕ) (machine : Machine) (m : Message) → is_waiting s n machine ≡ b → Contains (works b home s n).out m → is_refusal m.body ≡ true → IsCheckedAt s n machine
+waits_live : (machine : Machine) (r : Record) → machine ≡ Machine.Reserve → waits machine r ≡ true → is_live r.lsm ≡ true
+unfolding waits
+waits_live Machine.Reserve r e h = (and_parts (is_live r.lsm) (is_working r.rsm) h).0
+waits_live Machine.Provision r e h = absurd (cc)
+waits_live Machine.Lifecycle r e h = absurd (cc)
+
+works_checking : (b : Bool) (home : Home) (s : State) (n : ℕ) (machine : Machine) (m : Message) → is_waiting s n machine ≡ b → Contains (works b home s n machine).out m → is_refusal m.body ≡ true → IsCheckedAt s n machine
 unfolding works
 works_checking false home s n machine m w c is = absurd (no_refusal_in [] m (nothing_said IsNoRefusal) c is)
-works_checking true home s n machine m w c is = elim (checking_or_quiet r.rsm (lacking home s n) home.name (s.now + home.hold)) [
-  | inl e ↦ record { machine_is = waiting.machine_is; own = r; record_is = slice_get-get_or s.records n no_record (waits_within s n machine w); checking = e; live = waiting.live }
-  | inr q ↦ absurd (no_refusal_in (work_out home s n) m (moved_each IsNoRefusal home (reserves_if o s.now r) (reserves_if_quiet o s.now r q)) c is)
+works_checking true home s n machine m w c is = elim (checking_or_quiet machine r (lacking home s n) home.name (s.now + home.hold)) [
+  | inl on ↦ record {
+    machine_is = on.0;
+    own = r;
+    record_is = slice_get-get_or s.records n no_record (waits_within s n machine w);
+    checking = on.1;
+    live = waits_live machine r on.0 (and_parts (nat_lt n (length s.records)) (waits machine r) w).1;
+  }
+  | inr q ↦ absurd (no_refusal_in (work_out home s n machine) m (kept_quiet home s n (work_at home s n machine) q) c is)
 ]
   where
     r : Record
     r = record_at n s.records
 
-    o : Option ReservationMove
-    o = worked r.rsm (lacking home s n) home.name (s.now + home.hold)
-
-    waiting : IsWaitingFor r machine
-    waiting = waits_for r machine (and_parts (nat_lt n (length s.records)) (waits machine r) w).1
-
 step_alone : (i : Input) (home : Home) (stp_of : List ℕ → Option ℕ) (s : State) (e : Entry) (m : Message) → e.input ≡ i → Contains (step i e.second home stp_of s).out m → is_refusal m.body ≡ true → (n : ℕ) × (r : Record) × IsChecking s e n r
-unfolding step ticks
+unfolding step
 step_alone (Input.Got x) home stp_of s e m w c is = absurd (no_refusal_in (hears (is_request x.body) (is_taken x.header s.seen) home stp_of s x).out m (heard_quiet home stp_of s x) c is)
 step_alone (Input.Work n machine) home stp_of s e m w c is =
     let at = works_checking (is_waiting s n machine) home s n machine m refl c is in
     (n, at.own, record { work = w ∙ ap (λ k. Input.Work n k) at.machine_is; record_is = at.record_is; checking = at.checking; live = at.live })
-step_alone Input.Tick home stp_of s e m w c is = absurd (no_refusal_in (ticks home e.second s).out m quiet c is)
-  where
-    quiet : EachMessage IsNoRefusal (ticks home e.second s).out
-    quiet = ticks_each IsNoRefusal home e.second s.records (λ r. reserves_if_quiet (ticking e.second (own_origin home r) r) e.second r (ticking_quiet e.second (own_origin home r) r))
+step_alone (Input.Force n) home stp_of s e m w c is = absurd (no_refusal_in (forces (is_forcible s n) home s n).out m (forced_quiet (is_forcible s n) home s n) c is)
+step_alone Input.Tick home stp_of s e m w c is = absurd (no_refusal_in (ticks home e.second s).out m (ticks_quiet home e.second s) c is)
+step_alone _ home stp_of s e m w c is = absurd (no_refusal_in [] m (nothing_said IsNoRefusal) c is)
 
 ---- Entries
 
@@ -196,10 +293,10 @@ honest_after home stp_of s e g may = record {
     at_is : (n : ℕ) (r : Record) → IsChecking s e n r → record_at n s.records ≡ r
     at_is n r ch = get_or_from_slice_get s.records n r no_record ch.record_is
 
-    work_is : (n : ℕ) (r : Record) → IsChecking s e n r → (after home stp_of s e).out ≡ work_out home s n
+    work_is : (n : ℕ) (r : Record) → IsChecking s e n r → (after home stp_of s e).out ≡ work_out home s n Machine.Reserve
     work_is n r ch =
         let waits = checking_waits s n (slice_get_within s.records n r ch.record_is) (ap (λ (x : Record). is_live x.lsm) (at_is n r ch) ∙ ch.live) (ap (λ (x : Record). x.rsm) (at_is n r ch) ∙ ch.checking) in
-        out_is ∙ (ap (λ i. (step i e.second home stp_of s).out) ch.work ∙ ap (λ b. (works b home s n).out) waits)
+        out_is ∙ (ap (λ i. (step i e.second home stp_of s).out) ch.work ∙ ap (λ b. (works b home s n Machine.Reserve).out) waits)
 
     at_place : (n : ℕ) (r : Record) → IsChecking s e n r → (c : Criteria) × ((record_at n s.records).pending ≡ Some c) × IsHonestWork home s n (record_at n s.records) c (after home stp_of s e).out
     at_place n r ch =

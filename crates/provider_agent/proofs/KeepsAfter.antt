@@ -1,35 +1,40 @@
 -- What was committed stays, after an entry and after many.
-use Rattle.std.proofs.Common.{◌≡◌, ◌≤◌, ◌<◌, ◌+◌, inl, inr, ◌∙◌, ℕ, Bool, true, false, List, [], ◌∷◌, ◌++◌, Option, Some, arith, refl, sym, ap, subst, length, length-append, map, take, slice_get, slice_set, option_map}
+use Rattle.std.proofs.Common.{◌≡◌, ◌≤◌, ◌<◌, ◌+◌, inl, inr, ◌∙◌, ℕ, Bool, true, false, List, [], ◌∷◌, ◌++◌, Option, Some, arith, refl, sym, ap, subst, length, length-append, take, slice_get, slice_set}
 use Rattle.std.proofs.Math.Seq.{take-length}
 use Rattle.std.proofs.lemmas.Bool.{cases_eq}
 use Rattle.std.proofs.lemmas.List.{take-take, length-take}
-use Rattle.std.proofs.lemmas.Option.{slice_get-get_or, slice_get-map, slice_get_within, same_Some}
+use Rattle.std.proofs.lemmas.Option.{slice_get-get_or, slice_get_within, same_Some}
+use Rattle.nsi_primitive.specs.Ids.{id_of}
 use Rattle.nsi_primitive.specs.Messages.{is_request}
+use Rattle.nsi_primitive.specs.declared.state.Machine.{Machine}
+use Rattle.nsi_primitive.specs.declared.state.Side.{Side}
 use Rattle.nsi_primitive.specs.declared.message.Message.{Message}
 use Rattle.nsi_primitive.specs.declared.message.ReserveRequest.{ReserveRequest}
 use Rattle.nsi_primitive.specs.declared.entry.Entry.{Entry}
 use Rattle.nsi_primitive.specs.declared.entry.Input.{Input}
 use Rattle.message_retry.specs.Taken.{is_taken}
 use Rattle.connection_record.specs.declared.record.Record.{Record}
-use Rattle.connection_record.specs.Moves.{reserves_if, requested, worked, ticking}
+use Rattle.connection_record.specs.declared.turn.Move.{Move}
+use Rattle.connection_record.specs.Turns.{moves_if, requested, status_of, tells}
+use Rattle.provider_agent.specs.declared.agent.Agent.{Agent}
 use Rattle.provider_agent.specs.Home.{Home}
-use Rattle.provider_agent.specs.Others.{lacking}
 use Rattle.provider_agent.specs.State.{State, record_at, no_record}
-use Rattle.provider_agent.specs.Steps.{step, hears, works, ticks, ticks_at, taken_at, with_new, is_waiting, may_take, after_if, after, own_origin}
+use Rattle.provider_agent.specs.Steps.{step, hears, works, work_at, forces, force_move, is_forcible, keeps, ticks, ticks_at, ticks_all, told_at, own_origin, agent_of, taken_at, with_new, is_waiting, may_take, after_if, after}
 use Rattle.provider_agent.specs.Runs.{after_all}
 use Rattle.provider_agent.specs.Safety.{Keeps}
 use Rattle.provider_agent.proofs.RecordPlaces.{set_here, set_elsewhere, push_elsewhere}
-use Rattle.provider_agent.proofs.GoodMoves.{reserves_if_kept}
-use Rattle.provider_agent.proofs.GoodAfter.{waits_within}
+use Rattle.provider_agent.proofs.Growing.{moves_if_later, ticked_later, told_later}
+use Rattle.provider_agent.proofs.EachTicked.{each_ticked, each_old}
+use Rattle.provider_agent.proofs.GoodAfter.{waits_within, forcible_within}
 use Rattle.provider_agent.proofs.RequestCases.{seen_with, new_record, heard_by}
 
 -- what a record had committed is the front of what it has now
-abbrev IsLater : Record → Record → Type 0
-IsLater r later = take (length r.committed) later.committed ≡ r.committed
+abbrev IsMore : Record → Record → Type 0
+IsMore r later = take (length r.committed) later.committed ≡ r.committed
 
 -- each record is still at its place, and later
 abbrev KeepRecords : List Record → List Record → Type 0
-KeepRecords old new = (n : ℕ) (r : Record) → slice_get old n ≡ Some r → (later : Record) × (slice_get new n ≡ Some later) × IsLater r later
+KeepRecords old new = (n : ℕ) (r : Record) → slice_get old n ≡ Some r → (later : Record) × (slice_get new n ≡ Some later) × IsMore r later
 
 keep_same : (records : List Record) → KeepRecords records records
 keep_same records n r h = (r, h, take-length r.committed)
@@ -45,26 +50,29 @@ keep_more a b c p q n r h =
     let y = q n x.0 x.1 in
     (y.0, y.1, front_of_front r.committed x.0.committed y.0.committed x.2 y.2)
 
-keep_set : (records : List Record) (n : ℕ) (r x : Record) → slice_get records n ≡ Some r → IsLater r x → KeepRecords records (slice_set records n x)
+keep_set : (records : List Record) (n : ℕ) (r x : Record) → slice_get records n ≡ Some r → IsMore r x → KeepRecords records (slice_set records n x)
 keep_set records n r x h later k y g = elim (cases_eq k n) [
   | inl e ↦
       let same : r ≡ y = same_Some r y (sym h ∙ (ap (slice_get records) (sym e) ∙ g)) in
-      (x, ap (slice_get (slice_set records n x)) e ∙ set_here records n x (slice_get_within records n r h), subst (λ z. IsLater z x) same later)
+      (x, ap (slice_get (slice_set records n x)) e ∙ set_here records n x (slice_get_within records n r h), subst (λ z. IsMore z x) same later)
   | inr d ↦ (y, set_elsewhere records n k x d ∙ g, take-length y.committed)
 ]
 
 keep_push : (records : List Record) (x : Record) → KeepRecords records (records ++ x ∷ [])
 keep_push records x n r h = (r, push_elsewhere records n x r h, take-length r.committed)
 
-keep_map : (records : List Record) (g : Record → Record) → ((r : Record) → IsLater r (g r)) → KeepRecords records (map g records)
-keep_map records g later n r h = (g r, slice_get-map g records n ∙ ap (option_map g) h, later r)
-
 ---- Entries
 
+-- a move of the record at a place, with what is told of its data plane
+keep_kept : (home : Home) (s : State) (n : ℕ) (o : Option Move) → n < length s.records → KeepRecords s.records (keeps home s n (moves_if Side.Provider o s.now (record_at n s.records))).state.records
+keep_kept home s n o lt =
+    let r : Record = record_at n s.records in
+    let c : ℕ = id_of home.number s.next in
+    keep_set s.records n r (tells (status_of s.now r) c s.now (moves_if Side.Provider o s.now r)).rec (slice_get-get_or s.records n no_record lt)
+    (told_later (status_of s.now r) c s.now r (moves_if Side.Provider o s.now r) (moves_if_later Side.Provider o s.now r)).committed
+
 keep_taken : (home : Home) (s : State) (n : ℕ) (m : Message) → n < length s.records → KeepRecords s.records (taken_at home s n m).state.records
-keep_taken home s n m lt =
-    let r = record_at n s.records in
-    keep_set s.records n r (reserves_if (requested m.body m.header.correlation r) s.now r).rec (slice_get-get_or s.records n no_record lt) (reserves_if_kept (requested m.body m.header.correlation r) s.now r)
+keep_taken home s n m lt = keep_kept home s n (requested m.body m.header.correlation (record_at n s.records)) lt
 
 keep_opened : (home : Home) (s : State) (m : Message) (q : ReserveRequest) (points : ℕ × ℕ) → KeepRecords s.records (taken_at home (with_new home s m q points) (length s.records) m).state.records
 keep_opened home s m q points =
@@ -82,19 +90,29 @@ keep_heard home stp_of s m = heard_by home stp_of s m (λ x. KeepRecords s.recor
   moved = λ n lt fine. keep_taken home (seen_with s m) n m lt;
 })
 
-keep_worked : (b : Bool) (home : Home) (s : State) (n : ℕ) → (b ≡ true → n < length s.records) → KeepRecords s.records (works b home s n).state.records
+keep_worked : (b : Bool) (home : Home) (s : State) (n : ℕ) (machine : Machine) → (b ≡ true → n < length s.records) → KeepRecords s.records (works b home s n machine).state.records
 unfolding works
-keep_worked false home s n h = keep_same s.records
-keep_worked true home s n h =
-    let r = record_at n s.records in
-    let o = worked r.rsm (lacking home s n) home.name (s.now + home.hold) in
-    keep_set s.records n r (reserves_if o s.now r).rec (slice_get-get_or s.records n no_record (h refl)) (reserves_if_kept o s.now r)
+keep_worked false home s n machine h = keep_same s.records
+keep_worked true home s n machine h = keep_kept home s n (work_at home s n machine) (h refl)
+
+keep_forced : (b : Bool) (home : Home) (s : State) (n : ℕ) → (b ≡ true → n < length s.records) → KeepRecords s.records (forces b home s n).state.records
+unfolding forces
+keep_forced false home s n h = keep_same s.records
+keep_forced true home s n h = keep_kept home (record s { next = s.next + 1 }) n (Some (force_move home s n)) (h refl)
+
+keep_ticked : (agent : Agent) (before now c : ℕ) (r : Record) → IsMore r (told_at agent before now c r).rec
+keep_ticked agent before now c r = (told_later (status_of before r) c now r (ticks_at agent now r) (ticked_later (own_origin agent r) now r)).committed
 
 keep_step : (input : Input) (second : ℕ) (home : Home) (stp_of : List ℕ → Option ℕ) (s : State) → KeepRecords s.records (step input second home stp_of s).state.records
 unfolding step ticks
 keep_step (Input.Got m) second home stp_of s = keep_heard home stp_of s m
-keep_step (Input.Work n machine) second home stp_of s = keep_worked (is_waiting s n machine) home s n (waits_within s n machine)
-keep_step Input.Tick second home stp_of s = keep_map s.records (λ r. (ticks_at home second r).rec) (λ r. reserves_if_kept (ticking second (own_origin home r) r) second r)
+keep_step (Input.Work n machine) second home stp_of s = keep_worked (is_waiting s n machine) home s n machine (waits_within s n machine)
+keep_step (Input.Force n) second home stp_of s = keep_forced (is_forcible s n) home s n (forcible_within s n)
+keep_step Input.Tick second home stp_of s =
+    let agent : Agent = agent_of home in
+    let x = ticks_all agent s.now second s.next s.records in
+    λ n r h. each_old IsMore s.records x.records n r (each_ticked IsMore agent s.now second s.next s.records (keep_ticked agent s.now second)) h
+keep_step _ second home stp_of s = keep_same s.records
 
 -- What was committed stays after an entry.
 pub keeps_after : (home : Home) (stp_of : List ℕ → Option ℕ) (s : State) (e : Entry) → Keeps s (after home stp_of s e).state

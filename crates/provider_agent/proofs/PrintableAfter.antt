@@ -5,8 +5,11 @@ use Rattle.std.proofs.lemmas.Option.{slice_get-get_or}
 use Rattle.nsi_primitive.specs.Messages.{is_request}
 use Rattle.nsi_primitive.specs.Printable.{IsPrintable, IsPrintableBody, IsPrintableCause, IsShort, has_further_keys}
 use Rattle.nsi_primitive.specs.declared.kind.ErrorName.{ErrorName}
+use Rattle.nsi_primitive.specs.declared.state.Lsm.{Lsm}
 use Rattle.nsi_primitive.specs.declared.state.Machine.{Machine}
+use Rattle.nsi_primitive.specs.declared.state.Psm.{Psm}
 use Rattle.nsi_primitive.specs.declared.state.Rsm.{Rsm}
+use Rattle.nsi_primitive.specs.declared.state.Side.{Side}
 use Rattle.nsi_primitive.specs.declared.message.Body.{Body}
 use Rattle.nsi_primitive.specs.declared.message.Cause.{Cause}
 use Rattle.nsi_primitive.specs.declared.message.Criteria.{Criteria}
@@ -16,36 +19,91 @@ use Rattle.nsi_primitive.specs.declared.entry.Input.{Input}
 use Rattle.message_retry.specs.Taken.{is_taken}
 use Rattle.capacity_calendar.specs.declared.booking.Lack.{Lack}
 use Rattle.connection_record.specs.declared.record.Record.{Record}
+use Rattle.connection_record.specs.declared.life.LifecycleMove.{LifecycleMove}
 use Rattle.connection_record.specs.declared.moves.Origin.{Origin}
 use Rattle.connection_record.specs.declared.moves.ReservationMove.{ReservationMove}
-use Rattle.connection_record.specs.Moves.{reserves, reserves_if, requested, worked, ticking, hold_end, is_live}
+use Rattle.connection_record.specs.declared.provisioning.ProvisionMove.{ProvisionMove}
+use Rattle.connection_record.specs.declared.turn.Move.{Move}
+use Rattle.connection_record.specs.Demand.{last}
+use Rattle.connection_record.specs.Lives.{provisions, provisions_if, lives, lives_if}
+use Rattle.connection_record.specs.Moves.{reserves, reserves_if, worked, hold_end}
 use Rattle.connection_record.specs.Refusal.{refusal, modification_refusal, unnamed_refusal}
+use Rattle.connection_record.specs.Replies.{plain}
+use Rattle.connection_record.specs.Turns.{reservation_closing, provision_closing, moves, moves_if, requested, provided, work_of, schedule_end}
 use Rattle.provider_agent.specs.Home.{Home}
 use Rattle.provider_agent.specs.Others.{first_lack, cause_of, lack_of, lacking}
 use Rattle.provider_agent.specs.State.{State, Stepped, record_at, no_record}
-use Rattle.provider_agent.specs.Steps.{step, hears, works, ticks, taken_at, with_new, error_reply, is_waiting, may_take, after_if, after, own_origin}
+use Rattle.provider_agent.specs.Steps.{step, hears, works, work_at, forces, force_move, is_forcible, keeps, ticks, taken_at, with_new, error_reply, is_waiting, may_take, after_if, after, agent_of, own_origin}
 use Rattle.provider_agent.specs.Safety.{IsPrintableInput}
 use Rattle.provider_agent.specs.Good.{IsGoodRecord, IsGood}
-use Rattle.provider_agent.proofs.EachSays.{EachReply, EachMessage, nothing_said, one_said, moved_each, ticks_each}
+use Rattle.provider_agent.proofs.EachSays.{EachReply, EachMessage, nothing_said, one_said, closes_each, ticked_each, kept_each, ticks_each}
 use Rattle.provider_agent.proofs.GoodAfter.{waits_within}
 use Rattle.provider_agent.proofs.RequestCases.{seen_with, heard_by}
 
 ---- Replies
 
 -- what a move says has a spelling, where its exception or what is confirmed has one
-abbrev IsPrintableMove : ReservationMove → Record → Type 0
-IsPrintableMove (ReservationMove.Fit deadline) r = IsShort 256 r.service.description × IsShort 128 r.service.global
-IsPrintableMove (ReservationMove.Lack exception) r = IsPrintableCause exception.cause
-IsPrintableMove (ReservationMove.Spoiled exception mixed) r = IsPrintableCause exception.cause
+abbrev IsPrintableReservation : ReservationMove → Record → Type 0
+IsPrintableReservation (ReservationMove.Fit deadline) r = IsShort 256 r.service.description × IsShort 128 r.service.global
+IsPrintableReservation (ReservationMove.Lack exception) r = IsPrintableCause exception.cause
+IsPrintableReservation (ReservationMove.Spoiled exception mixed) r = IsPrintableCause exception.cause
+IsPrintableReservation _ r = Unit {0}
+
+abbrev IsPrintableProvision : ProvisionMove → Type 0
+IsPrintableProvision (ProvisionMove.Spoiled exception) = IsPrintableCause exception.cause
+IsPrintableProvision _ = Unit {0}
+
+abbrev IsPrintableMove : Move → Record → Type 0
+IsPrintableMove (Move.Reservation m) r = IsPrintableReservation m r
+IsPrintableMove (Move.Provision m) r = IsPrintableProvision m
 IsPrintableMove _ r = Unit {0}
 
-reserves_printable : (k : Rsm) (move : ReservationMove) (now : ℕ) (r : Record) → IsPrintableMove move r → EachReply IsPrintableBody (reserves k move now r).out
+reserves_printable : (k : Rsm) (move : ReservationMove) (now : ℕ) (r : Record) → IsPrintableReservation move r → EachReply IsPrintableBody (reserves k move now r).out
 unfolding reserves
 reserves_printable k move now r p = grind arith
 
-reserves_if_printable : (o : Option ReservationMove) (now : ℕ) (r : Record) → IfSome o (λ m. IsPrintableMove m r) → EachReply IsPrintableBody (reserves_if o now r).out
+provisions_printable : (side : Side) (k : Psm) (move : ProvisionMove) (now : ℕ) (r : Record) → IsPrintableProvision move → EachReply IsPrintableBody (provisions side k move now r).out
+unfolding provisions
+provisions_printable side k move now r p = grind arith
+
+lives_printable : (k : Lsm) (move : LifecycleMove) (now : ℕ) (r : Record) → EachReply IsPrintableBody (lives k move now r).out
+unfolding lives
+lives_printable k move now r = grind arith
+
+reserves_if_printable : (o : Option ReservationMove) (now : ℕ) (r : Record) → IfSome o (λ m. IsPrintableReservation m r) → EachReply IsPrintableBody (reserves_if o now r).out
 reserves_if_printable None now r p = tt
 reserves_if_printable (Some move) now r p = reserves_printable r.rsm move now r p
+
+provisions_if_printable : (side : Side) (o : Option ProvisionMove) (now : ℕ) (r : Record) → IfSome o IsPrintableProvision → EachReply IsPrintableBody (provisions_if side o now r).out
+provisions_if_printable side None now r p = tt
+provisions_if_printable side (Some move) now r p = provisions_printable side r.psm move now r p
+
+lives_if_printable : (o : Option LifecycleMove) (now : ℕ) (r : Record) → EachReply IsPrintableBody (lives_if o now r).out
+lives_if_printable None now r = tt
+lives_if_printable (Some move) now r = lives_printable r.lsm move now r
+
+-- open requests are answered by an error's name alone
+closing_reserve_printable : (k : Rsm) (agent : List ℕ) (r : Record) → IfSome (reservation_closing k (plain agent ErrorName.Gone)) (λ m. IsPrintableReservation m r)
+unfolding reservation_closing
+closing_reserve_printable k agent r = grind arith
+
+closing_provision_printable : (k : Psm) (agent : List ℕ) → IfSome (provision_closing k (plain agent ErrorName.Gone)) IsPrintableProvision
+unfolding provision_closing
+closing_provision_printable k agent = grind arith
+
+moves_printable : (side : Side) (move : Move) (now : ℕ) (r : Record) → IsPrintableMove move r → EachReply IsPrintableBody (moves side move now r).out
+unfolding moves
+moves_printable side (Move.Reservation m) now r p = reserves_printable r.rsm m now r p
+moves_printable side (Move.Provision m) now r p = provisions_printable side r.psm m now r p
+moves_printable side (Move.Lifecycle m) now r p = lives_printable r.lsm m now r
+moves_printable side (Move.Close agent) now r p = closes_each IsPrintableBody agent side now r
+    (λ x. reserves_if_printable (reservation_closing x.rsm (plain agent ErrorName.Gone)) now x (closing_reserve_printable x.rsm agent x))
+    (λ x. provisions_if_printable side (provision_closing x.psm (plain agent ErrorName.Gone)) now x (closing_provision_printable x.psm agent))
+    (λ x. lives_printable x.lsm LifecycleMove.Done now x)
+
+moves_if_printable : (side : Side) (o : Option Move) (now : ℕ) (r : Record) → IfSome o (λ m. IsPrintableMove m r) → EachReply IsPrintableBody (moves_if side o now r).out
+moves_if_printable side None now r p = tt
+moves_if_printable side (Some move) now r p = moves_printable side move now r p
 
 ---- Moves
 
@@ -53,13 +111,13 @@ requested_printable : (body : Body) (c : ℕ) (r : Record) → IfSome (requested
 unfolding requested
 requested_printable body c r = grind arith
 
-ticking_printable : (now : ℕ) (origin : Origin) (r : Record) → IfSome (ticking now origin r) (λ m. IsPrintableMove m r)
-unfolding hold_end is_live
-ticking_printable now origin r = grind arith
+hold_end_printable : (k : Rsm) (deadline : Option ℕ) (now : ℕ) (origin : Origin) (r : Record) → IfSome (hold_end k deadline now origin) (λ m. IsPrintableReservation m r)
+unfolding hold_end
+hold_end_printable k deadline now origin r = grind arith
 
-worked_printable : (k : Rsm) (lack : Option Cause) (agent : List ℕ) (deadline : ℕ) (r : Record) → IsGoodRecord r → IfSome lack IsPrintableCause → IfSome (worked k lack agent deadline) (λ m. IsPrintableMove m r)
-unfolding worked
-worked_printable k lack agent deadline r g p = grind arith
+worked_printable : (machine : Machine) (lack : Option Cause) (agent : List ℕ) (deadline : ℕ) (r : Record) → IsGoodRecord r → IfSome lack IsPrintableCause → IfSome (work_of machine r lack agent deadline) (λ m. IsPrintableMove m r)
+unfolding work_of worked provided
+worked_printable machine lack agent deadline r g p = grind arith
 
 cause_printable : (passed : Bool) (lack : Option Lack) (r : Record) → IfSome (cause_of passed lack r) IsPrintableCause
 cause_printable true lack r = refl
@@ -99,6 +157,9 @@ error_plain o error p e = subst IsPlain e p
 abbrev SaysPrintable : Stepped → Type 0
 SaysPrintable x = EachMessage IsPrintableBody x.out
 
+printable_kept : (home : Home) (s : State) (n : ℕ) (o : Option Move) → IfSome o (λ m. IsPrintableMove m (record_at n s.records)) → SaysPrintable (keeps home s n (moves_if Side.Provider o s.now (record_at n s.records)))
+printable_kept home s n o p = kept_each IsPrintableBody home s n (moves_if Side.Provider o s.now (record_at n s.records)) (λ notice. tt) (moves_if_printable Side.Provider o s.now (record_at n s.records) p)
+
 printable_heard : (home : Home) (stp_of : List ℕ → Option ℕ) (s : State) (m : Message) → SaysPrintable (hears (is_request m.body) (is_taken m.header s.seen) home stp_of s m)
 printable_heard home stp_of s m = heard_by home stp_of s m SaysPrintable (record {
   ignored = nothing_said IsPrintableBody;
@@ -110,25 +171,32 @@ printable_heard home stp_of s m = heard_by home stp_of s m SaysPrintable (record
   where
     taken : (x : State) (n : ℕ) → SaysPrintable (taken_at home x n m)
     taken x n =
-        let r = record_at n x.records in
-        let o = requested m.body m.header.correlation r in
-        moved_each IsPrintableBody home (reserves_if o x.now r) (reserves_if_printable o x.now r (requested_printable m.body m.header.correlation r))
+        let r : Record = record_at n x.records in
+        printable_kept home x n (requested m.body m.header.correlation r) (requested_printable m.body m.header.correlation r)
 
-printable_worked : (b : Bool) (home : Home) (s : State) (n : ℕ) (machine : Machine) → is_waiting s n machine ≡ b → IsGood home s → SaysPrintable (works b home s n)
+printable_worked : (b : Bool) (home : Home) (s : State) (n : ℕ) (machine : Machine) → is_waiting s n machine ≡ b → IsGood home s → SaysPrintable (works b home s n machine)
 unfolding works
 printable_worked false home s n machine e g = nothing_said IsPrintableBody
 printable_worked true home s n machine e g =
-    let r = record_at n s.records in
-    let o = worked r.rsm (lacking home s n) home.name (s.now + home.hold) in
+    let r : Record = record_at n s.records in
     let good = g.records n r (slice_get-get_or s.records n no_record (waits_within s n machine e)) in
-    moved_each IsPrintableBody home (reserves_if o s.now r) (reserves_if_printable o s.now r (worked_printable r.rsm (lacking home s n) home.name (s.now + home.hold) r good (lacking_printable home s n)))
+    printable_kept home s n (work_at home s n machine) (worked_printable machine (lacking home s n) home.name (s.now + home.hold) r good (lacking_printable home s n))
+
+printable_forced : (b : Bool) (home : Home) (s : State) (n : ℕ) → SaysPrintable (forces b home s n)
+unfolding forces
+printable_forced false home s n = nothing_said IsPrintableBody
+printable_forced true home s n = printable_kept home (record s { next = s.next + 1 }) n (Some (force_move home s n)) tt
 
 printable_step : (input : Input) (second : ℕ) (home : Home) (stp_of : List ℕ → Option ℕ) (s : State) → IsGood home s → SaysPrintable (step input second home stp_of s)
 unfolding step ticks
 printable_step (Input.Got m) second home stp_of s g = printable_heard home stp_of s m
 printable_step (Input.Work n machine) second home stp_of s g = printable_worked (is_waiting s n machine) home s n machine refl g
-printable_step Input.Tick second home stp_of s g = ticks_each IsPrintableBody home second s.records
-    (λ r. reserves_if_printable (ticking second (own_origin home r) r) second r (ticking_printable second (own_origin home r) r))
+printable_step (Input.Force n) second home stp_of s g = printable_forced (is_forcible s n) home s n
+printable_step Input.Tick second home stp_of s g = ticks_each IsPrintableBody (agent_of home) s.now second s.next s.records (λ notice. tt)
+    (λ r. ticked_each IsPrintableBody (own_origin (agent_of home) r) second r
+    (reserves_if_printable (hold_end r.rsm r.deadline second (own_origin (agent_of home) r)) second r (hold_end_printable r.rsm r.deadline second (own_origin (agent_of home) r) r))
+    (λ x. lives_if_printable (schedule_end (last x.committed) second) second x))
+printable_step _ second home stp_of s g = nothing_said IsPrintableBody
 
 -- What a good provider says has a spelling.
 pub printable_after : (home : Home) (stp_of : List ℕ → Option ℕ) (s : State) (e : Entry) → IsGood home s → IsPrintableInput e.input → All IsPrintable (after home stp_of s e).out

@@ -1,8 +1,10 @@
 -- The records at their places, where one is put or one is added, and sums over them.
-use Rattle.std.proofs.Common.{◌≡◌, ◌≢◌, ◌≤◌, ◌<◌, ◌+◌, ◌⊎◌, inl, inr, ◌∙◌, ℕ, zero, suc, List, [], ◌∷◌, ◌++◌, Some, arith, refl, sym, ap, add-one, length, map, take, drop, get_or, slice_get, slice_set, sum_by}
+use Rattle.std.proofs.Common.{◌≡◌, ◌≢◌, ◌≤◌, ◌<◌, ◌+◌, ◌-◌, ◌⊎◌, inl, inr, ◌∙◌, ℕ, zero, suc, List, [], ◌∷◌, ◌++◌, Some, arith, refl, sym, ap, add-one, length, length-append, map, take, drop, get_or, slice_get, slice_set, sum_by}
 use Rattle.std.proofs.lemmas.List.Sums.{sum_by-cons, sum_by-append, sum_by-set, sum_by-take-drop, sum_by-drop_more}
 use Rattle.std.proofs.lemmas.Bool.{cases_eq}
 use Rattle.std.proofs.lemmas.Option.{same_Some, slice_get_within, get_or_from_slice_get, none-some}
+use Rattle.nsi_primitive.specs.declared.message.Criteria.{Criteria}
+use Rattle.connection_record.specs.Demand.{last}
 
 -- what is put at a place stands there
 pub set_here : {X : Type 0} (xs : List X) (n : ℕ) (x : X) → n < length xs → slice_get (slice_set xs n x) n ≡ Some x
@@ -61,3 +63,9 @@ sum_with f xs n x y h =
 pub sum_map_le : {X : Type 0} (f : X → ℕ) (g : X → X) (xs : List X) → ((x : X) → f (g x) ≤ f x) → sum_by f (map g xs) ≤ sum_by f xs
 sum_map_le f g [] h = omega arith
 sum_map_le f g (x ∷ xs) h = omega (arith, sum_by-cons f x xs, sum_by-cons f (g x) (map g xs), h x, sum_map_le f g xs h)
+
+-- the criteria that were added stand last
+pub last_pushed : (cs : List Criteria) (c : Criteria) → last (cs ++ c ∷ []) ≡ Some c
+last_pushed cs c =
+    let at : length (cs ++ c ∷ []) - 1 ≡ length cs = omega (arith, length-append cs (c ∷ [])) in
+    ap (λ k. slice_get (cs ++ c ∷ []) k) at ∙ push_here cs c

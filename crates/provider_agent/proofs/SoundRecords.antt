@@ -1,7 +1,7 @@
 -- Records of which no load passes a capacity, which are good, and whose ids rise: what leaves them so.
-use Rattle.std.proofs.Common.{◌≡◌, ◌≤◌, ◌<◌, ◌+◌, inl, inr, ◌∙◌, ℕ, List, [], ◌∷◌, ◌++◌, Option, Some, None, arith, refl, sym, ap, subst, length-append, map, slice_get, slice_set, option_map}
+use Rattle.std.proofs.Common.{◌≡◌, ◌≤◌, ◌<◌, ◌+◌, inl, inr, ◌∙◌, ℕ, List, [], ◌∷◌, ◌++◌, Some, arith, refl, sym, ap, subst, length-append, slice_get, slice_set}
 use Rattle.std.proofs.lemmas.List.Sums.{sum_by_push}
-use Rattle.std.proofs.lemmas.Option.{slice_get_within, slice_get-map, none-some, same_Some}
+use Rattle.std.proofs.lemmas.Option.{slice_get_within}
 use Rattle.nsi_base.specs.declared.flow.Flow.{Flow}
 use Rattle.nsi_primitive.specs.Ids.{id_of}
 use Rattle.capacity_calendar.specs.Plan.{capacity_at}
@@ -9,8 +9,9 @@ use Rattle.connection_record.specs.declared.record.Record.{Record}
 use Rattle.connection_record.specs.Demand.{demand, load}
 use Rattle.provider_agent.specs.Home.{Home}
 use Rattle.provider_agent.specs.Others.{others}
-use Rattle.provider_agent.specs.Good.{IsGoodRecord, AreOrdered}
-use Rattle.provider_agent.proofs.RecordPlaces.{set_cases, push_cases, sum_with, sum_map_le}
+use Rattle.provider_agent.specs.Good.{works_in, IsGoodRecord, AreOrdered}
+use Rattle.provider_agent.proofs.RecordPlaces.{set_cases, push_cases, sum_with}
+use Rattle.provider_agent.proofs.EachTicked.{AreEach, each_new, each_sum_le}
 
 -- what is kept of the records
 pub record AreSound (home : Home) (next : ℕ) (records : List Record) : Type 0 where
@@ -47,6 +48,9 @@ sound_set home next records n r x s h g same room = record {
 id_more : (agent n : ℕ) → id_of agent n < id_of agent (n + 1)
 id_more agent n = omega arith
 
+id_le : (agent m n : ℕ) → m ≤ n → id_of agent m ≤ id_of agent n
+id_le agent m n le = omega (arith, le)
+
 -- A record that claims nothing is added under the next id.
 pub sound_push : (home : Home) (next : ℕ) (records : List Record) (x : Record) → AreSound home next records → IsGoodRecord x → x.id ≡ id_of home.number next → ((flow : Flow) (stp t : ℕ) → demand flow stp t x ≡ 0)
     → AreSound home (next + 1) (records ++ x ∷ [])
@@ -74,22 +78,24 @@ sound_push home next records x s g id none = record {
       | inr o ↦ omega (arith, low i a o, id_more home.number next)
     ]
 
--- what stands among the moved ones was moved
-map_cases : (g : Record → Record) (records : List Record) (k : ℕ) (y : Record) → slice_get (map g records) k ≡ Some y → (r : Record) × (slice_get records k ≡ Some r) × (g r ≡ y)
-map_cases g records k y p = by_old (slice_get records k) refl
-  where
-    by_old : (o : Option Record) → slice_get records k ≡ o → (r : Record) × (slice_get records k ≡ Some r) × (g r ≡ y)
-    by_old None e = absurd (none-some y (sym (slice_get-map g records k ∙ ap (option_map g) e) ∙ p))
-    by_old (Some r) e = (r, e, same_Some (g r) y (sym (slice_get-map g records k ∙ ap (option_map g) e) ∙ p))
+-- Each record is another at its place, which claims no more and has no more to do.
+pub record IsTamer (a b : Record) : Type 0 where
+  pub good : IsGoodRecord a → IsGoodRecord b
+  pub id : b.id ≡ a.id
+  pub less : (flow : Flow) (stp t : ℕ) → demand flow stp t b ≤ demand flow stp t a
+  pub works : works_in b ≤ works_in a
 
--- Each record is moved, and claims no more.
-pub sound_map : (home : Home) (next : ℕ) (records : List Record) (g : Record → Record) → AreSound home next records → ((r : Record) → IsGoodRecord r → IsGoodRecord (g r)) → ((r : Record) → (g r).id ≡ r.id)
-    → ((flow : Flow) (stp t : ℕ) (r : Record) → demand flow stp t (g r) ≤ demand flow stp t r) → AreSound home next (map g records)
-sound_map home next records g s good same less = record {
-  capped = λ flow stp t capacity c. omega (arith, sum_map_le (demand flow stp t) g records (less flow stp t), s.capped flow stp t capacity c);
-  good = λ k y p. let x = map_cases g records k y p in subst IsGoodRecord x.2 (good x.0 (s.good k x.0 x.1));
-  ordered = ordered_alike home.number next records (map g records) s.ordered alike;
+pub sound_each : (home : Home) (next : ℕ) (old new : List Record) → AreSound home next old → AreEach IsTamer old new → AreSound home next new
+sound_each home next old new s each = record {
+  capped = λ flow stp t capacity c. omega (arith, each_sum_le IsTamer (demand flow stp t) old new (λ a b tame. tame.less flow stp t) each, s.capped flow stp t capacity c);
+  good = λ k y p. let x = each_new IsTamer old new k y each p in x.2.good (s.good k x.0 x.1);
+  ordered = ordered_alike home.number next old new s.ordered (λ k y p. let x = each_new IsTamer old new k y each p in (x.0, x.1, x.2.id));
 }
-  where
-    alike : HaveIdsOf records (map g records)
-    alike k y p = let x = map_cases g records k y p in (x.0, x.1, ap (λ (z : Record). z.id) (sym x.2) ∙ same x.0)
+
+-- More ids are drawn.
+pub sound_more : (home : Home) (next more : ℕ) (records : List Record) → AreSound home next records → next ≤ more → AreSound home more records
+sound_more home next more records s le = record {
+  capped = s.capped;
+  good = s.good;
+  ordered = record { rise = s.ordered.rise; below = λ i a p. omega (arith, s.ordered.below i a p, id_le home.number next more le) };
+}

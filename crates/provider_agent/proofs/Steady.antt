@@ -1,59 +1,25 @@
 -- A provider's step, entry by entry.
-use Rattle.std.proofs.Common.{◌≡◌, ◌≤◌, ◌<◌, ℕ, Bool, true, Option, List, refl, sym, ap, subst, ◌∙◌, arith, Result, Ok, Err, OnOk, OnErr, IfOk, All, Vec, Global}
-use Rattle.std.proofs.lemmas.Bool.Decides.{nat_tests}
-use Rattle.nsi_primitive.specs.Messages.{is_request}
+use Rattle.std.proofs.Common.{◌≡◌, ◌≤◌, ◌<◌, ℕ, true, Option, List, sym, ap, subst, ◌∙◌, arith, Result, Ok, Err, OnOk, OnErr, IfOk, All, Vec, Global}
 use Rattle.nsi_primitive.specs.Printable.{IsPrintable}
 use Rattle.nsi_primitive.specs.declared.entry.Entry.{Entry}
-use Rattle.nsi_primitive.specs.declared.entry.Input.{Input}
 use Rattle.nsi_primitive.specs.declared.message.Message.{Message}
-use Rattle.message_retry.specs.Taken.{is_taken}
 use Rattle.provider_agent.specs.Home.{Home}
 use Rattle.std.specs.declared.alloc.AllocError.{AllocError}
 use Rattle.provider_agent.specs.State.{State, Standing, Stepped, counts}
-use Rattle.provider_agent.specs.Steps.{step, hears, works, ticks, is_waiting, after, after_if, may_take}
+use Rattle.provider_agent.specs.Steps.{step, after, may_take}
 use Rattle.provider_agent.specs.Good.{IsGood}
-use Rattle.provider_agent.specs.Safety.{IsRising, IsPrintableInput}
+use Rattle.provider_agent.specs.Safety.{IsPrintableInput}
 use Rattle.provider_agent.specs.Kept.{AreKept}
 use Rattle.provider_agent.specs.Indexed.{AreIndexed}
 use Rattle.provider_agent.specs.Desk.{home_at, state_at, standing_at, IsReady, IsSteady}
 use Rattle.provider_agent.specs.declared.desk.Desk.{Desk}
-use Rattle.provider_agent.proofs.GoodAfter.{good_after}
-
--- an entry that may be taken is taken
-pub taken_is : (home : Home) (stp_of : List ℕ → Option ℕ) (s : State) (e : Entry) → may_take s e ≡ true → after home stp_of s e ≡ counts (step e.input e.second home stp_of s)
-unfolding after
-taken_is home stp_of s e m = ap (λ b. after_if b home stp_of s e) m
-
--- entries that are taken are few
-pub few_taken : (s : State) (e : Entry) → may_take s e ≡ true → s.taken < 4194304
-few_taken s e m = grind (arith, nat_tests)
-
--- no step counts by itself
-pub heard_taken : (is_request is_taken : Bool) (home : Home) (stp_of : List ℕ → Option ℕ) (s : State) (m : Message) → (hears is_request is_taken home stp_of s m).state.taken ≡ s.taken
-unfolding hears
-heard_taken is_request is_taken home stp_of s m = grind arith
-
-pub worked_taken : (is_waiting : Bool) (home : Home) (s : State) (n : ℕ) → (works is_waiting home s n).state.taken ≡ s.taken
-unfolding works
-worked_taken is_waiting home s n = grind arith
-
-pub ticked_taken : (home : Home) (now : ℕ) (s : State) → (ticks home now s).state.taken ≡ s.taken
-unfolding ticks
-ticked_taken home now s = refl
-
-step_taken : (input : Input) (second : ℕ) (home : Home) (stp_of : List ℕ → Option ℕ) (s : State) → (step input second home stp_of s).state.taken ≡ s.taken
-unfolding step
-step_taken (Input.Got m) second home stp_of s = heard_taken (is_request m.body) (is_taken m.header s.seen) home stp_of s m
-step_taken (Input.Work n machine) second home stp_of s = worked_taken (is_waiting s n machine) home s n
-step_taken Input.Tick second home stp_of s = ticked_taken home second s
+use Rattle.provider_agent.proofs.Counting.{step_taken, taken_is}
+use Rattle.provider_agent.proofs.GoodAfter.{few_taken, good_after}
 
 -- what is good has a place and a number for one record more
 pub ready_where_steady : (d : Desk) → IsSteady d → d.taken < 4194304 → IsReady d
 ready_where_steady d steady few =
     record { kept = steady.kept; indexed = steady.indexed; ordered = steady.good.ordered; few = omega (arith, steady.good.few, few); drawn = omega (arith, steady.good.drawn, few) }
-
-pub rising_where_good : (home : Home) (s : State) → IsGood home s → IsRising s
-rising_where_good home s good n r at = (good.records n r at).rising
 
 abbrev standing_of : Home → State → Standing
 standing_of h s = record { home = h; state = s }
@@ -62,7 +28,7 @@ standing_of h s = record { home = h; state = s }
 module _ {R : Type 0} (result : Result R AllocError) (d new : Desk) (stp_of : List ℕ → Option ℕ) (e : Entry)
     (steady : IsSteady d) (may : may_take (state_at d) e ≡ true) (printable : IsPrintableInput e.input)
     (ok : OnOk result (state_at new ≡ (counts (step e.input e.second (home_at d) stp_of (state_at d))).state))
-    (err : OnErr result (state_at new ≡ state_at d)) (home : home_at new ≡ home_at d) (kept : AreKept new.records.items new.calendar.bookings) (indexed : AreIndexed new.records.items new.waiting new.deadlines) where
+    (err : OnErr result (state_at new ≡ state_at d)) (home : home_at new ≡ home_at d) (kept : AreKept new.records.items new.calendar.bookings) (indexed : AreIndexed new.now new.records.items new.waiting new.deadlines) where
   good_as : (s : State) → state_at new ≡ s → IsGood (home_at d) s → IsGood (home_at new) (state_at new)
   good_as s is good = subst (λ h. IsGood h (state_at new)) (sym home) (subst (IsGood (home_at d)) (sym is) good)
 

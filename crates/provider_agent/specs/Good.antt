@@ -1,12 +1,14 @@
 -- What is true of a provider in every state of every run.
-use Rattle.std.specs.Prelude.{◌≡◌, ◌≤◌, ◌<◌, ◌+◌, ℕ, Bool, true, false, List, slice_get, length, Option, Some, IfSome, IsSome}
+use Rattle.std.specs.Prelude.{◌≡◌, ◌≤◌, ◌<◌, ◌+◌, ◌*◌, ℕ, Bool, true, false, if◌then◌else◌, sum_by, List, slice_get, length, Option, Some, IfSome, IsSome}
 use Rattle.nsi_primitive.specs.Ids.{id_of}
 use Rattle.nsi_primitive.specs.Printable.{IsShort}
+use Rattle.nsi_primitive.specs.declared.state.Machine.{Machine}
 use Rattle.nsi_primitive.specs.declared.state.Rsm.{Rsm}
 use Rattle.nsi_primitive.specs.declared.message.Criteria.{Criteria}
 use Rattle.connection_record.specs.declared.record.Record.{Record}
 use Rattle.connection_record.specs.Demand.{last}
 use Rattle.connection_record.specs.Rising.{AreRising}
+use Rattle.connection_record.specs.Turns.{waits}
 use Rattle.provider_agent.specs.Home.{Home}
 use Rattle.provider_agent.specs.State.{State}
 use Rattle.provider_agent.specs.Safety.{IsCapped}
@@ -34,10 +36,26 @@ pub record AreOrdered (agent next : ℕ) (records : List Record) : Type 0 where
   pub rise : (i j : ℕ) (a b : Record) → i < j → slice_get records i ≡ Some a → slice_get records j ≡ Some b → a.id < b.id
   pub below : (i : ℕ) (a : Record) → slice_get records i ≡ Some a → a.id < id_of agent next
 
--- no load passes a capacity, each record is good, and there are no more records and ids than entries
+-- 1 where a machine of the record has work to do
+abbrev pub work_in : Machine → Record → ℕ
+work_in machine r = if waits machine r then 1 else 0
+
+-- how much work a record has to do
+abbrev pub works_in : Record → ℕ
+works_in r = work_in Machine.Reserve r + (work_in Machine.Provision r + work_in Machine.Lifecycle r)
+
+abbrev pub works_among : List Record → ℕ
+works_among records = sum_by works_in records
+
+-- so many ids at most are drawn by one entry: a tick draws one for each record at most
+abbrev pub most_drawn : ℕ
+most_drawn = 4194306
+
+-- no load passes a capacity, each record is good, there are no more records than entries, nor more work that waits, and ids are few
 pub record IsGood (home : Home) (s : State) : Type 0 where
   pub capped : IsCapped home s
   pub records : (n : ℕ) (r : Record) → slice_get s.records n ≡ Some r → IsGoodRecord r
   pub ordered : AreOrdered home.number s.next s.records
   pub few : length s.records ≤ s.taken
-  pub drawn : s.next ≤ s.taken + 1
+  pub works : works_among s.records ≤ s.taken
+  pub drawn : s.next ≤ s.taken * most_drawn + 1

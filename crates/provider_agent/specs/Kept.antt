@@ -7,7 +7,9 @@ use Rattle.capacity_calendar.specs.declared.booking.Lack.{Lack}
 use Rattle.capacity_calendar.specs.declared.booking.Slot.{Slot}
 use Rattle.capacity_calendar.specs.Plan.{Plan, committed_of, pending_of, HasNoneFrom, with_pending, first_lack}
 use Rattle.connection_record.specs.declared.record.Record.{Record}
+use Rattle.connection_record.specs.declared.life.LifecycleMove.{LifecycleMove}
 use Rattle.connection_record.specs.declared.moves.ReservationMove.{ReservationMove}
+use Rattle.connection_record.specs.declared.turn.Move.{Move}
 use Rattle.connection_record.specs.Demand.{last, held, is_terminated}
 use Rattle.provider_agent.specs.State.{record_at}
 
@@ -34,8 +36,18 @@ with_slot n (Some slot) bookings = with_pending n slot bookings
 abbrev pub plan_lack : Plan → ℕ → (both_ways : Bool) → (source dest : ℕ) → Criteria → Option Lack
 plan_lack plan n both_ways source dest c = first_lack plan n source dest both_ways c.interval c.capacity
 
--- all moves but those that hold and commit
-abbrev pub is_plain : ReservationMove → Bool
-is_plain (ReservationMove.Fit _) = false
-is_plain ReservationMove.Done = false
-is_plain _ = true
+abbrev pub is_plain_reservation : ReservationMove → Bool
+is_plain_reservation (ReservationMove.Fit _) = false
+is_plain_reservation ReservationMove.Done = false
+is_plain_reservation _ = true
+
+abbrev pub is_plain_life : LifecycleMove → Bool
+is_plain_life LifecycleMove.Done = false
+is_plain_life _ = true
+
+-- all moves but those that hold, commit and end: what is committed stays, and nothing more is held
+abbrev pub is_plain : Move → Bool
+is_plain (Move.Reservation move) = is_plain_reservation move
+is_plain (Move.Provision move) = true
+is_plain (Move.Lifecycle move) = is_plain_life move
+is_plain (Move.Close agent) = false

@@ -1,10 +1,11 @@
 -- One entry at a provider.
-use Rattle.std.specs.Prelude.{ℕ, ◌+◌, Bool, true, false, List, [], ◌∷◌, ◌++◌, ◌==◌, ◌&&◌, nat_le, nat_lt, length, slice_set, map, Option, Some, None, unwrap_or, option_map, position}
-use Rattle.std.specs.List.{flat_map}
+use Rattle.std.specs.Prelude.{ℕ, ◌+◌, Bool, true, false, not, List, [], ◌∷◌, ◌++◌, ◌==◌, ◌&&◌, nat_le, nat_lt, length, slice_set, Option, Some, None, unwrap_or, option_map, option_and_then, position, if◌then◌else◌}
 use Rattle.nsi_primitive.specs.Ids.{id_of}
-use Rattle.nsi_primitive.specs.Messages.{is_request, connection_of}
+use Rattle.nsi_primitive.specs.Messages.{is_request, is_query, connection_of}
 use Rattle.nsi_primitive.specs.declared.kind.ErrorName.{ErrorName}
+use Rattle.nsi_primitive.specs.declared.plane.Plane.{Plane}
 use Rattle.nsi_primitive.specs.declared.state.Machine.{Machine}
+use Rattle.nsi_primitive.specs.declared.state.Side.{Side}
 use Rattle.nsi_primitive.specs.declared.message.Body.{Body}
 use Rattle.nsi_primitive.specs.declared.message.Message.{Message}
 use Rattle.nsi_primitive.specs.declared.message.ReserveRequest.{ReserveRequest}
@@ -12,10 +13,14 @@ use Rattle.nsi_primitive.specs.declared.entry.Entry.{Entry}
 use Rattle.nsi_primitive.specs.declared.entry.Input.{Input}
 use Rattle.message_retry.specs.Taken.{is_taken, with_taken}
 use Rattle.connection_record.specs.declared.record.Record.{Record}
+use Rattle.connection_record.specs.declared.life.LifecycleMove.{LifecycleMove}
 use Rattle.connection_record.specs.declared.moves.Origin.{Origin}
+use Rattle.connection_record.specs.declared.turn.Move.{Move}
 use Rattle.connection_record.specs.Replies.{Moved, plain, addressed}
-use Rattle.connection_record.specs.Moves.{reserves_if, requested, worked, waits, ticking, fresh, service_of}
-use Rattle.connection_record.specs.Refusal.{refusal, place_of, points_of}
+use Rattle.connection_record.specs.Moves.{fresh, service_of}
+use Rattle.connection_record.specs.Turns.{moves, moves_if, requested, waits, first_machine, has_work, work_of, ticked, status_of, is_told, tells}
+use Rattle.connection_record.specs.Refusal.{is_created, refusal, place_of, points_of}
+use Rattle.provider_agent.specs.declared.agent.Agent.{Agent}
 use Rattle.provider_agent.specs.Home.{Home}
 use Rattle.provider_agent.specs.Others.{lacking}
 use Rattle.provider_agent.specs.State.{State, Stepped, unchanged, says, counts, record_at, name_or}
@@ -23,16 +28,32 @@ use Rattle.provider_agent.specs.State.{State, Stepped, unchanged, says, counts, 
 ---- One record
 
 -- what a record says, under the owner's header
+abbrev pub messages_by : List ℕ → Moved → List Message
+messages_by name x = addressed name x.rec.owner x.out
+
 abbrev pub messages_of : Home → Moved → List Message
-messages_of home x = addressed home.name x.rec.owner x.out
+messages_of home x = messages_by home.name x
 
 -- a record's move is put in its place
 abbrev pub put_back : Home → State → ℕ → Moved → Stepped
 put_back home s n x = says (record s { records = slice_set s.records n x.rec }) (messages_of home x)
 
+-- one id is drawn for each change of a data plane that is told
+abbrev pub drawn : Bool → ℕ
+drawn told = if told then 1 else 0
+
+-- a move of a record, and the change of its data plane, which is told under the agent's next id
+abbrev pub turned : Plane → Home → State → ℕ → Moved → Stepped
+turned before home s n x =
+    put_back home (record s { next = s.next + drawn (is_told before s.now x.rec) }) n (tells before (id_of home.number s.next) s.now x)
+
+-- a move of the record at a place is put back, with what it changes of its data plane
+abbrev pub keeps : Home → State → ℕ → Moved → Stepped
+keeps home s n x = turned (status_of s.now (record_at n s.records)) home s n x
+
 -- a request that isn't refused moves the record at a place
 abbrev pub taken_at : Home → State → ℕ → Message → Stepped
-taken_at home s n m = put_back home s n (reserves_if (requested m.body m.header.correlation (record_at n s.records)) s.now (record_at n s.records))
+taken_at home s n m = keeps home s n (moves_if Side.Provider (requested m.body m.header.correlation (record_at n s.records)) s.now (record_at n s.records))
 
 -- a first reserve makes a record between the two points, under the agent's next id
 abbrev pub with_new : Home → State → Message → ReserveRequest → ℕ × ℕ → State
@@ -79,34 +100,90 @@ hears _ _ home stp_of s m = unchanged s
 abbrev pub is_waiting : State → ℕ → Machine → Bool
 is_waiting s n machine = nat_lt n (length s.records) && waits machine (record_at n s.records)
 
-abbrev pub works_at : Home → State → ℕ → Stepped
-works_at home s n = put_back home s n (reserves_if (worked (record_at n s.records).rsm (lacking home s n) home.name (s.now + home.hold)) s.now (record_at n s.records))
+-- the move that work on a machine of the record at a place makes
+abbrev pub work_at : Home → State → ℕ → Machine → Option Move
+work_at home s n machine = work_of machine (record_at n s.records) (lacking home s n) home.name (s.now + home.hold)
+
+abbrev pub works_at : Home → State → ℕ → Machine → Stepped
+works_at home s n machine = keeps home s n (moves_if Side.Provider (work_at home s n machine) s.now (record_at n s.records))
 
 -- work that doesn't wait changes nothing
-unfoldable pub works : (is_waiting : Bool) → Home → State → ℕ → Stepped
-works true home s n = works_at home s n
-works false home s n = unchanged s
+unfoldable pub works : (is_waiting : Bool) → Home → State → ℕ → Machine → Stepped
+works true home s n machine = works_at home s n machine
+works false home s n machine = unchanged s
 
--- the first record that has work to do, and the machine
+abbrev pub machine_at : ℕ → List Record → Option (ℕ × Machine)
+machine_at n records = option_map (λ machine. (n, machine)) (first_machine (record_at n records))
+
+-- the first record that has work to do, and its first machine that has
 abbrev pub first_waiting : List Record → Option (ℕ × Machine)
-first_waiting records = option_map (λ n. (n, Machine.Reserve)) (position (waits Machine.Reserve) records)
+first_waiting records = option_and_then (λ n. machine_at n records) (position has_work records)
 
 abbrev pub waiting_work : State → Option (ℕ × Machine)
 waiting_work s = first_waiting s.records
 
+---- A forced end
+
+abbrev pub agent_of : Home → Agent
+agent_of home = record { name = home.name; number = home.number; hold = home.hold }
+
+abbrev pub own_origin : Agent → Record → Origin
+own_origin agent r = record { connection = r.id; nsa = agent.name; value = agent.hold }
+
+-- a connection that can be ended by force: it is created
+abbrev pub is_forcible : State → ℕ → Bool
+is_forcible s n = nat_lt n (length s.records) && is_created (record_at n s.records).lsm
+
+-- the notification has the agent's next id
+abbrev pub force_move : Home → State → ℕ → Move
+force_move home s n = Move.Lifecycle (LifecycleMove.Force (id_of home.number s.next) (own_origin (agent_of home) (record_at n s.records)))
+
+abbrev pub forces_at : Home → State → ℕ → Stepped
+forces_at home s n = keeps home (record s { next = s.next + 1 }) n (moves Side.Provider (force_move home s n) s.now (record_at n s.records))
+
+-- a connection that has ended, or is about to, isn't ended by force
+unfoldable pub forces : (is_forcible : Bool) → Home → State → ℕ → Stepped
+forces true home s n = forces_at home s n
+forces false home s n = unchanged s
+
 ---- Time
 
-abbrev pub own_origin : Home → Record → Origin
-own_origin home r = record { connection = r.id; nsa = home.name; value = home.hold }
+-- what a tick makes of a record, the change of its data plane since the last second apart
+abbrev pub ticks_at : Agent → ℕ → Record → Moved
+ticks_at agent now r = ticked (own_origin agent r) now r
 
--- a tick at a record: a hold that is over ends
-abbrev pub ticks_at : Home → ℕ → Record → Moved
-ticks_at home now r = reserves_if (ticking now (own_origin home r) r) now r
+-- whether its data plane is another since the second before
+abbrev pub is_told_at : Agent → (before now : ℕ) → Record → Bool
+is_told_at agent before now r = is_told (status_of before r) now (ticks_at agent now r).rec
 
--- the clock goes on, and each record in order is asked
+-- the whole tick of a record, under the id that is drawn for the change of its data plane
+abbrev pub told_at : Agent → (before now correlation : ℕ) → Record → Moved
+told_at agent before now correlation r = tells (status_of before r) correlation now (ticks_at agent now r)
+
+-- records after a tick, what they say, and the number of the next id then
+pub record Ticked : Type 0 where
+  pub records : List Record
+  pub out : List Message
+  pub next : ℕ
+
+abbrev pub no_ticks : ℕ → Ticked
+no_ticks next = record { records = []; out = []; next = next }
+
+abbrev pub tick_more : Agent → Moved → Ticked → Ticked
+tick_more agent x rest = record { records = x.rec ∷ rest.records; out = messages_by agent.name x ++ rest.out; next = rest.next }
+
+-- each record in order is asked
+unfoldable pub ticks_all : Agent → (before now next : ℕ) → List Record → Ticked
+ticks_all agent before now next [] = no_ticks next
+ticks_all agent before now next (r ∷ rs) =
+    tick_more agent (told_at agent before now (id_of agent.number next) r) (ticks_all agent before now (next + drawn (is_told_at agent before now r)) rs)
+
+abbrev pub with_ticks : ℕ → State → Ticked → Stepped
+with_ticks now s x = says (record s { now = now; records = x.records; next = x.next }) x.out
+
+-- the clock goes on
 unfoldable pub ticks : Home → ℕ → State → Stepped
-ticks home now s =
-    says (record s { now = now; records = map (λ r. (ticks_at home now r).rec) s.records }) (flat_map (λ r. messages_of home (ticks_at home now r)) s.records)
+ticks home now s = with_ticks now s (ticks_all (agent_of home) s.now now s.next s.records)
 
 ---- One entry
 
@@ -115,17 +192,26 @@ abbrev pub is_on_time : Input → ℕ → ℕ → Bool
 is_on_time Input.Tick second now = nat_le now second
 is_on_time _ second now = second == now
 
+-- a provider has no asks of its own, and answers no query yet
+abbrev pub is_for_provider : Input → Bool
+is_for_provider (Input.Ask _ _) = false
+is_for_provider (Input.Got m) = not (is_query m.body)
+is_for_provider _ = true
+
 -- an agent takes so many entries
 abbrev pub most_entries : ℕ
 most_entries = 4194304
 
 abbrev pub may_take : State → Entry → Bool
-may_take s e = nat_lt s.taken most_entries && is_on_time e.input e.second s.now
+may_take s e = nat_lt s.taken most_entries && (is_for_provider e.input && is_on_time e.input e.second s.now)
 
 unfoldable pub step : Input → ℕ → Home → (List ℕ → Option ℕ) → State → Stepped
 step (Input.Got m) second home stp_of s = hears (is_request m.body) (is_taken m.header s.seen) home stp_of s m
-step (Input.Work n machine) second home stp_of s = works (is_waiting s n machine) home s n
+step (Input.Work n machine) second home stp_of s = works (is_waiting s n machine) home s n machine
 step Input.Tick second home stp_of s = ticks home second s
+step (Input.Force n) second home stp_of s = forces (is_forcible s n) home s n
+step (Input.Acked _) second home stp_of s = unchanged s
+step (Input.Ask _ _) second home stp_of s = unchanged s
 
 abbrev pub after_if : Bool → Home → (List ℕ → Option ℕ) → State → Entry → Stepped
 after_if true home stp_of s e = counts (step e.input e.second home stp_of s)

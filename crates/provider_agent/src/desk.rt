@@ -1,21 +1,22 @@
 //! What a provider keeps.
 
-ghost use Rattle.std.specs.Prelude.{◌≡◌, ◌<◌, ◌≤◌, length, if◌then◌else◌, None, IfOk, OnOk, OnErr};
+ghost use Rattle.std.specs.Prelude.{◌≡◌, ◌<◌, ◌≤◌, length, if◌then◌else◌, true, None, IfOk, OnOk, OnErr};
 ghost use Rattle.stp_topology.specs.Sound.{IsProvider};
 ghost use Rattle.capacity_calendar.specs.Plan.{pending_set};
 ghost use Rattle.connection_record.specs.Demand.{holds_pending};
 ghost use Rattle.provider_agent.specs.Home.{home_of, own_stp};
 ghost use Rattle.provider_agent.specs.State.{blank, counts, record_at};
-ghost use Rattle.provider_agent.specs.Steps.{step};
+ghost use Rattle.provider_agent.specs.Steps.{step, is_on_time};
 ghost use Rattle.provider_agent.specs.Indexed.{AreIndexed};
 ghost use Rattle.provider_agent.specs.Kept.{AreKept};
 ghost use Rattle.provider_agent.specs.Desk.{home_at, state_at, standing_at, IsReady};
 
+use crate::agent::Agent;
 use crate::home::capacities_among;
 use capacity_calendar::Calendar;
 use connection_record::Record;
 use message_retry::TakenRequests;
-use nsi_base::{AgentNo, HoldTime, Name, RecordNo, Second};
+use nsi_base::{AgentNo, RecordNo, Second};
 use nsi_primitive::{Entry, Input, Message};
 use record_index::{Deadlines, Places};
 use std::alloc::{AllocError, Global};
@@ -24,14 +25,12 @@ use stp_topology::{AgentKind, Topology};
 /// A provider's fields, without a word on what is true of them.
 #[derive(Drop)]
 pub struct Desk {
-    pub name: Name,
-    pub number: AgentNo,
-    pub hold: HoldTime,
+    pub agent: Agent,
     pub calendar: Calendar,
     pub records: Vec<Record>,
     /// The places of the records that have work to do. Others may be among them.
     pub waiting: Places,
-    /// When holds end. Others may be among them.
+    /// When holds end, and schedules begin and end. Others may be among them.
     pub deadlines: Deadlines,
     pub seen: TakenRequests,
     /// The number of the next id.
@@ -48,7 +47,7 @@ impl Desk {
         requires provider { IsProvider topology.now agent }
         ensures standing { IfOk result (λ d. standing_at d ≡ record { home = home_of topology.now agent; state = blank }) }
         ensures kept { IfOk result (λ d. AreKept d.records.items d.calendar.bookings) }
-        ensures indexed { IfOk result (λ d. AreIndexed d.records.items d.waiting d.deadlines) }
+        ensures indexed { IfOk result (λ d. AreIndexed d.now d.records.items d.waiting d.deadlines) }
     {
         let AgentKind::Provider { hold } = topology.kind(agent) else {
             unreachable!()
@@ -57,9 +56,11 @@ impl Desk {
         let capacities = capacities_among(alloc, topology, agent)?;
         let calendar = Calendar::new(alloc, capacities)?;
         Ok(Desk {
-            name,
-            number: agent,
-            hold,
+            agent: Agent {
+                name,
+                number: agent,
+                hold,
+            },
             calendar,
             records: Vec::new(alloc),
             waiting: Places::new(alloc),
@@ -81,17 +82,20 @@ impl Desk {
     ) -> Result<Vec<Message>, AllocError>
         requires ready { IsReady self.old }
         requires few { self.old.taken < 4194304 }
-        ensures state { OnOk result (state_at self.new ≡ (counts (step entry.now.input entry.now.second (home_at self.old) (own_stp topology.now self.old.number) (state_at self.old))).state) }
-        ensures out { IfOk result (λ out. out.items ≡ (counts (step entry.now.input entry.now.second (home_at self.old) (own_stp topology.now self.old.number) (state_at self.old))).out) }
+        requires on_time { is_on_time entry.now.input entry.now.second self.old.now ≡ true }
+        ensures state { OnOk result (state_at self.new ≡ (counts (step entry.now.input entry.now.second (home_at self.old) (own_stp topology.now self.old.agent.number) (state_at self.old))).state) }
+        ensures out { IfOk result (λ out. out.items ≡ (counts (step entry.now.input entry.now.second (home_at self.old) (own_stp topology.now self.old.agent.number) (state_at self.old))).out) }
         ensures home { home_at self.new ≡ home_at self.old }
         ensures err { OnErr result (state_at self.new ≡ state_at self.old) }
         ensures kept { AreKept self.new.records.items self.new.calendar.bookings }
-        ensures indexed { AreIndexed self.new.records.items self.new.waiting self.new.deadlines }
+        ensures indexed { AreIndexed self.new.now self.new.records.items self.new.waiting self.new.deadlines }
     {
         let out = match &entry.input {
             Input::Got(message) => self.hear(alloc, topology, message)?,
             Input::Work { number, machine } => self.work(alloc, *number, *machine)?,
             Input::Tick => self.tick(alloc, entry.second)?,
+            Input::Force { number } => self.force(alloc, *number)?,
+            Input::Acked(_) | Input::Ask { .. } => Vec::new(alloc),
         };
         self.taken += 1;
         Ok(out)

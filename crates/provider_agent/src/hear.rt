@@ -4,20 +4,23 @@ ghost use Rattle.std.specs.Prelude.{◌≡◌, ◌<◌, ◌∷◌, [], length, s
 ghost use Rattle.nsi_primitive.specs.Messages.{is_request, connection_of};
 ghost use Rattle.nsi_primitive.specs.declared.message.Body.{Body as BodyValue};
 ghost use Rattle.message_retry.specs.Taken.{is_taken, with_taken};
-ghost use Rattle.connection_record.specs.Replies.{addressed};
-ghost use Rattle.connection_record.specs.Moves.{service_of, requested, reserves_if};
+ghost use Rattle.nsi_primitive.specs.Ids.{id_of};
+ghost use Rattle.nsi_primitive.specs.declared.state.Side.{Side as SideValue};
+ghost use Rattle.connection_record.specs.Moves.{service_of};
+ghost use Rattle.connection_record.specs.Turns.{requested, moves_if, tells, status_of, is_told};
 ghost use Rattle.connection_record.specs.Refusal.{refusal, unnamed_refusal, points_of};
 ghost use Rattle.provider_agent.specs.Home.{own_stp};
 ghost use Rattle.provider_agent.specs.State.{name_or, record_at};
-ghost use Rattle.provider_agent.specs.Steps.{hears, answers, opens_between, taken_at, error_reply};
+ghost use Rattle.provider_agent.specs.Steps.{hears, answers, opens_between, taken_at, error_reply, drawn, messages_by};
 ghost use Rattle.provider_agent.specs.Indexed.{AreIndexed};
 ghost use Rattle.provider_agent.specs.Kept.{AreKept};
 ghost use Rattle.provider_agent.specs.Desk.{home_at, state_at, IsReady};
 
+use crate::agent::Agent;
 use crate::desk::Desk;
 use crate::find::place_of;
 use crate::home::own_stp;
-use crate::records::advance;
+use crate::records::{Turned, turn};
 use connection_record::Record;
 use connection_record::refusal::schedule_refusal;
 use nsi_base::{AgentNo, Name, Second, StpNo, Text};
@@ -37,12 +40,12 @@ impl Desk {
         message: &Message,
     ) -> Result<Vec<Message>, AllocError>
         requires { IsReady self.old }
-        ensures state { OnOk result (let m = message.now in state_at self.new ≡ (hears (is_request m.body) (is_taken m.header self.old.seen) (home_at self.old) (own_stp topology.now self.old.number) (state_at self.old) m).state) }
-        ensures out { IfOk result (λ out. let m = message.now in out.items ≡ (hears (is_request m.body) (is_taken m.header self.old.seen) (home_at self.old) (own_stp topology.now self.old.number) (state_at self.old) m).out) }
+        ensures state { OnOk result (let m = message.now in state_at self.new ≡ (hears (is_request m.body) (is_taken m.header self.old.seen) (home_at self.old) (own_stp topology.now self.old.agent.number) (state_at self.old) m).state) }
+        ensures out { IfOk result (λ out. let m = message.now in out.items ≡ (hears (is_request m.body) (is_taken m.header self.old.seen) (home_at self.old) (own_stp topology.now self.old.agent.number) (state_at self.old) m).out) }
         ensures home { home_at self.new ≡ home_at self.old }
         ensures err { OnErr result (state_at self.new ≡ state_at self.old) }
         ensures kept { AreKept self.new.records.items self.new.calendar.bookings }
-        ensures indexed { AreIndexed self.new.records.items self.new.waiting self.new.deadlines }
+        ensures indexed { AreIndexed self.new.now self.new.records.items self.new.waiting self.new.deadlines }
     {
         if !message.is_request() {
             return Ok(Vec::new(alloc));
@@ -68,25 +71,25 @@ impl Desk {
         message: &Message,
     ) -> Result<Vec<Message>, AllocError>
         requires { IsReady self.old }
-        ensures state { OnOk result (let m = message.now in state_at self.new ≡ (answers (refusal self.old.name (own_stp topology.now self.old.number) self.old.records.items m) (home_at self.old) (own_stp topology.now self.old.number) (state_at self.old) m).state) }
-        ensures out { IfOk result (λ out. let m = message.now in out.items ≡ (answers (refusal self.old.name (own_stp topology.now self.old.number) self.old.records.items m) (home_at self.old) (own_stp topology.now self.old.number) (state_at self.old) m).out) }
+        ensures state { OnOk result (let m = message.now in state_at self.new ≡ (answers (refusal self.old.agent.name (own_stp topology.now self.old.agent.number) self.old.records.items m) (home_at self.old) (own_stp topology.now self.old.agent.number) (state_at self.old) m).state) }
+        ensures out { IfOk result (λ out. let m = message.now in out.items ≡ (answers (refusal self.old.agent.name (own_stp topology.now self.old.agent.number) self.old.records.items m) (home_at self.old) (own_stp topology.now self.old.agent.number) (state_at self.old) m).out) }
         ensures home { home_at self.new ≡ home_at self.old }
         ensures err { OnErr result (state_at self.new ≡ state_at self.old) }
         ensures kept { AreKept self.new.records.items self.new.calendar.bookings }
-        ensures indexed { AreIndexed self.new.records.items self.new.waiting self.new.deadlines }
+        ensures indexed { AreIndexed self.new.now self.new.records.items self.new.waiting self.new.deadlines }
     {
-        if !message.header.provider.is(&self.name) {
-            return refuse(alloc, &self.name, message, ErrorName::WrongProvider);
+        if !message.header.provider.is(&self.agent.name) {
+            return refuse(alloc, &self.agent.name, message, ErrorName::WrongProvider);
         }
         let Some(id) = message.body.connection() else {
             return self.open(alloc, topology, message);
         };
         let owner = &message.header.requester;
-        let Some(place) = place_of(self.number, self.next, &self.records, id, owner) else {
-            return refuse(alloc, &self.name, message, ErrorName::Nonexistent);
+        let Some(place) = place_of(self.agent.number, self.next, &self.records, id, owner) else {
+            return refuse(alloc, &self.agent.name, message, ErrorName::Nonexistent);
         };
         match self.records[place].refusal(&message.body) {
-            Some(error) => refuse(alloc, &self.name, message, error),
+            Some(error) => refuse(alloc, &self.agent.name, message, error),
             None => self.take_at(alloc, place, message),
         }
     }
@@ -101,21 +104,21 @@ impl Desk {
     ) -> Result<Vec<Message>, AllocError>
         requires ready { IsReady self.old }
         requires unnamed { connection_of message.now.body ≡ None }
-        ensures state { OnOk result (let m = message.now in state_at self.new ≡ (answers (unnamed_refusal m.body (own_stp topology.now self.old.number)) (home_at self.old) (own_stp topology.now self.old.number) (state_at self.old) m).state) }
-        ensures out { IfOk result (λ out. let m = message.now in out.items ≡ (answers (unnamed_refusal m.body (own_stp topology.now self.old.number)) (home_at self.old) (own_stp topology.now self.old.number) (state_at self.old) m).out) }
+        ensures state { OnOk result (let m = message.now in state_at self.new ≡ (answers (unnamed_refusal m.body (own_stp topology.now self.old.agent.number)) (home_at self.old) (own_stp topology.now self.old.agent.number) (state_at self.old) m).state) }
+        ensures out { IfOk result (λ out. let m = message.now in out.items ≡ (answers (unnamed_refusal m.body (own_stp topology.now self.old.agent.number)) (home_at self.old) (own_stp topology.now self.old.agent.number) (state_at self.old) m).out) }
         ensures home { home_at self.new ≡ home_at self.old }
         ensures err { OnErr result (state_at self.new ≡ state_at self.old) }
         ensures kept { AreKept self.new.records.items self.new.calendar.bookings }
-        ensures indexed { AreIndexed self.new.records.items self.new.waiting self.new.deadlines }
+        ensures indexed { AreIndexed self.new.now self.new.records.items self.new.waiting self.new.deadlines }
     {
         let Body::Reserve(request) = &message.body else {
             return Ok(Vec::new(alloc));
         };
         if let Some(error) = schedule_refusal(request) {
-            return refuse(alloc, &self.name, message, error);
+            return refuse(alloc, &self.agent.name, message, error);
         }
-        match points_of(topology, self.number, request) {
-            None => refuse(alloc, &self.name, message, ErrorName::UnknownStp),
+        match points_of(topology, self.agent.number, request) {
+            None => refuse(alloc, &self.agent.name, message, ErrorName::UnknownStp),
             Some((source, dest)) => self.open_between(alloc, message, request, source, dest),
         }
     }
@@ -138,7 +141,7 @@ impl Desk {
         ensures home { home_at self.new ≡ home_at self.old }
         ensures err { OnErr result (state_at self.new ≡ state_at self.old) }
         ensures kept { AreKept self.new.records.items self.new.calendar.bookings }
-        ensures indexed { AreIndexed self.new.records.items self.new.waiting self.new.deadlines }
+        ensures indexed { AreIndexed self.new.now self.new.records.items self.new.waiting self.new.deadlines }
     {
         self.waiting.add(self.records.len())?;
         self.add_record(alloc, message, request, source, dest)
@@ -163,16 +166,17 @@ impl Desk {
         ensures home { home_at self.new ≡ home_at self.old }
         ensures err { OnErr result (state_at self.new ≡ state_at self.old) }
         ensures kept { AreKept self.new.records.items self.new.calendar.bookings }
-        ensures indexed { AreIndexed self.new.records.items self.new.waiting self.new.deadlines }
+        ensures indexed { AreIndexed self.new.now self.new.records.items self.new.waiting self.new.deadlines }
     {
         let owner = message.header.requester.copy()?;
         let service = service_of(request)?;
-        let id = id_of(self.number, self.next);
+        let id = id_of(self.agent.number, self.next);
         let mut own = Record::new(alloc, id, owner, service, source, dest);
-        let out = take(alloc, &self.name, &mut own, message, self.now)?;
+        let next = self.next + 1;
+        let turn = take(alloc, &self.agent, &mut own, message, next, self.now)?;
         self.records.push(own)?;
-        self.next += 1;
-        Ok(out)
+        self.next = next + turn.drawn;
+        Ok(turn.out)
     }
 
     /// Takes a request about the record at a place, which then may have work to do. It is named first: where memory is
@@ -190,7 +194,7 @@ impl Desk {
         ensures home { home_at self.new ≡ home_at self.old }
         ensures err { OnErr result (state_at self.new ≡ state_at self.old) }
         ensures kept { AreKept self.new.records.items self.new.calendar.bookings }
-        ensures indexed { AreIndexed self.new.records.items self.new.waiting self.new.deadlines }
+        ensures indexed { AreIndexed self.new.now self.new.records.items self.new.waiting self.new.deadlines }
     {
         self.waiting.add(place)?;
         self.move_at(alloc, place, message)
@@ -211,18 +215,20 @@ impl Desk {
         ensures home { home_at self.new ≡ home_at self.old }
         ensures err { OnErr result (state_at self.new ≡ state_at self.old) }
         ensures kept { AreKept self.new.records.items self.new.calendar.bookings }
-        ensures indexed { AreIndexed self.new.records.items self.new.waiting self.new.deadlines }
+        ensures indexed { AreIndexed self.new.now self.new.records.items self.new.waiting self.new.deadlines }
     {
-        let out = take_among(
+        let turn = take_among(
             alloc,
-            &self.name,
+            &self.agent,
             &mut self.records,
             place,
             message,
+            self.next,
             self.now,
         )?;
+        self.next += turn.drawn;
         self.free_if_dropped(place);
-        Ok(out)
+        Ok(turn.out)
     }
 }
 
@@ -252,39 +258,49 @@ fn refuse(
 }
 
 /// Moves a record by a request.
+#[tactic(auto, using(crate::proofs::Turning::told_still, crate::proofs::Turning::drawn_still))]
 fn take(
     alloc: Global,
-    agent: &Name,
+    agent: &Agent,
     own: &mut Record,
     message: &Message,
+    next: u64,
     now: Second,
-) -> Result<Vec<Message>, AllocError>
-    ensures rec { OnOk result (let move = requested message.now.body message.now.header.correlation own.old in own.new ≡ (reserves_if move now own.old).rec) }
-    ensures out { IfOk result (λ out. let move = requested message.now.body message.now.header.correlation own.old in out.items ≡ addressed agent.now (reserves_if move now own.old).rec.owner (reserves_if move now own.old).out) }
+) -> Result<Turned, AllocError>
+    requires { next < 4611686018427387904 }
+    ensures rec { OnOk result (let x = moves_if SideValue.Provider (requested message.now.body message.now.header.correlation own.old) now own.old in own.new ≡ (tells (status_of now own.old) (id_of agent.now.number next) now x).rec) }
+    ensures out { IfOk result (λ turn. let x = moves_if SideValue.Provider (requested message.now.body message.now.header.correlation own.old) now own.old in turn.out.items ≡ messages_by agent.now.name (tells (status_of now own.old) (id_of agent.now.number next) now x)) }
+    ensures drawn { IfOk result (λ turn. let x = moves_if SideValue.Provider (requested message.now.body message.now.header.correlation own.old) now own.old in turn.drawn ≡ drawn (is_told (status_of now own.old) now x.rec)) }
     ensures err { OnErr result (own.new ≡ own.old) }
 {
     match own.requested(&message.body, message.header.correlation) {
-        None => Ok(Vec::new(alloc)),
-        Some(event) => advance(alloc, agent, own, event, now),
+        None => Ok(Turned {
+            out: Vec::new(alloc),
+            drawn: 0,
+        }),
+        Some(event) => turn(alloc, agent, own, event, next, now),
     }
 }
 
 /// Moves the record at a place by a request.
 fn take_among(
     alloc: Global,
-    agent: &Name,
+    agent: &Agent,
     records: &mut Vec<Record>,
     place: usize,
     message: &Message,
+    next: u64,
     now: Second,
-) -> Result<Vec<Message>, AllocError>
-    requires { place < length records.old.items }
-    ensures rec { OnOk result (let own = record_at place records.old.items in records.new.items ≡ slice_set records.old.items place (reserves_if (requested message.now.body message.now.header.correlation own) now own).rec) }
-    ensures out { IfOk result (λ out. let own = record_at place records.old.items in let moved = reserves_if (requested message.now.body message.now.header.correlation own) now own in out.items ≡ addressed agent.now moved.rec.owner moved.out) }
+) -> Result<Turned, AllocError>
+    requires within { place < length records.old.items }
+    requires next { next < 4611686018427387904 }
+    ensures rec { OnOk result (let own = record_at place records.old.items in let x = moves_if SideValue.Provider (requested message.now.body message.now.header.correlation own) now own in records.new.items ≡ slice_set records.old.items place (tells (status_of now own) (id_of agent.now.number next) now x).rec) }
+    ensures out { IfOk result (λ turn. let own = record_at place records.old.items in let x = moves_if SideValue.Provider (requested message.now.body message.now.header.correlation own) now own in turn.out.items ≡ messages_by agent.now.name (tells (status_of now own) (id_of agent.now.number next) now x)) }
+    ensures drawn { IfOk result (λ turn. let own = record_at place records.old.items in let x = moves_if SideValue.Provider (requested message.now.body message.now.header.correlation own) now own in turn.drawn ≡ drawn (is_told (status_of now own) now x.rec)) }
     ensures err { OnErr result (records.new.items ≡ records.old.items) }
 {
     let own = &mut records[place];
-    take(alloc, agent, own, message, now)
+    take(alloc, agent, own, message, next, now)
 }
 
 /// The two points that a first reserve names, where both are the provider's.

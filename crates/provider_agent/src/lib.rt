@@ -1,8 +1,10 @@
 //! The agent of one network, which reserves within the capacities of its own points.
 #![tactic(auto)]
 
+mod agent;
 mod desk;
 mod find;
+mod force;
 mod hear;
 mod home;
 pub mod provider;

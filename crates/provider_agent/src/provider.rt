@@ -48,7 +48,7 @@ impl Provider {
         Ok(Provider { desk })
     }
 
-    /// Takes an entry: a message, work that waits, or a second of its clock, and gives the messages that it causes.
+    /// Takes an entry: a message, work that waits, a second of its clock, or a forced end, and gives the messages that it causes.
     /// Where memory is wanting, nothing has changed. It takes 4,194,304 entries.
     pub fn next(
         &mut self,

@@ -1,180 +1,210 @@
 //! How the clock goes on.
 
-ghost use Rattle.std.specs.Prelude.{◌≡◌, ◌<◌, ◌≤◌, ◌++◌, length, map, take, drop, slice_set, None, IfOk, OnOk, OnErr};
+ghost use Rattle.std.specs.Prelude.{◌≡◌, ◌<◌, ◌≤◌, ◌+◌, ◌++◌, ◌⊎◌, ℕ, length, slice_set, Contains, if◌then◌else◌, None, IfOk, OnOk, OnErr, []};
 ghost use Rattle.std.specs.Prelude.{List as Sequence};
-ghost use Rattle.std.specs.List.{flat_map};
+ghost use Rattle.nsi_primitive.specs.Ids.{id_of};
 ghost use Rattle.capacity_calendar.specs.Plan.{pending_set};
 ghost use Rattle.connection_record.specs.declared.record.Record.{Record as RecordValue};
-ghost use Rattle.connection_record.specs.Moves.{lapsed};
+ghost use Rattle.connection_record.specs.Demand.{holds_pending};
+ghost use Rattle.provider_agent.specs.declared.tick.Kept.{Kept as KeptValue};
+ghost use Rattle.connection_record.specs.Later.{IsLater};
 ghost use Rattle.provider_agent.specs.State.{record_at};
-ghost use Rattle.provider_agent.specs.Steps.{ticks, ticks_at, messages_of};
-ghost use Rattle.provider_agent.specs.Ticks.{noted_at, lapsed_at, AreDue};
+ghost use Rattle.provider_agent.specs.Steps.{ticks, ticks_all, told_at, is_told_at, drawn, messages_by};
+ghost use Rattle.provider_agent.specs.Ticks.{AreDue, AreSaved, CanGoBack, IsFreedBut};
 ghost use Rattle.provider_agent.specs.Indexed.{AreIndexed};
 ghost use Rattle.provider_agent.specs.Kept.{AreKept};
 ghost use Rattle.provider_agent.specs.Desk.{home_at, state_at, IsReady};
 
+use crate::agent::Agent;
 use crate::desk::{Desk, number_of};
-use crate::records::{message_of, parties_of};
+use crate::records::{address, drawn_for};
 use capacity_calendar::Calendar;
-use connection_record::{Origin, Record};
+use connection_record::{Origin, Record, Savepoint};
 use nsi_base::Second;
-use nsi_primitive::Message;
+use nsi_primitive::{Message, id_of};
 use std::alloc::{AllocError, Global};
 
+/// What the record at a place was.
+#[derive(Clone, Copy)]
+pub struct Kept {
+    pub place: usize,
+    pub saved: Savepoint,
+}
+
+/// A tick under way: from which second to which, what the records were that it has touched, what was said, and the number
+/// of the next id.
+#[derive(Drop)]
+struct Ticking {
+    before: Second,
+    now: Second,
+    kept: Vec<Kept>,
+    out: Vec<Message>,
+    next: u64,
+}
+
 impl Desk {
-    /// Ends each hold that is over. Where memory is wanting, nothing changes.
+    /// Ends what is over by now, and tells each data plane that is another since. Where memory is wanting, nothing changes.
     #[tactic(auto, unfolding(crate::specs::Steps::ticks))]
     pub fn tick(&mut self, alloc: Global, now: Second) -> Result<Vec<Message>, AllocError>
-        requires { IsReady self.old }
+        requires ready { IsReady self.old }
+        requires on_time { self.old.now ≤ now }
         ensures state { OnOk result (state_at self.new ≡ (ticks (home_at self.old) now (state_at self.old)).state) }
         ensures out { IfOk result (λ out. out.items ≡ (ticks (home_at self.old) now (state_at self.old)).out) }
         ensures home { home_at self.new ≡ home_at self.old }
         ensures err { OnErr result (state_at self.new ≡ state_at self.old) }
         ensures kept { AreKept self.new.records.items self.new.calendar.bookings }
-        ensures indexed { AreIndexed self.new.records.items self.new.waiting self.new.deadlines }
+        ensures indexed { AreIndexed self.new.now self.new.records.items self.new.waiting self.new.deadlines }
     {
         let places = self.deadlines.due_by(alloc, now)?;
         let due = places.items();
-        let out = self.told(alloc, due, now)?;
-        note_all(&mut self.records, due, now)?;
-        end_all(&mut self.records, &mut self.calendar, due, now);
+        let mut ticking = Ticking {
+            before: self.now,
+            now,
+            kept: Vec::new(alloc),
+            out: Vec::new(alloc),
+            next: self.next,
+        };
+        ticking.tick_all(alloc, &self.agent, &mut self.records, due)?;
+        free_all(&mut self.calendar, &self.records, due);
         self.deadlines.pass(now);
         self.now = now;
+        self.next = ticking.next;
+        let Ticking { out, .. } = ticking;
         Ok(out)
     }
+}
 
-    /// What the owners of the holds that are over are told.
-    fn told(&self, alloc: Global, due: &[usize], now: Second) -> Result<Vec<Message>, AllocError>
-        requires { AreDue now self.now.records.items due.now }
-        ensures { IfOk result (λ out. out.items ≡ flat_map (λ r. messages_of (home_at self.entry.now) (ticks_at (home_at self.entry.now) now r)) self.entry.now.records.items) }
+impl Ticking {
+    /// Ticks the records at the places, all of them or none.
+    fn tick_all(
+        &mut self,
+        alloc: Global,
+        agent: &Agent,
+        records: &mut Vec<Record>,
+        due: &[usize],
+    ) -> Result<(), AllocError>
+        requires due { AreDue self.old.before self.old.now records.old.items due.now }
+        requires none_kept { self.old.kept.items ≡ [] }
+        requires none_said { self.old.out.items ≡ [] }
+        requires next { self.old.next ≤ 17592194433024 }
+        requires few { length records.old.items ≤ 4194304 }
+        ensures records { OnOk result (records.new.items ≡ (ticks_all agent.now self.old.before self.old.now self.old.next records.old.items).records) }
+        ensures out { OnOk result (self.new.out.items ≡ (ticks_all agent.now self.old.before self.old.now self.old.next records.old.items).out) }
+        ensures next { OnOk result (self.new.next ≡ (ticks_all agent.now self.old.before self.old.now self.old.next records.old.items).next) }
+        ensures err { OnErr result (records.new.items ≡ records.old.items) }
     {
-        let mut out = Vec::new(alloc);
+        match self.tick_each(alloc, agent, records, due) {
+            Ok(()) => Ok(()),
+            Err(error) => {
+                go_back(records, &self.kept);
+                Err(error)
+            }
+        }
+    }
+
+    /// Ticks the records at the places. Where memory is wanting, the first ones are ticked, and each is kept as it was.
+    fn tick_each(
+        &mut self,
+        alloc: Global,
+        agent: &Agent,
+        records: &mut Vec<Record>,
+        due: &[usize],
+    ) -> Result<(), AllocError>
+        requires due { AreDue self.old.before self.old.now records.old.items due.now }
+        requires none_kept { self.old.kept.items ≡ [] }
+        requires none_said { self.old.out.items ≡ [] }
+        requires next { self.old.next ≤ 17592194433024 }
+        requires few { length records.old.items ≤ 4194304 }
+        ensures records { OnOk result (records.new.items ≡ (ticks_all agent.now self.old.before self.old.now self.old.next records.old.items).records) }
+        ensures out { OnOk result (self.new.out.items ≡ (ticks_all agent.now self.old.before self.old.now self.old.next records.old.items).out) }
+        ensures next { OnOk result (self.new.next ≡ (ticks_all agent.now self.old.before self.old.now self.old.next records.old.items).next) }
+        ensures saved { AreSaved records.old.items self.new.kept.items }
+        ensures back { CanGoBack records.old.items records.new.items self.new.kept.items }
+    {
         for place in due {
-            self.tell(&mut out, &self.records[*place], now)?;
+            self.tick_at(alloc, agent, records, *place)?;
         }
-        Ok(out)
+        Ok(())
     }
 
-    #[tactic(auto, unfolding(connection_record::specs::Moves::reserves))]
-    fn tell(&self, out: &mut Vec<Message>, own: &Record, now: Second) -> Result<(), AllocError>
-        ensures { OnOk result (out.new.items ≡ out.old.items ++ messages_of (home_at self.entry.now) (ticks_at (home_at self.entry.now) now own.now)) }
+    /// Ticks the record at a place, which is kept first.
+    fn tick_at(
+        &mut self,
+        alloc: Global,
+        agent: &Agent,
+        records: &mut Vec<Record>,
+        place: usize,
+    ) -> Result<(), AllocError>
+        requires within { place < length records.old.items }
+        requires next { self.old.next < 4611686018427387904 }
+        ensures same { (self.new.before ≡ self.old.before) × (self.new.now ≡ self.old.now) }
+        ensures records { OnOk result (let own = record_at place records.old.items in records.new.items ≡ slice_set records.old.items place (told_at agent.now self.old.before self.old.now (id_of agent.now.number self.old.next) own).rec) }
+        ensures out { OnOk result (let own = record_at place records.old.items in self.new.out.items ≡ self.old.out.items ++ messages_by agent.now.name (told_at agent.now self.old.before self.old.now (id_of agent.now.number self.old.next) own)) }
+        ensures next { OnOk result (let own = record_at place records.old.items in self.new.next ≡ self.old.next + drawn (is_told_at agent.now self.old.before self.old.now own)) }
+        ensures saved { (rs : Sequence RecordValue) → AreSaved rs self.old.kept.items → CanGoBack rs records.old.items self.old.kept.items → record_at place records.old.items ≡ record_at place rs → AreSaved rs self.new.kept.items }
+        ensures back { (rs : Sequence RecordValue) → AreSaved rs self.old.kept.items → CanGoBack rs records.old.items self.old.kept.items → record_at place records.old.items ≡ record_at place rs → CanGoBack rs records.new.items self.new.kept.items }
     {
-        if !own.is_hold_over(now) {
-            return Ok(());
-        }
-        let origin = Origin {
-            connection: own.id,
-            nsa: self.name.copy()?,
-            value: self.hold,
-        };
-        let reply = own.timeout_reply(origin, now)?;
-        let parties = parties_of(&self.name, &own.owner)?;
-        out.push(message_of(parties, reply))?;
+        let own = &mut records[place];
+        let saved = own.save();
+        self.kept.push(Kept { place, saved })?;
+        self.tick_record(alloc, agent, own)
+    }
+
+    fn tick_record(
+        &mut self,
+        alloc: Global,
+        agent: &Agent,
+        own: &mut Record,
+    ) -> Result<(), AllocError>
+        requires next { self.old.next < 4611686018427387904 }
+        ensures same { (self.new.before ≡ self.old.before) × (self.new.now ≡ self.old.now) }
+        ensures kept { self.new.kept.items ≡ self.old.kept.items }
+        ensures rec { OnOk result (own.new ≡ (told_at agent.now self.old.before self.old.now (id_of agent.now.number self.old.next) own.old).rec) }
+        ensures out { OnOk result (self.new.out.items ≡ self.old.out.items ++ messages_by agent.now.name (told_at agent.now self.old.before self.old.now (id_of agent.now.number self.old.next) own.old)) }
+        ensures next { OnOk result (self.new.next ≡ self.old.next + drawn (is_told_at agent.now self.old.before self.old.now own.old)) }
+        ensures later { IsLater own.old own.new }
+    {
+        let origin = agent.origin_of(own)?;
+        let correlation = id_of(agent.number, self.next);
+        let mut replies = Vec::new(alloc);
+        let is_told = own.tick(&mut replies, origin, correlation, self.before, self.now)?;
+        address(&mut self.out, &agent.name, &own.owner, replies)?;
+        self.next += drawn_for(is_told);
         Ok(())
     }
 }
 
-/// Ends the holds whose end is noted.
-fn end_all(records: &mut Vec<Record>, calendar: &mut Calendar, due: &[usize], now: Second)
-    requires due { AreDue now records.old.items due.now }
-    requires kept { AreKept records.old.items calendar.old.bookings }
-    requires few { length records.old.items ≤ 4194303 }
-    ensures records { records.new.items ≡ map (lapsed_at now) records.old.items }
-    ensures capacities { calendar.new.capacities ≡ calendar.old.capacities }
-    ensures kept { AreKept records.new.items calendar.new.bookings }
+/// Makes the records what they were. It takes no memory.
+fn go_back(records: &mut Vec<Record>, kept: &[Kept])
+    requires { (k : KeptValue) → Contains kept.now k → k.place < length records.old.items }
+    ensures { (rs : Sequence RecordValue) → AreSaved rs kept.now → CanGoBack rs records.old.items kept.now → records.new.items ≡ rs }
 {
-    for place in due {
-        end_at(records, calendar, *place, now);
+    for one in kept {
+        records[one.place].restore(&one.saved);
     }
 }
 
-#[tactic(auto, unfolding(crate::specs::Ticks::lapsed_at))]
-fn end_at(records: &mut Vec<Record>, calendar: &mut Calendar, place: usize, now: Second)
-    requires within { place < length records.old.items }
+/// What the records at the places don't hold any more is free for others.
+fn free_all(calendar: &mut Calendar, records: &[Record], due: &[usize])
+    requires within { (n : ℕ) → Contains due.now n → n < length records.now }
+    requires few { length records.now ≤ 4194303 }
+    requires but { IsFreedBut records.now calendar.old.bookings due.now }
+    ensures capacities { calendar.new.capacities ≡ calendar.old.capacities }
+    ensures kept { AreKept records.now calendar.new.bookings }
+{
+    for place in due {
+        free_at(calendar, records, *place);
+    }
+}
+
+fn free_at(calendar: &mut Calendar, records: &[Record], place: usize)
+    requires within { place < length records.now }
     requires few { place ≤ 4194303 }
-    requires kept { AreKept records.old.items calendar.old.bookings }
-    ensures records { records.new.items ≡ slice_set records.old.items place (lapsed_at now (record_at place records.old.items)) }
-    ensures capacities { calendar.new.capacities ≡ calendar.old.capacities }
-    ensures kept { AreKept records.new.items calendar.new.bookings }
+    ensures { let bookings = calendar.old.bookings in
+        let holds = holds_pending (record_at place records.now).rsm in
+        calendar.new ≡ record calendar.old { bookings = if holds then bookings else pending_set place None bookings } }
 {
-    if records[place].is_hold_over(now) {
-        end_hold_at(records, place);
-        free_pending(calendar, place);
-    }
-}
-
-fn free_pending(calendar: &mut Calendar, place: usize)
-    requires { place ≤ 4194303 }
-    ensures { calendar.new ≡ record calendar.old { bookings = pending_set place None calendar.old.bookings } }
-{
-    calendar.take_pending(number_of(place));
-}
-
-fn end_hold_at(records: &mut Vec<Record>, place: usize)
-    requires { place < length records.old.items }
-    ensures { records.new.items ≡ slice_set records.old.items place (lapsed (record_at place records.old.items)) }
-{
-    records[place].end_hold();
-}
-
-/// Notes the end of each hold that is over.
-fn note_all(records: &mut Vec<Record>, due: &[usize], now: Second) -> Result<(), AllocError>
-    requires { AreDue now records.old.items due.now }
-    ensures ok { OnOk result (records.new.items ≡ map (noted_at now) records.old.items) }
-    ensures err { OnErr result (records.new.items ≡ records.old.items) }
-{
-    let count = note_some(records, due, now);
-    if count == records.len() {
-        return Ok(());
-    }
-    take_back(records, due, count, now);
-    Err(AllocError)
-}
-
-/// Notes ends from the front until memory is wanting, and answers for how many records that was done.
-fn note_some(records: &mut Vec<Record>, due: &[usize], now: Second) -> usize
-    requires { AreDue now records.old.items due.now }
-    ensures within { result ≤ length records.old.items }
-    ensures noted { records.new.items ≡ map (noted_at now) (take result records.old.items) ++ drop result records.old.items }
-{
-    for place in due {
-        let Ok(()) = note(&mut records[*place], now) else {
-            return *place;
-        };
-    }
-    records.len()
-}
-
-#[tactic(auto, unfolding(crate::specs::Ticks::noted_at))]
-fn note(own: &mut Record, now: Second) -> Result<(), AllocError>
-    ensures ok { OnOk result (own.new ≡ noted_at now own.old) }
-    ensures err { OnErr result (own.new ≡ own.old) }
-{
-    if own.is_hold_over(now) {
-        own.note_hold_end(now)
-    } else {
-        Ok(())
-    }
-}
-
-/// Takes back what was noted of the first records.
-fn take_back(records: &mut Vec<Record>, due: &[usize], count: usize, now: Second)
-    requires within { count ≤ length records.old.items }
-    ensures { (rs : Sequence RecordValue) → AreDue now rs due.now → records.old.items ≡ map (noted_at now) (take count rs) ++ drop count rs → records.new.items ≡ rs }
-{
-    for place in due {
-        if *place >= count {
-            return;
-        }
-        forget(&mut records[*place], now);
-    }
-}
-
-#[tactic(auto, unfolding(crate::specs::Ticks::noted_at))]
-fn forget(own: &mut Record, now: Second)
-    ensures { (r : RecordValue) → own.old ≡ noted_at now r → own.new ≡ r }
-{
-    if own.is_hold_over(now) {
-        own.take_back_hold_end();
+    if !records[place].is_holding() {
+        calendar.take_pending(number_of(place));
     }
 }

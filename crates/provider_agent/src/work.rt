@@ -1,24 +1,27 @@
 //! How waiting work is done.
 
-ghost use Rattle.std.specs.Prelude.{◌≡◌, ◌<◌, ◌≤◌, ◌+◌, ◌&&◌, nat_lt, position, length, IfSome, IfOk, OnOk, OnErr, Some, None, IsSome, is_some, if◌then◌else◌, true, option_map, Contains};
+ghost use Rattle.std.specs.Prelude.{◌≡◌, ◌<◌, ◌≤◌, ◌+◌, ◌&&◌, nat_lt, length, IfSome, IfOk, OnOk, OnErr, Some, None, IsSome, is_some, if◌then◌else◌, true, option_map, position, Contains};
 ghost use Rattle.std.specs.List.Sorted.{IsStrictlyIncreasing};
 ghost use Rattle.nsi_primitive.specs.Kinds.{is_both_ways};
 ghost use Rattle.nsi_primitive.specs.declared.state.Machine.{Machine as MachineValue};
-ghost use Rattle.connection_record.specs.declared.moves.ReservationMove.{ReservationMove as MoveValue};
-ghost use Rattle.connection_record.specs.declared.moves.ReservationMove.TheVariants.{Fit as FitValue};
+ghost use Rattle.nsi_primitive.specs.declared.state.Side.{Side as SideValue};
+ghost use Rattle.connection_record.specs.declared.moves.ReservationMove.{ReservationMove as ReservationValue};
+ghost use Rattle.connection_record.specs.declared.turn.Move.{Move as MoveValue};
 ghost use Rattle.capacity_calendar.specs.Plan.{pending_of, settled};
-ghost use Rattle.connection_record.specs.Moves.{reserves, fit_or_lack, is_live, waits};
+ghost use Rattle.record_index.specs.declared.deadlines.Deadline.{Deadline as DeadlineValue};
+ghost use Rattle.connection_record.specs.Moves.{fit_or_lack};
+ghost use Rattle.connection_record.specs.Turns.{moves, waits, has_work};
 ghost use Rattle.provider_agent.specs.Others.{lacking, lack_among, cause_among, bandwidth};
 ghost use Rattle.provider_agent.specs.State.{record_at};
-ghost use Rattle.provider_agent.specs.Steps.{works, works_at, is_waiting, put_back, first_waiting};
-ghost use Rattle.provider_agent.specs.Indexed.{NamesWork, AreIndexed};
+ghost use Rattle.provider_agent.specs.Steps.{works, works_at, keeps, is_waiting, first_waiting, machine_at};
+ghost use Rattle.provider_agent.specs.Indexed.{NamesWork, AreIndexed, deadline_of};
 ghost use Rattle.provider_agent.specs.Kept.{AreKept, slot_of, with_slot, plan_lack, is_plain};
 ghost use Rattle.provider_agent.specs.Desk.{home_at, state_at, IsReady};
 
 use crate::desk::{Desk, number_of};
-use crate::records::advance_at;
+use crate::records::turn_at;
 use capacity_calendar::{Calendar, Lack};
-use connection_record::{Record, ReservationMove};
+use connection_record::{Move, ProvisionMove, Record, ReservationMove};
 use nsi_base::{RecordNo, Second};
 use nsi_primitive::{Cause, Criteria, ErrorName, Exception, Machine, Message, Rsm};
 use record_index::Places;
@@ -26,7 +29,7 @@ use std::alloc::{AllocError, Global};
 
 impl Desk {
     /// Does the work of a machine of a record. Work that doesn't wait changes nothing.
-    #[tactic(auto, unfolding(crate::specs::Steps::works), using(crate::proofs::Putting::waiting_within, crate::proofs::Putting::waiting_live))]
+    #[tactic(auto, unfolding(crate::specs::Steps::works), using(crate::proofs::Putting::waiting_within))]
     pub fn work(
         &mut self,
         alloc: Global,
@@ -34,18 +37,18 @@ impl Desk {
         machine: Machine,
     ) -> Result<Vec<Message>, AllocError>
         requires { IsReady self.old }
-        ensures state { OnOk result (state_at self.new ≡ (works (is_waiting (state_at self.old) number machine) (home_at self.old) (state_at self.old) number).state) }
-        ensures out { IfOk result (λ out. out.items ≡ (works (is_waiting (state_at self.old) number machine) (home_at self.old) (state_at self.old) number).out) }
+        ensures state { OnOk result (state_at self.new ≡ (works (is_waiting (state_at self.old) number machine) (home_at self.old) (state_at self.old) number machine).state) }
+        ensures out { IfOk result (λ out. out.items ≡ (works (is_waiting (state_at self.old) number machine) (home_at self.old) (state_at self.old) number machine).out) }
         ensures home { home_at self.new ≡ home_at self.old }
         ensures err { OnErr result (state_at self.new ≡ state_at self.old) }
         ensures kept { AreKept self.new.records.items self.new.calendar.bookings }
-        ensures indexed { AreIndexed self.new.records.items self.new.waiting self.new.deadlines }
+        ensures indexed { AreIndexed self.new.now self.new.records.items self.new.waiting self.new.deadlines }
     {
         let place = number.get() as usize;
         if !is_waiting(&self.records, place, machine) {
             return Ok(Vec::new(alloc));
         }
-        let out = self.work_at(alloc, place)?;
+        let out = self.work_at(alloc, place, machine)?;
         self.forget_if_done(place);
         Ok(out)
     }
@@ -53,36 +56,97 @@ impl Desk {
     /// A record that has no work to do any more isn't named.
     fn forget_if_done(&mut self, place: usize)
         requires within { place < length self.old.records.items }
-        requires indexed { AreIndexed self.old.records.items self.old.waiting self.old.deadlines }
+        requires indexed { AreIndexed self.old.now self.old.records.items self.old.waiting self.old.deadlines }
         ensures state { state_at self.new ≡ state_at self.old }
         ensures home { home_at self.new ≡ home_at self.old }
         ensures bookings { self.new.calendar.bookings ≡ self.old.calendar.bookings }
-        ensures indexed { AreIndexed self.new.records.items self.new.waiting self.new.deadlines }
+        ensures indexed { AreIndexed self.new.now self.new.records.items self.new.waiting self.new.deadlines }
     {
-        if !self.records[place].waits(Machine::Reserve) {
+        if self.records[place].first_machine().is_none() {
             self.waiting.remove(place);
         }
     }
 
-    /// What was asked is held or refused, a commit or an abort is carried out.
-    #[tactic(auto, unfolding(connection_record::specs::Moves::worked))]
-    fn work_at(&mut self, alloc: Global, place: usize) -> Result<Vec<Message>, AllocError>
+    #[tactic(auto, unfolding(connection_record::specs::Turns::work_of))]
+    fn work_at(
+        &mut self,
+        alloc: Global,
+        place: usize,
+        machine: Machine,
+    ) -> Result<Vec<Message>, AllocError>
         requires ready { IsReady self.old }
         requires within { place < length self.old.records.items }
-        requires live { is_live (record_at place self.old.records.items).lsm ≡ true }
-        ensures state { OnOk result (state_at self.new ≡ (works_at (home_at self.old) (state_at self.old) place).state) }
-        ensures out { IfOk result (λ out. out.items ≡ (works_at (home_at self.old) (state_at self.old) place).out) }
+        requires waits { waits machine (record_at place self.old.records.items) ≡ true }
+        ensures state { OnOk result (state_at self.new ≡ (works_at (home_at self.old) (state_at self.old) place machine).state) }
+        ensures out { IfOk result (λ out. out.items ≡ (works_at (home_at self.old) (state_at self.old) place machine).out) }
         ensures home { home_at self.new ≡ home_at self.old }
         ensures err { OnErr result (state_at self.new ≡ state_at self.old) }
         ensures kept { AreKept self.new.records.items self.new.calendar.bookings }
-        ensures indexed { AreIndexed self.new.records.items self.new.waiting self.new.deadlines }
+        ensures indexed { AreIndexed self.new.now self.new.records.items self.new.waiting self.new.deadlines }
+    {
+        match machine {
+            Machine::Reserve => self.reserve_work_at(alloc, place),
+            Machine::Provision => self.provision_work_at(alloc, place),
+            Machine::Lifecycle => self.close(alloc, place),
+        }
+    }
+
+    /// What was asked is held or refused, a commit or an abort is carried out.
+    #[tactic(auto, unfolding(connection_record::specs::Turns::work_of, connection_record::specs::Moves::worked))]
+    fn reserve_work_at(&mut self, alloc: Global, place: usize) -> Result<Vec<Message>, AllocError>
+        requires ready { IsReady self.old }
+        requires within { place < length self.old.records.items }
+        requires waits { waits MachineValue.Reserve (record_at place self.old.records.items) ≡ true }
+        ensures state { OnOk result (state_at self.new ≡ (works_at (home_at self.old) (state_at self.old) place MachineValue.Reserve).state) }
+        ensures out { IfOk result (λ out. out.items ≡ (works_at (home_at self.old) (state_at self.old) place MachineValue.Reserve).out) }
+        ensures home { home_at self.new ≡ home_at self.old }
+        ensures err { OnErr result (state_at self.new ≡ state_at self.old) }
+        ensures kept { AreKept self.new.records.items self.new.calendar.bookings }
+        ensures indexed { AreIndexed self.new.now self.new.records.items self.new.waiting self.new.deadlines }
     {
         match self.records[place].rsm {
             Rsm::ReserveChecking => self.decide(alloc, place),
             Rsm::ReserveCommitting => self.commit(alloc, place),
-            Rsm::ReserveAborting => self.advance(alloc, place, ReservationMove::Freed),
+            Rsm::ReserveAborting => {
+                self.turn(alloc, place, Move::Reservation(ReservationMove::Freed))
+            }
             _ => Ok(Vec::new(alloc)),
         }
+    }
+
+    /// A provision or a release is carried out.
+    #[tactic(auto, using(crate::proofs::Putting::provision_work_is))]
+    fn provision_work_at(&mut self, alloc: Global, place: usize) -> Result<Vec<Message>, AllocError>
+        requires ready { IsReady self.old }
+        requires within { place < length self.old.records.items }
+        requires waits { waits MachineValue.Provision (record_at place self.old.records.items) ≡ true }
+        ensures state { OnOk result (state_at self.new ≡ (works_at (home_at self.old) (state_at self.old) place MachineValue.Provision).state) }
+        ensures out { IfOk result (λ out. out.items ≡ (works_at (home_at self.old) (state_at self.old) place MachineValue.Provision).out) }
+        ensures home { home_at self.new ≡ home_at self.old }
+        ensures err { OnErr result (state_at self.new ≡ state_at self.old) }
+        ensures kept { AreKept self.new.records.items self.new.calendar.bookings }
+        ensures indexed { AreIndexed self.new.now self.new.records.items self.new.waiting self.new.deadlines }
+    {
+        self.turn(alloc, place, Move::Provision(ProvisionMove::Done))
+    }
+
+    /// The connection ends: what is open is answered, then its terminate, and nothing of it is booked any more.
+    #[tactic(auto, unfolding(connection_record::specs::Turns::work_of))]
+    fn close(&mut self, alloc: Global, place: usize) -> Result<Vec<Message>, AllocError>
+        requires ready { IsReady self.old }
+        requires within { place < length self.old.records.items }
+        requires waits { waits MachineValue.Lifecycle (record_at place self.old.records.items) ≡ true }
+        ensures state { OnOk result (state_at self.new ≡ (works_at (home_at self.old) (state_at self.old) place MachineValue.Lifecycle).state) }
+        ensures out { IfOk result (λ out. out.items ≡ (works_at (home_at self.old) (state_at self.old) place MachineValue.Lifecycle).out) }
+        ensures home { home_at self.new ≡ home_at self.old }
+        ensures err { OnErr result (state_at self.new ≡ state_at self.old) }
+        ensures kept { AreKept self.new.records.items self.new.calendar.bookings }
+        ensures indexed { AreIndexed self.new.now self.new.records.items self.new.waiting self.new.deadlines }
+    {
+        let agent = self.agent.name.copy()?;
+        let out = self.move_record(alloc, place, Move::Close { agent })?;
+        self.calendar.take_all(number_of(place));
+        Ok(out)
     }
 }
 
@@ -93,21 +157,25 @@ impl Desk {
         requires ready { IsReady self.old }
         requires within { place < length self.old.records.items }
         requires checking { (record_at place self.old.records.items).rsm ≡ Rsm.ReserveChecking }
-        requires live { is_live (record_at place self.old.records.items).lsm ≡ true }
-        ensures state { OnOk result (let own = record_at place self.old.records.items in let moved = reserves Rsm.ReserveChecking (fit_or_lack (lacking (home_at self.old) (state_at self.old) place) self.old.name (self.old.now + self.old.hold)) self.old.now own in state_at self.new ≡ (put_back (home_at self.old) (state_at self.old) place moved).state) }
-        ensures out { IfOk result (λ out. let own = record_at place self.old.records.items in let moved = reserves Rsm.ReserveChecking (fit_or_lack (lacking (home_at self.old) (state_at self.old) place) self.old.name (self.old.now + self.old.hold)) self.old.now own in out.items ≡ (put_back (home_at self.old) (state_at self.old) place moved).out) }
+        requires waits { waits MachineValue.Reserve (record_at place self.old.records.items) ≡ true }
+        ensures state { OnOk result (let own = record_at place self.old.records.items in state_at self.new ≡ (keeps (home_at self.old) (state_at self.old) place (moves SideValue.Provider (MoveValue.Reservation (fit_or_lack (lacking (home_at self.old) (state_at self.old) place) self.old.agent.name (self.old.now + self.old.agent.hold))) self.old.now own)).state) }
+        ensures out { IfOk result (λ out. let own = record_at place self.old.records.items in out.items ≡ (keeps (home_at self.old) (state_at self.old) place (moves SideValue.Provider (MoveValue.Reservation (fit_or_lack (lacking (home_at self.old) (state_at self.old) place) self.old.agent.name (self.old.now + self.old.agent.hold))) self.old.now own)).out) }
         ensures home { home_at self.new ≡ home_at self.old }
         ensures err { OnErr result (state_at self.new ≡ state_at self.old) }
         ensures kept { AreKept self.new.records.items self.new.calendar.bookings }
-        ensures indexed { AreIndexed self.new.records.items self.new.waiting self.new.deadlines }
+        ensures indexed { AreIndexed self.new.now self.new.records.items self.new.waiting self.new.deadlines }
     {
         let cause = cause_at(&self.calendar, &self.records, place, self.now)?;
         match cause {
             None => self.fit(alloc, place),
             Some(cause) => {
-                let nsa = self.name.copy()?;
+                let nsa = self.agent.name.copy()?;
                 let exception = Exception { nsa, cause };
-                self.advance(alloc, place, ReservationMove::Lack { exception })
+                self.turn(
+                    alloc,
+                    place,
+                    Move::Reservation(ReservationMove::Lack { exception }),
+                )
             }
         }
     }
@@ -118,17 +186,17 @@ impl Desk {
         requires ready { IsReady self.old }
         requires within { place < length self.old.records.items }
         requires checking { (record_at place self.old.records.items).rsm ≡ Rsm.ReserveChecking }
-        requires live { is_live (record_at place self.old.records.items).lsm ≡ true }
+        requires waits { waits MachineValue.Reserve (record_at place self.old.records.items) ≡ true }
         requires fits { cause_among self.old.calendar.capacities self.old.records.items self.old.now place (record_at place self.old.records.items).pending ≡ None }
-        ensures state { OnOk result (let own = record_at place self.old.records.items in let moved = reserves Rsm.ReserveChecking (FitValue (Some (self.old.now + self.old.hold))) self.old.now own in state_at self.new ≡ (put_back (home_at self.old) (state_at self.old) place moved).state) }
-        ensures out { IfOk result (λ out. let own = record_at place self.old.records.items in let moved = reserves Rsm.ReserveChecking (FitValue (Some (self.old.now + self.old.hold))) self.old.now own in out.items ≡ (put_back (home_at self.old) (state_at self.old) place moved).out) }
+        ensures state { OnOk result (let own = record_at place self.old.records.items in state_at self.new ≡ (keeps (home_at self.old) (state_at self.old) place (moves SideValue.Provider (MoveValue.Reservation (ReservationValue.Fit (Some (self.old.now + self.old.agent.hold)))) self.old.now own)).state) }
+        ensures out { IfOk result (λ out. let own = record_at place self.old.records.items in out.items ≡ (keeps (home_at self.old) (state_at self.old) place (moves SideValue.Provider (MoveValue.Reservation (ReservationValue.Fit (Some (self.old.now + self.old.agent.hold)))) self.old.now own)).out) }
         ensures home { home_at self.new ≡ home_at self.old }
         ensures err { OnErr result (state_at self.new ≡ state_at self.old) }
         ensures kept { AreKept self.new.records.items self.new.calendar.bookings }
-        ensures indexed { AreIndexed self.new.records.items self.new.waiting self.new.deadlines }
+        ensures indexed { AreIndexed self.new.now self.new.records.items self.new.waiting self.new.deadlines }
     {
-        let deadline = self.now.get() + u64::from(self.hold.get());
-        self.deadlines.add(deadline, place)?;
+        let deadline = self.now.get() + u64::from(self.agent.hold.get());
+        self.name_second(place, deadline)?;
         self.hold_until(alloc, place, deadline)
     }
 
@@ -142,21 +210,21 @@ impl Desk {
         requires ready { IsReady self.old }
         requires within { place < length self.old.records.items }
         requires checking { (record_at place self.old.records.items).rsm ≡ Rsm.ReserveChecking }
-        requires live { is_live (record_at place self.old.records.items).lsm ≡ true }
+        requires waits { waits MachineValue.Reserve (record_at place self.old.records.items) ≡ true }
         requires fits { cause_among self.old.calendar.capacities self.old.records.items self.old.now place (record_at place self.old.records.items).pending ≡ None }
-        requires named { Contains self.old.deadlines (record { second = deadline; place = place }) }
-        ensures state { OnOk result (let own = record_at place self.old.records.items in let moved = reserves Rsm.ReserveChecking (FitValue (Some deadline)) self.old.now own in state_at self.new ≡ (put_back (home_at self.old) (state_at self.old) place moved).state) }
-        ensures out { IfOk result (λ out. let own = record_at place self.old.records.items in let moved = reserves Rsm.ReserveChecking (FitValue (Some deadline)) self.old.now own in out.items ≡ (put_back (home_at self.old) (state_at self.old) place moved).out) }
+        requires named { Contains self.old.deadlines (deadline_of deadline place) }
+        ensures state { OnOk result (let own = record_at place self.old.records.items in state_at self.new ≡ (keeps (home_at self.old) (state_at self.old) place (moves SideValue.Provider (MoveValue.Reservation (ReservationValue.Fit (Some deadline))) self.old.now own)).state) }
+        ensures out { IfOk result (λ out. let own = record_at place self.old.records.items in out.items ≡ (keeps (home_at self.old) (state_at self.old) place (moves SideValue.Provider (MoveValue.Reservation (ReservationValue.Fit (Some deadline))) self.old.now own)).out) }
         ensures home { home_at self.new ≡ home_at self.old }
         ensures err { OnErr result (state_at self.new ≡ state_at self.old) }
         ensures kept { AreKept self.new.records.items self.new.calendar.bookings }
-        ensures indexed { AreIndexed self.new.records.items self.new.waiting self.new.deadlines }
+        ensures indexed { AreIndexed self.new.now self.new.records.items self.new.waiting self.new.deadlines }
     {
         let event = ReservationMove::Fit {
             deadline: Some(deadline),
         };
         put(&mut self.calendar, &self.records, place, self.now)?;
-        match advance_at(alloc, &self.name, &mut self.records, place, event, self.now) {
+        match self.move_record(alloc, place, Move::Reservation(event)) {
             Ok(out) => Ok(out),
             Err(error) => {
                 self.calendar.take_pending(number_of(place));
@@ -165,47 +233,124 @@ impl Desk {
         }
     }
 
-    /// Carries out a commit.
+    /// Carries out a commit. The seconds at which its schedule begins and ends are named first.
     fn commit(&mut self, alloc: Global, place: usize) -> Result<Vec<Message>, AllocError>
         requires ready { IsReady self.old }
         requires within { place < length self.old.records.items }
         requires committing { (record_at place self.old.records.items).rsm ≡ Rsm.ReserveCommitting }
-        requires live { is_live (record_at place self.old.records.items).lsm ≡ true }
-        ensures state { OnOk result (let own = record_at place self.old.records.items in state_at self.new ≡ (put_back (home_at self.old) (state_at self.old) place (reserves Rsm.ReserveCommitting MoveValue.Done self.old.now own)).state) }
-        ensures out { IfOk result (λ out. let own = record_at place self.old.records.items in out.items ≡ (put_back (home_at self.old) (state_at self.old) place (reserves Rsm.ReserveCommitting MoveValue.Done self.old.now own)).out) }
+        requires waits { waits MachineValue.Reserve (record_at place self.old.records.items) ≡ true }
+        ensures state { OnOk result (let own = record_at place self.old.records.items in state_at self.new ≡ (keeps (home_at self.old) (state_at self.old) place (moves SideValue.Provider (MoveValue.Reservation ReservationValue.Done) self.old.now own)).state) }
+        ensures out { IfOk result (λ out. let own = record_at place self.old.records.items in out.items ≡ (keeps (home_at self.old) (state_at self.old) place (moves SideValue.Provider (MoveValue.Reservation ReservationValue.Done) self.old.now own)).out) }
         ensures home { home_at self.new ≡ home_at self.old }
         ensures err { OnErr result (state_at self.new ≡ state_at self.old) }
         ensures kept { AreKept self.new.records.items self.new.calendar.bookings }
-        ensures indexed { AreIndexed self.new.records.items self.new.waiting self.new.deadlines }
+        ensures indexed { AreIndexed self.new.now self.new.records.items self.new.waiting self.new.deadlines }
+    {
+        self.name_schedule(place)?;
+        self.commit_named(alloc, place)
+    }
+
+    /// Names the seconds at which the schedule begins and ends that is asked of the record at a place.
+    fn name_schedule(&mut self, place: usize) -> Result<(), AllocError>
+        requires ready { IsReady self.old }
+        requires within { place < length self.old.records.items }
+        ensures same { self.new ≡ record self.old { deadlines = self.new.deadlines } }
+        ensures ready { IsReady self.new }
+        ensures named { OnOk result (IfSome (record_at place self.old.records.items).pending (λ c. Contains self.new.deadlines (deadline_of c.interval.start place) × Contains self.new.deadlines (deadline_of c.interval.end place))) }
+    {
+        let Some(criteria) = self.records[place].pending else {
+            return Ok(());
+        };
+        self.name_second(place, criteria.interval.start().get())?;
+        self.name_second(place, criteria.interval.end().get())
+    }
+
+    /// Names a second at which the record at a place has something to do.
+    fn name_second(&mut self, place: usize, second: u64) -> Result<(), AllocError>
+        requires ready { IsReady self.old }
+        requires within { place < length self.old.records.items }
+        ensures same { self.new ≡ record self.old { deadlines = self.new.deadlines } }
+        ensures ready { IsReady self.new }
+        ensures named { OnOk result (Contains self.new.deadlines (deadline_of second place)) }
+        ensures before { (x : DeadlineValue) → Contains self.old.deadlines x → Contains self.new.deadlines x }
+    {
+        self.deadlines.add(second, place)?;
+        Ok(())
+    }
+
+    /// Carries out a commit whose schedule is named.
+    fn commit_named(&mut self, alloc: Global, place: usize) -> Result<Vec<Message>, AllocError>
+        requires ready { IsReady self.old }
+        requires within { place < length self.old.records.items }
+        requires committing { (record_at place self.old.records.items).rsm ≡ Rsm.ReserveCommitting }
+        requires waits { waits MachineValue.Reserve (record_at place self.old.records.items) ≡ true }
+        requires named { IfSome (record_at place self.old.records.items).pending (λ c. Contains self.old.deadlines (deadline_of c.interval.start place) × Contains self.old.deadlines (deadline_of c.interval.end place)) }
+        ensures state { OnOk result (let own = record_at place self.old.records.items in state_at self.new ≡ (keeps (home_at self.old) (state_at self.old) place (moves SideValue.Provider (MoveValue.Reservation ReservationValue.Done) self.old.now own)).state) }
+        ensures out { IfOk result (λ out. let own = record_at place self.old.records.items in out.items ≡ (keeps (home_at self.old) (state_at self.old) place (moves SideValue.Provider (MoveValue.Reservation ReservationValue.Done) self.old.now own)).out) }
+        ensures home { home_at self.new ≡ home_at self.old }
+        ensures err { OnErr result (state_at self.new ≡ state_at self.old) }
+        ensures kept { AreKept self.new.records.items self.new.calendar.bookings }
+        ensures indexed { AreIndexed self.new.now self.new.records.items self.new.waiting self.new.deadlines }
     {
         let is_held = has_pending(&self.records, place);
-        let event = ReservationMove::Done;
-        let out = advance_at(alloc, &self.name, &mut self.records, place, event, self.now)?;
+        let event = Move::Reservation(ReservationMove::Done);
+        let out = self.move_record(alloc, place, event)?;
         settle_if(&mut self.calendar, place, is_held);
         Ok(out)
     }
 
-    /// Moves the record at a place, by a move that neither holds nor commits.
-    pub fn advance(
+    /// Moves the record at a place that is named, by a move that neither holds nor commits nor ends.
+    pub fn turn(
         &mut self,
         alloc: Global,
         place: usize,
-        event: ReservationMove,
+        event: Move,
     ) -> Result<Vec<Message>, AllocError>
         requires ready { IsReady self.old }
         requires within { place < length self.old.records.items }
         requires plain { is_plain event ≡ true }
-        requires waits { waits MachineValue.Reserve (record_at place self.old.records.items) ≡ true }
-        ensures state { OnOk result (let own = record_at place self.old.records.items in state_at self.new ≡ (put_back (home_at self.old) (state_at self.old) place (reserves own.rsm event self.old.now own)).state) }
-        ensures out { IfOk result (λ out. let own = record_at place self.old.records.items in out.items ≡ (put_back (home_at self.old) (state_at self.old) place (reserves own.rsm event self.old.now own)).out) }
+        requires named { Contains self.old.waiting place }
+        ensures state { OnOk result (let own = record_at place self.old.records.items in state_at self.new ≡ (keeps (home_at self.old) (state_at self.old) place (moves SideValue.Provider (event) self.old.now own)).state) }
+        ensures out { IfOk result (λ out. let own = record_at place self.old.records.items in out.items ≡ (keeps (home_at self.old) (state_at self.old) place (moves SideValue.Provider (event) self.old.now own)).out) }
         ensures home { home_at self.new ≡ home_at self.old }
         ensures err { OnErr result (state_at self.new ≡ state_at self.old) }
         ensures kept { AreKept self.new.records.items self.new.calendar.bookings }
-        ensures indexed { AreIndexed self.new.records.items self.new.waiting self.new.deadlines }
+        ensures indexed { AreIndexed self.new.now self.new.records.items self.new.waiting self.new.deadlines }
     {
-        let out = advance_at(alloc, &self.name, &mut self.records, place, event, self.now)?;
+        let out = self.move_record(alloc, place, event)?;
         self.free_if_dropped(place);
         Ok(out)
+    }
+
+    /// Moves the record at a place. What it books, and what the indexes name, stays as it was.
+    fn move_record(
+        &mut self,
+        alloc: Global,
+        place: usize,
+        event: Move,
+    ) -> Result<Vec<Message>, AllocError>
+        requires within { place < length self.old.records.items }
+        requires next { self.old.next ≤ 17592194433025 }
+        ensures state { OnOk result (let own = record_at place self.old.records.items in state_at self.new ≡ (keeps (home_at self.old) (state_at self.old) place (moves SideValue.Provider (event) self.old.now own)).state) }
+        ensures out { IfOk result (λ out. let own = record_at place self.old.records.items in out.items ≡ (keeps (home_at self.old) (state_at self.old) place (moves SideValue.Provider (event) self.old.now own)).out) }
+        ensures home { home_at self.new ≡ home_at self.old }
+        ensures calendar { self.new.calendar ≡ self.old.calendar }
+        ensures waiting { self.new.waiting ≡ self.old.waiting }
+        ensures deadlines { self.new.deadlines ≡ self.old.deadlines }
+        ensures err { OnErr result (state_at self.new ≡ state_at self.old) }
+    {
+        let next = self.next;
+        let turn = turn_at(
+            alloc,
+            &self.agent,
+            &mut self.records,
+            place,
+            event,
+            next,
+            self.now,
+        )?;
+        self.next = next + turn.drawn;
+        Ok(turn.out)
     }
 }
 
@@ -217,22 +362,44 @@ pub fn waiting_work(waiting: &Places, records: &[Record]) -> Option<(RecordNo, M
 {
     match first_place(waiting.items(), records) {
         None => None,
-        Some(place) => Some((number_of(place), Machine::Reserve)),
+        Some(place) => work_of(records, place),
+    }
+}
+
+/// The first machine of the record at a place that has work to do.
+fn work_of(records: &[Record], place: usize) -> Option<(RecordNo, Machine)>
+    requires within { place < length records.now }
+    requires few { place ≤ 4194303 }
+    ensures { result ≡ machine_at place records.now }
+{
+    match records[place].first_machine() {
+        None => None,
+        Some(machine) => Some((number_of(place), machine)),
     }
 }
 
 fn first_place(waiting: &[usize], records: &[Record]) -> Option<usize>
     requires rising { IsStrictlyIncreasing waiting.now }
     requires named { NamesWork records.now waiting.now }
-    ensures place { result ≡ position (waits MachineValue.Reserve) records.now }
+    ensures place { result ≡ position has_work records.now }
     ensures within { IfSome result (λ n. n < length records.now) }
 {
     for place in waiting {
-        if is_waiting(records, *place, Machine::Reserve) {
+        if has_work(records, *place) {
             return Some(*place);
         }
     }
     None
+}
+
+/// Whether the record at a place has work to do.
+fn has_work(records: &[Record], place: usize) -> bool
+    ensures { result ≡ nat_lt place (length records.now) && has_work (record_at place records.now) }
+{
+    match records.get(place) {
+        Some(own) => own.first_machine().is_some(),
+        None => false,
+    }
 }
 
 /// Whether a machine of the record at a place has work to do.

@@ -1,4 +1,5 @@
 pub mod Working
 pub mod WorkRuns
 pub mod Idle
+pub mod UnderWay
 mod Rows

@@ -1,5 +1,5 @@
 -- What a provider answers, computed: two points of 1000 Mbps, requests of one requester, a line after the other.
-use Rattle.std.proofs.Common.{◌≡◌, ℕ, List, [], ◌∷◌, Option, Some, None, refl, if◌then◌else◌}
+use Rattle.std.proofs.Common.{◌≡◌, ℕ, Bool, true, false, List, [], ◌∷◌, length, Option, Some, None, refl, if◌then◌else◌}
 use Rattle.std.specs.Prelude.{bytes_eq, codes}
 use Rattle.nsi_base.specs.declared.flow.Flow.{Flow}
 use Rattle.nsi_primitive.specs.Ids.{id_of}
@@ -10,19 +10,27 @@ use Rattle.nsi_primitive.specs.declared.message.Body.{Body}
 use Rattle.nsi_primitive.specs.declared.message.Cause.{Cause}
 use Rattle.nsi_primitive.specs.declared.message.Message.{Message}
 use Rattle.nsi_primitive.specs.declared.entry.Input.{Input}
+use Rattle.nsi_primitive.specs.declared.entry.Entry.{Entry}
+use Rattle.nsi_primitive.specs.declared.kind.FaultEvent.{FaultEvent}
+use Rattle.nsi_primitive.specs.declared.state.Machine.{Machine}
 use Rattle.reserve_machine.specs.Table.{step as row_of}
+use Rattle.provision_machine.specs.Table.{step as provision_row_of}
+use Rattle.lifecycle_machine.specs.Table.{step as lifecycle_row_of}
+use Rattle.dataplane_state.specs.Plane.{status, announces}
 use Rattle.message_retry.specs.Taken.{is_taken, with_taken}
 use Rattle.capacity_calendar.specs.Lack.{lack_at, first_from, first_lack_by}
 use Rattle.capacity_calendar.specs.Plan.{places}
 use Rattle.connection_record.specs.Demand.{demand, load}
-use Rattle.connection_record.specs.Moves.{event_of, reserves, requested, hold_end, is_live, is_working, waits, worked}
+use Rattle.connection_record.specs.Lives.{provisions, lives}
+use Rattle.connection_record.specs.Moves.{reserves, hold_end, is_live, is_working, worked}
 use Rattle.connection_record.specs.Refusal.{has_row, is_in_place, unnamed_refusal, modification_refusal, refusal}
+use Rattle.connection_record.specs.Turns.{moves, closes, reservation_closing, provision_closing, requested, first_machine, waits, work_of, provided, is_provisioning, is_terminating, ticks as record_ticks, tells, tells_plane}
 use Rattle.provider_agent.specs.Home.{Home}
 use Rattle.provider_agent.specs.Others.{lacking}
 use Rattle.provider_agent.specs.State.{State, Stepped, blank}
-use Rattle.provider_agent.specs.Steps.{hears, works, ticks, step, after}
+use Rattle.provider_agent.specs.Steps.{hears, works, forces, ticks, ticks_all, step, after}
 use Rattle.provider_agent.specs.Runs.{after_all}
-use Rattle.provider_run.specs.Works.{now_at, works_of, with_works}
+use Rattle.provider_run.specs.Works.{now_at, works_of, all_works, with_works}
 
 ---- The provider and its requests
 
@@ -74,6 +82,15 @@ commit = Body.ReserveCommit (id_of 0 1)
 abbrev abort : Body
 abort = Body.ReserveAbort (id_of 0 1)
 
+abbrev provision : Body
+provision = Body.Provision (id_of 0 1)
+
+abbrev release : Body
+release = Body.Release (id_of 0 1)
+
+abbrev terminate : Body
+terminate = Body.Terminate (id_of 0 1)
+
 ---- Answers
 
 abbrev responds : (n id : ℕ) → Message
@@ -105,7 +122,31 @@ abbrev times_out : ℕ → Message
 times_out second =
     m 1 (Body.ReserveTimeout (record { connection = id_of 0 1; notification = 1; originating_connection = id_of 0 1; originating_nsa = codes "p1"; time = second; value = 60 }))
 
+abbrev provisioned : ℕ → Message
+provisioned n = m n (Body.ProvisionConfirmed (id_of 0 1))
+
+-- the data plane has changed, told under the agent's n-th id
+abbrev plane_changes : (n notification second : ℕ) → Bool → Message
+plane_changes n notification second active =
+    record {
+      header = record { correlation = id_of 0 n; requester = codes "r1"; provider = codes "p1" };
+      body = Body.DataPlaneStateChange (record { active = active; connection = id_of 0 1; notification = notification; time = second; version = 0; consistent = true });
+    }
+
+-- the connection has ended by force
+abbrev ends_by_force : (n notification second : ℕ) → Message
+ends_by_force n notification second =
+    record {
+      header = record { correlation = id_of 0 n; requester = codes "r1"; provider = codes "p1" };
+      body =
+          Body.ErrorEvent (record { connection = id_of 0 1; event = FaultEvent.ForcedEnd; notification = notification; originating_connection = id_of 0 1; originating_nsa = codes "p1"; time = second });
+    }
+
 ---- Lines
+
+abbrev entries : List Input → List Entry
+entries [] = []
+entries (input ∷ inputs) = now_at blank input ∷ entries inputs
 
 -- a message, and all work that waits then
 abbrev line : State → Message → Stepped
@@ -113,6 +154,13 @@ line s message = after_all home stp_of s (with_works home stp_of s (now_at s (In
 
 abbrev tick : State → ℕ → Stepped
 tick s second = after_all home stp_of s (with_works home stp_of s (record { second = second; input = Input.Tick }))
+
+abbrev force : State → Stepped
+force s = after_all home stp_of s (with_works home stp_of s (now_at s (Input.Force 0)))
+
+-- entries of the first second, with no work but what is among them
+abbrev at_first : List Input → Stepped
+at_first inputs = after_all home stp_of blank (entries inputs)
 
 abbrev load_at : ℕ → State → ℕ
 load_at t s = load Flow.Both 0 t s.records
@@ -129,6 +177,10 @@ committed = (line held (m 2 commit)).state
 abbrev modified : State
 modified = (line committed (m 3 (modify None 300 100 400))).state
 
+-- provisioned at 150, within its schedule
+abbrev active : State
+active = (line (tick committed 150).state (m 3 provision)).state
+
 pub record AreReserved : Type 0 where
   a_first_reserve_is_held : (line blank (m 1 (first 600 100 200))).out ≡ responds 1 1 ∷ confirms 1 1 0 600 100 200 ∷ []
   the_first_lack_is_named : (line held (m 2 (first 500 150 300))).out ≡ responds 2 2 ∷ fails 2 2 (Cause.Bandwidth (codes "A") Flow.Both 150 600 1000) ∷ []
@@ -141,7 +193,7 @@ pub record AreReserved : Type 0 where
   a_repeated_request_is_silent : (line held (m 1 (first 500 150 300))).out ≡ []
 
 reserved : AreReserved
-unfolding after_all after step hears works ticks works_of lacking waits worked event_of reserves requested hold_end is_live is_working demand is_in_place has_row row_of unnamed_refusal modification_refusal refusal is_taken with_taken lack_at first_from first_lack_by places connection_of
+unfolding after_all after step hears works forces ticks ticks_all works_of lacking first_machine waits work_of worked provided is_provisioning is_terminating moves reserves provisions lives closes reservation_closing provision_closing requested record_ticks hold_end tells tells_plane status announces is_live is_working demand is_in_place has_row row_of provision_row_of lifecycle_row_of unnamed_refusal modification_refusal refusal is_taken with_taken lack_at first_from first_lack_by places connection_of
 reserved = record {
   a_first_reserve_is_held = refl;
   the_first_lack_is_named = refl;
@@ -168,7 +220,7 @@ pub record AreHeld : Type 0 where
       ≡ from (codes "r2") 1 (Body.Error (Some (id_of 0 1)) (record { nsa = codes "p1"; cause = Cause.Plain ErrorName.Nonexistent })) ∷ []
 
 are_held : AreHeld
-unfolding after_all after step hears works ticks works_of lacking waits worked event_of reserves requested hold_end is_live is_working demand is_in_place has_row row_of unnamed_refusal modification_refusal refusal is_taken with_taken lack_at first_from first_lack_by places connection_of
+unfolding after_all after step hears works forces ticks ticks_all works_of lacking first_machine waits work_of worked provided is_provisioning is_terminating moves reserves provisions lives closes reservation_closing provision_closing requested record_ticks hold_end tells tells_plane status announces is_live is_working demand is_in_place has_row row_of provision_row_of lifecycle_row_of unnamed_refusal modification_refusal refusal is_taken with_taken lack_at first_from first_lack_by places connection_of
 are_held = record {
   a_hold_lasts_its_time = refl;
   a_hold_ends_with_its_time = refl;
@@ -195,7 +247,7 @@ pub record AreModified : Type 0 where
       ≡ refuses 5 (Some (id_of 0 1)) ErrorName.Version ∷ []
 
 are_modified : AreModified
-unfolding after_all after step hears works ticks works_of lacking waits worked event_of reserves requested hold_end is_live is_working demand is_in_place has_row row_of unnamed_refusal modification_refusal refusal is_taken with_taken lack_at first_from first_lack_by places connection_of
+unfolding after_all after step hears works forces ticks ticks_all works_of lacking first_machine waits work_of worked provided is_provisioning is_terminating moves reserves provisions lives closes reservation_closing provision_closing requested record_ticks hold_end tells tells_plane status announces is_live is_working demand is_in_place has_row row_of provision_row_of lifecycle_row_of unnamed_refusal modification_refusal refusal is_taken with_taken lack_at first_from first_lack_by places connection_of
 are_modified = record {
   a_modification_has_the_next_version = refl;
   the_larger_counts_while_it_is_held = refl;
@@ -206,4 +258,51 @@ are_modified = record {
   an_abort_leaves_nothing_else = refl;
   an_equal_version_is_too_low = refl;
   behind_the_last_version_is_none = refl;
+}
+
+pub record AreProvisioned : Type 0 where
+  what_is_held_cannot_be_provisioned : (line held (m 2 provision)).out ≡ refuses 2 (Some (id_of 0 1)) ErrorName.InvalidTransition ∷ []
+  what_is_committed_can : (line committed (m 3 provision)).out ≡ provisioned 3 ∷ []
+  and_again : (line (line committed (m 3 provision)).state (m 4 provision)).out ≡ provisioned 4 ∷ []
+  a_start_tells_the_data_plane : (tick (line committed (m 3 provision)).state 100).out ≡ plane_changes 2 1 100 true ∷ []
+  so_does_a_provision_within_the_schedule : (line (tick committed 150).state (m 3 provision)).out ≡ provisioned 3 ∷ plane_changes 2 1 150 true ∷ []
+  so_does_a_release_before_its_work : (line active (m 4 release)).out ≡ plane_changes 3 2 150 false ∷ m 4 (Body.ReleaseConfirmed (id_of 0 1)) ∷ []
+  so_does_the_end : (tick active 200).out ≡ plane_changes 3 2 200 false ∷ []
+  what_has_ended_is_not_modified : (line (tick active 200).state (m 4 (modify None 300 100 400))).out ≡ refuses 4 (Some (id_of 0 1)) ErrorName.InvalidTransition ∷ []
+  a_forced_end_is_told_first : (force active).out ≡ ends_by_force 3 2 150 ∷ plane_changes 4 3 150 false ∷ []
+  a_second_one_does_nothing : (force (force active).state).out ≡ []
+
+are_provisioned : AreProvisioned
+unfolding after_all after step hears works forces ticks ticks_all works_of lacking first_machine waits work_of worked provided is_provisioning is_terminating moves reserves provisions lives closes reservation_closing provision_closing requested record_ticks hold_end tells tells_plane status announces is_live is_working demand is_in_place has_row row_of provision_row_of lifecycle_row_of unnamed_refusal modification_refusal refusal is_taken with_taken lack_at first_from first_lack_by places connection_of
+are_provisioned = record {
+  what_is_held_cannot_be_provisioned = refl;
+  what_is_committed_can = refl;
+  and_again = refl;
+  a_start_tells_the_data_plane = refl;
+  so_does_a_provision_within_the_schedule = refl;
+  so_does_a_release_before_its_work = refl;
+  so_does_the_end = refl;
+  what_has_ended_is_not_modified = refl;
+  a_forced_end_is_told_first = refl;
+  a_second_one_does_nothing = refl;
+}
+
+pub record AreEnded : Type 0 where
+  a_terminate_is_confirmed : (line committed (m 3 terminate)).out ≡ m 3 (Body.TerminateConfirmed (id_of 0 1)) ∷ []
+  it_takes_nothing_then : load_at 150 (line committed (m 3 terminate)).state ≡ 0
+  it_is_gone_then : (line (line committed (m 3 terminate)).state (m 4 provision)).out ≡ refuses 4 (Some (id_of 0 1)) ErrorName.Gone ∷ []
+  what_is_open_is_answered_first : (at_first (Input.Got (m 1 (first 600 100 200)) ∷ Input.Got (m 2 terminate) ∷ Input.Work 0 Machine.Lifecycle ∷ [])).out
+      ≡ responds 1 1 ∷ fails 1 1 (Cause.Plain ErrorName.Gone) ∷ m 2 (Body.TerminateConfirmed (id_of 0 1)) ∷ []
+  work_that_no_longer_waits_does_nothing : (at_first (Input.Got (m 1 (first 600 100 200)) ∷ Input.Got (m 2 terminate) ∷ Input.Work 0 Machine.Reserve ∷ [])).out ≡ responds 1 1 ∷ []
+  two_machines_may_wait : length (all_works home stp_of (after_all home stp_of committed (now_at committed (Input.Got (m 3 (modify None 300 100 400))) ∷ now_at committed (Input.Got (m 4 provision)) ∷ [])).state) ≡ 2
+
+are_ended : AreEnded
+unfolding after_all after step hears works forces ticks ticks_all works_of lacking first_machine waits work_of worked provided is_provisioning is_terminating moves reserves provisions lives closes reservation_closing provision_closing requested record_ticks hold_end tells tells_plane status announces is_live is_working demand is_in_place has_row row_of provision_row_of lifecycle_row_of unnamed_refusal modification_refusal refusal is_taken with_taken lack_at first_from first_lack_by places connection_of
+are_ended = record {
+  a_terminate_is_confirmed = refl;
+  it_takes_nothing_then = refl;
+  it_is_gone_then = refl;
+  what_is_open_is_answered_first = refl;
+  work_that_no_longer_waits_does_nothing = refl;
+  two_machines_may_wait = refl;
 }

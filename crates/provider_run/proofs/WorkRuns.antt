@@ -1,5 +1,5 @@
 -- An entry, and the work that waits then, are a run.
-use Rattle.std.proofs.Common.{◌≡◌, ◌≤◌, ◌+◌, ℕ, zero, suc, true, List, [], ◌∷◌, ◌++◌, Option, Some, None, arith, refl, sym, subst, length}
+use Rattle.std.proofs.Common.{◌≡◌, ◌≤◌, ◌+◌, ℕ, zero, suc, true, List, [], ◌∷◌, ◌++◌, Option, Some, None, arith, refl, sym, subst}
 use Rattle.nsi_primitive.specs.declared.entry.Entry.{Entry}
 use Rattle.nsi_primitive.specs.declared.entry.Input.{Input}
 use Rattle.nsi_primitive.specs.declared.state.Machine.{Machine}
@@ -8,7 +8,7 @@ use Rattle.provider_agent.specs.State.{State}
 use Rattle.provider_agent.specs.Steps.{after, may_take, waiting_work}
 use Rattle.provider_agent.specs.Runs.{after_all}
 use Rattle.provider_agent.specs.Safety.{IsPrintableInput, IsRun}
-use Rattle.provider_agent.specs.Good.{IsGood}
+use Rattle.provider_agent.specs.Good.{works_among, IsGood}
 use Rattle.provider_agent.proofs.GoodAfter.{good_after}
 use Rattle.provider_run.specs.Works.{now_at, works_of, with_works}
 use Rattle.provider_run.proofs.Working.{taken_after, work_may, works_none, works_some}
@@ -37,4 +37,4 @@ works_run (suc most) home stp_of s few = by_work (waiting_work s) refl (λ t lef
 pub with_works_run : (home : Home) (stp_of : List ℕ → Option ℕ) (s : State) (e : Entry) → IsGood home s → may_take s e ≡ true → IsPrintableInput e.input → s.taken ≤ 2000000 → IsRun home stp_of s (with_works home stp_of s e)
 with_works_run home stp_of s e good may printable few =
     let next : State = (after home stp_of s e).state in
-    (printable, may, works_run (length next.records) home stp_of next (omega (arith, taken_after home stp_of s e may, (good_after home stp_of s e good printable).few)))
+    (printable, may, works_run (works_among next.records) home stp_of next (omega (arith, taken_after home stp_of s e may, (good_after home stp_of s e good printable).works)))

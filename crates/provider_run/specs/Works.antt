@@ -1,10 +1,11 @@
 -- An entry, and the work that waits then.
-use Rattle.std.specs.Prelude.{ℕ, zero, suc, List, [], ◌∷◌, length, Option, Some, None}
+use Rattle.std.specs.Prelude.{ℕ, zero, suc, List, [], ◌∷◌, Option, Some, None}
 use Rattle.nsi_primitive.specs.declared.entry.Entry.{Entry}
 use Rattle.nsi_primitive.specs.declared.entry.Input.{Input}
 use Rattle.nsi_primitive.specs.declared.state.Machine.{Machine}
 use Rattle.provider_agent.specs.Home.{Home}
 use Rattle.provider_agent.specs.State.{State}
+use Rattle.provider_agent.specs.Good.{works_among}
 use Rattle.provider_agent.specs.Steps.{after, waiting_work}
 
 abbrev pub now_at : State → Input → Entry
@@ -20,9 +21,9 @@ unfoldable pub works_of : ℕ → Home → (List ℕ → Option ℕ) → State �
 works_of zero home stp_of s = []
 works_of (suc most) home stp_of s = work_then (waiting_work s) home stp_of s (works_of most home stp_of)
 
--- all waiting work: each takes the work off one record
+-- all waiting work: as many entries as there is work, since each takes one off
 abbrev pub all_works : Home → (List ℕ → Option ℕ) → State → List Entry
-all_works home stp_of s = works_of (length s.records) home stp_of s
+all_works home stp_of s = works_of (works_among s.records) home stp_of s
 
 -- an entry, and all work that waits then
 abbrev pub with_works : Home → (List ℕ → Option ℕ) → State → Entry → List Entry

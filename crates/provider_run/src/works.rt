@@ -86,11 +86,7 @@ impl Run {
         ensures idle { OnOk result (waiting_work provider.new.state ≡ None) }
     {
         provider.facts();
-        let most = provider.records().len();
-        for turn in 0..most {
-            let Some(work) = provider.waiting_work() else {
-                return Ok(());
-            };
+        while let Some(work) = provider.waiting_work() {
             self.take_work(alloc, provider, topology, work)?;
         }
         Ok(())

@@ -2,14 +2,16 @@
 
 ghost use Rattle.std.specs.Prelude.{◌≡◌, OnOk, OnErr, IfOk, IfSome, Some, option_map};
 ghost use Rattle.serde_json.specs.Data.{no_members, object, put, string, number, unsigned};
+ghost use Rattle.serde_json.specs.View.{view};
 ghost use Rattle.serde_json.specs.Written.{compact_text};
-ghost use Rattle.json_fields.specs.Fields.{json_of, id_from, name_from, capacity_from, second_from, version_from, flag_from, directionality_from};
-ghost use Rattle.json_fields.specs.Objects.{with_value, digits, words, flag, id_scalar, directionality_scalar, IsReadBack};
-ghost use Rattle.json_fields.specs.Written.{members_of};
+ghost use Rattle.json_fields.specs.Fields.{json_of, id_from, name_from, capacity_from, second_from, version_from, hold_from, flag_from, directionality_from};
+ghost use Rattle.json_fields.specs.Objects.{with_value, digits, words, flag, id_scalar, directionality_scalar, IsReadBack, IsFlatRow};
+ghost use Rattle.json_fields.specs.Written.{members_of, rows_of, with_rows};
 
 use crate::key::Key;
 use crate::object::JsonObject;
-use nsi_base::{Mbps, Name, Second, Text, Version};
+use crate::rows::JsonRows;
+use nsi_base::{HoldTime, Mbps, Name, Second, Text, Version};
 use nsi_primitive::{Directionality, Id, print_id};
 use serde_json::{Map, Value};
 use std::alloc::{AllocError, Global};
@@ -29,6 +31,26 @@ impl JsonObject {
         ensures again { IfOk result (λ b. json_of b.items ≡ Some (object (members_of self))) }
     {
         let JsonObject { members } = self;
+        Value::Object(members).to_vec(alloc)
+    }
+
+    /// The object as a value.
+    pub(crate) fn into_value(self) -> Value
+        ensures value { view result ≡ object (members_of self) }
+        ensures flat { IsFlatRow (view result) }
+    {
+        let JsonObject { members } = self;
+        Value::Object(members)
+    }
+
+    /// Writes the object, with rows at a key more, as compact JSON.
+    pub fn print_with(self, alloc: Global, key: Key, rows: JsonRows) -> Result<Vec<u8>, AllocError>
+        ensures spelled { IfOk result (λ b. b.items ≡ compact_text (object (with_rows key (rows_of rows) (members_of self)))) }
+        ensures again { IfOk result (λ b. json_of b.items ≡ Some (object (with_rows key (rows_of rows) (members_of self)))) }
+    {
+        let JsonObject { mut members } = self;
+        let JsonRows { items } = rows;
+        serde_json::put(&mut members, alloc, key.text(), Value::Array(items))?;
         Value::Object(members).to_vec(alloc)
     }
 
@@ -121,6 +143,14 @@ impl JsonObject {
         self.put_number(alloc, key, u64::from(version.get()))
     }
 
+    pub fn put_hold(&mut self, alloc: Global, key: Key, hold: HoldTime) -> Result<(), AllocError>
+        ensures put { OnOk result (members_of self.new ≡ with_value key (Some (digits hold)) (members_of self.old)) }
+        ensures again { OnOk result (IsReadBack hold_from (digits hold) hold) }
+        ensures err { OnErr result (members_of self.new ≡ members_of self.old) }
+    {
+        self.put_number(alloc, key, u64::from(hold.get()))
+    }
+
     pub fn put_optional_version(
         &mut self,
         alloc: Global,
@@ -134,6 +164,53 @@ impl JsonObject {
         match version {
             None => Ok(()),
             Some(version) => self.put_version(alloc, key, version),
+        }
+    }
+
+    pub fn put_optional_number(
+        &mut self,
+        alloc: Global,
+        key: Key,
+        n: Option<u64>,
+    ) -> Result<(), AllocError>
+        ensures put { OnOk result (members_of self.new ≡ with_value key (option_map digits n) (members_of self.old)) }
+        ensures err { OnErr result (members_of self.new ≡ members_of self.old) }
+    {
+        match n {
+            None => Ok(()),
+            Some(n) => self.put_number(alloc, key, n),
+        }
+    }
+
+    pub fn put_optional_capacity(
+        &mut self,
+        alloc: Global,
+        key: Key,
+        capacity: Option<Mbps>,
+    ) -> Result<(), AllocError>
+        ensures put { OnOk result (members_of self.new ≡ with_value key (option_map digits capacity) (members_of self.old)) }
+        ensures again { OnOk result (IfSome capacity (λ n. IsReadBack capacity_from (digits n) n)) }
+        ensures err { OnErr result (members_of self.new ≡ members_of self.old) }
+    {
+        match capacity {
+            None => Ok(()),
+            Some(capacity) => self.put_capacity(alloc, key, capacity),
+        }
+    }
+
+    pub fn put_optional_second(
+        &mut self,
+        alloc: Global,
+        key: Key,
+        second: Option<Second>,
+    ) -> Result<(), AllocError>
+        ensures put { OnOk result (members_of self.new ≡ with_value key (option_map digits second) (members_of self.old)) }
+        ensures again { OnOk result (IfSome second (λ n. IsReadBack second_from (digits n) n)) }
+        ensures err { OnErr result (members_of self.new ≡ members_of self.old) }
+    {
+        match second {
+            None => Ok(()),
+            Some(second) => self.put_second(alloc, key, second),
         }
     }
 

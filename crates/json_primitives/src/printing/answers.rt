@@ -1,9 +1,11 @@
 //! What answers have besides their header.
 
-ghost use Rattle.std.specs.Prelude.{◌≡◌, OnOk, option_map};
-ghost use Rattle.json_fields.specs.Objects.{with_fields, with_value, words};
+ghost use Rattle.std.specs.Prelude.{◌≡◌, OnOk, Some, IfSome, option_map};
+ghost use Rattle.json_fields.specs.Fields.{id_from};
+ghost use Rattle.json_fields.specs.Objects.{with_fields, with_value, words, id_scalar, IsReadBack};
 ghost use Rattle.json_fields.specs.Written.{members_of};
-ghost use Rattle.json_primitives.specs.Spelling.{confirmation_fields, refusal_fields, cause_fields, exception_fields, flow_text};
+ghost use Rattle.json_primitives.specs.Spelling.{confirmation_fields, refusal_fields, cause_fields, exception_fields, listed_fields, flow_text};
+ghost use Rattle.json_primitives.specs.Valid.{IsValidConfirmation, IsValidCause, IsValidException};
 
 use json_fields::{JsonObject, Key};
 use nsi_base::Flow;
@@ -16,7 +18,8 @@ pub fn put_confirmation(
     object: &mut JsonObject,
     confirmation: &ReserveConfirmation,
 ) -> Result<(), AllocError>
-    ensures { OnOk result (members_of object.new ≡ with_fields (members_of object.old) (confirmation_fields confirmation.now)) }
+    ensures put { OnOk result (members_of object.new ≡ with_fields (members_of object.old) (confirmation_fields confirmation.now)) }
+    ensures valid { OnOk result (IsValidConfirmation confirmation.now) }
 {
     object.put_capacity(alloc, Key::Capacity, confirmation.capacity)?;
     object.put_id(alloc, Key::ConnectionId, confirmation.connection)?;
@@ -42,19 +45,52 @@ pub fn put_refusal(
     connection: Id,
     exception: &Exception,
 ) -> Result<(), AllocError>
-    ensures { OnOk result (members_of object.new ≡ with_fields (members_of object.old) (refusal_fields connection exception.now)) }
+    ensures put { OnOk result (members_of object.new ≡ with_fields (members_of object.old) (refusal_fields (Some connection) exception.now)) }
+    ensures connection { OnOk result (IsReadBack id_from (id_scalar connection) connection) }
+    ensures exception { OnOk result (IsValidException exception.now) }
 {
     object.put_id(alloc, Key::ConnectionId, connection)?;
     put_exception(alloc, object, exception)
 }
 
 #[tactic(auto, unfolding(json_fields::specs::Objects::with_fields))]
-pub fn put_exception(
+pub fn put_error(
+    alloc: Global,
+    object: &mut JsonObject,
+    connection: &Option<Id>,
+    exception: &Exception,
+) -> Result<(), AllocError>
+    ensures put { OnOk result (members_of object.new ≡ with_fields (members_of object.old) (refusal_fields connection.now exception.now)) }
+    ensures connection { OnOk result (IfSome connection.now (λ n. IsReadBack id_from (id_scalar n) n)) }
+    ensures exception { OnOk result (IsValidException exception.now) }
+{
+    object.put_optional_id(alloc, Key::ConnectionId, *connection)?;
+    put_exception(alloc, object, exception)
+}
+
+/// The connection that was asked about, and whether rows were left out.
+#[tactic(auto, unfolding(json_fields::specs::Objects::with_fields))]
+pub fn put_listed(
+    alloc: Global,
+    object: &mut JsonObject,
+    connection: Id,
+    more: bool,
+) -> Result<(), AllocError>
+    ensures put { OnOk result (members_of object.new ≡ with_fields (members_of object.old) (listed_fields connection more)) }
+    ensures valid { OnOk result (IsReadBack id_from (id_scalar connection) connection) }
+{
+    object.put_id(alloc, Key::ConnectionId, connection)?;
+    object.put_flag(alloc, Key::More, more)
+}
+
+#[tactic(auto, unfolding(json_fields::specs::Objects::with_fields))]
+fn put_exception(
     alloc: Global,
     object: &mut JsonObject,
     exception: &Exception,
 ) -> Result<(), AllocError>
-    ensures { OnOk result (members_of object.new ≡ with_fields (members_of object.old) (exception_fields exception.now)) }
+    ensures put { OnOk result (members_of object.new ≡ with_fields (members_of object.old) (exception_fields exception.now)) }
+    ensures valid { OnOk result (IsValidException exception.now) }
 {
     object.put_name(alloc, Key::NsaId, &exception.nsa)?;
     put_cause(alloc, object, &exception.cause)
@@ -62,7 +98,8 @@ pub fn put_exception(
 
 #[tactic(auto, unfolding(json_fields::specs::Objects::with_fields))]
 fn put_cause(alloc: Global, object: &mut JsonObject, cause: &Cause) -> Result<(), AllocError>
-    ensures { OnOk result (members_of object.new ≡ with_fields (members_of object.old) (cause_fields cause.now)) }
+    ensures put { OnOk result (members_of object.new ≡ with_fields (members_of object.old) (cause_fields cause.now)) }
+    ensures valid { OnOk result (IsValidCause cause.now) }
 {
     match cause {
         Cause::Plain(error) => object.put_text(alloc, Key::ErrorId, error.text()),

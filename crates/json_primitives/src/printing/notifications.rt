@@ -4,6 +4,7 @@ ghost use Rattle.std.specs.Prelude.{◌≡◌, OnOk};
 ghost use Rattle.json_fields.specs.Objects.{with_fields};
 ghost use Rattle.json_fields.specs.Written.{members_of};
 ghost use Rattle.json_primitives.specs.Spelling.{timeout_fields, fault_fields, plane_fields, delivery_fields};
+ghost use Rattle.json_primitives.specs.Valid.{IsValidTimeout, IsValidFault, IsValidPlane, IsValidDelivery};
 
 use json_fields::{JsonObject, Key};
 use nsi_primitive::{DeliveryTimeout, FaultNotice, HoldTimeout, PlaneNotice};
@@ -15,7 +16,8 @@ pub fn put_timeout(
     object: &mut JsonObject,
     timeout: &HoldTimeout,
 ) -> Result<(), AllocError>
-    ensures { OnOk result (members_of object.new ≡ with_fields (members_of object.old) (timeout_fields timeout.now)) }
+    ensures put { OnOk result (members_of object.new ≡ with_fields (members_of object.old) (timeout_fields timeout.now)) }
+    ensures valid { OnOk result (IsValidTimeout timeout.now) }
 {
     let origin = timeout.originating_connection;
     object.put_id(alloc, Key::ConnectionId, timeout.connection)?;
@@ -23,7 +25,7 @@ pub fn put_timeout(
     object.put_id(alloc, Key::OriginatingConnectionId, origin)?;
     object.put_name(alloc, Key::OriginatingNsa, &timeout.originating_nsa)?;
     object.put_second(alloc, Key::TimeStamp, timeout.time)?;
-    object.put_number(alloc, Key::TimeoutValue, u64::from(timeout.value.get()))
+    object.put_hold(alloc, Key::TimeoutValue, timeout.value)
 }
 
 #[tactic(auto, unfolding(json_fields::specs::Objects::with_fields))]
@@ -32,7 +34,8 @@ pub fn put_fault(
     object: &mut JsonObject,
     notice: &FaultNotice,
 ) -> Result<(), AllocError>
-    ensures { OnOk result (members_of object.new ≡ with_fields (members_of object.old) (fault_fields notice.now)) }
+    ensures put { OnOk result (members_of object.new ≡ with_fields (members_of object.old) (fault_fields notice.now)) }
+    ensures valid { OnOk result (IsValidFault notice.now) }
 {
     let origin = notice.originating_connection;
     object.put_id(alloc, Key::ConnectionId, notice.connection)?;
@@ -49,7 +52,8 @@ pub fn put_plane(
     object: &mut JsonObject,
     notice: &PlaneNotice,
 ) -> Result<(), AllocError>
-    ensures { OnOk result (members_of object.new ≡ with_fields (members_of object.old) (plane_fields notice.now)) }
+    ensures put { OnOk result (members_of object.new ≡ with_fields (members_of object.old) (plane_fields notice.now)) }
+    ensures valid { OnOk result (IsValidPlane notice.now) }
 {
     object.put_flag(alloc, Key::Active, notice.active)?;
     object.put_id(alloc, Key::ConnectionId, notice.connection)?;
@@ -65,7 +69,8 @@ pub fn put_delivery(
     object: &mut JsonObject,
     timeout: &DeliveryTimeout,
 ) -> Result<(), AllocError>
-    ensures { OnOk result (members_of object.new ≡ with_fields (members_of object.old) (delivery_fields timeout.now)) }
+    ensures put { OnOk result (members_of object.new ≡ with_fields (members_of object.old) (delivery_fields timeout.now)) }
+    ensures valid { OnOk result (IsValidDelivery timeout.now) }
 {
     object.put_id(alloc, Key::ConnectionId, timeout.connection)?;
     object.put_id(alloc, Key::DeliveryCorrelationId, timeout.delivery)?;

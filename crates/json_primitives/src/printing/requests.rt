@@ -1,13 +1,14 @@
 //! What requests have besides their header, key by key in byte order.
 
 ghost use Rattle.std.specs.Prelude.{◌≡◌, OnOk};
-ghost use Rattle.json_fields.specs.Objects.{with_fields};
+ghost use Rattle.json_fields.specs.Fields.{id_from};
+ghost use Rattle.json_fields.specs.Objects.{with_fields, id_scalar, IsReadBack};
 ghost use Rattle.json_fields.specs.Written.{members_of};
-ghost use Rattle.json_primitives.specs.Spelling.{reserve_fields};
+ghost use Rattle.json_primitives.specs.Spelling.{reserve_fields, range_fields};
 ghost use Rattle.json_primitives.specs.Valid.{IsValidReserve};
 
 use json_fields::{JsonObject, Key};
-use nsi_primitive::ReserveRequest;
+use nsi_primitive::{NumberRange, ReserveRequest};
 use std::alloc::{AllocError, Global};
 
 #[tactic(auto, unfolding(json_fields::specs::Objects::with_fields))]
@@ -30,4 +31,21 @@ pub fn put_reserve(
     object.put_second(alloc, Key::StartTime, reserve.start)?;
     object.put_optional_flag(alloc, Key::SymmetricPath, reserve.symmetric)?;
     object.put_optional_version(alloc, Key::Version, reserve.version)
+}
+
+/// A range of numbers, by the keys of its end and start.
+#[tactic(auto, unfolding(json_fields::specs::Objects::with_fields))]
+pub fn put_range(
+    alloc: Global,
+    object: &mut JsonObject,
+    end_key: Key,
+    start_key: Key,
+    range: &NumberRange,
+) -> Result<(), AllocError>
+    ensures put { OnOk result (members_of object.new ≡ with_fields (members_of object.old) (range_fields end_key start_key range.now)) }
+    ensures valid { OnOk result (IsReadBack id_from (id_scalar range.now.connection) range.now.connection) }
+{
+    object.put_id(alloc, Key::ConnectionId, range.connection)?;
+    object.put_optional_number(alloc, end_key, range.end)?;
+    object.put_optional_number(alloc, start_key, range.start)
 }

@@ -1,10 +1,10 @@
-//! The requests, key by key in byte order.
+//! The reserve, key by key in byte order.
 
 ghost use Rattle.std.specs.Prelude.{◌≡◌, false, IfOk, IfNone, IsSome};
 ghost use Rattle.serde_json.specs.View.{view};
-ghost use Rattle.nsi_primitive.specs.Printable.{IsPrintable, IsRequest, AreApart};
+ghost use Rattle.nsi_primitive.specs.Printable.{IsPrintable, AreApart};
 ghost use Rattle.json_fields.specs.Faults.{Gives};
-ghost use Rattle.json_primitives.specs.Requests.{reserve_from, point_from, is_one_point, connected_from, commit_from, abort_from, provision_from, release_from, terminate_from};
+ghost use Rattle.json_primitives.specs.Requests.{reserve_from, point_from, is_one_point};
 
 use json_fields::reading::{
     optional_directionality, optional_empty_list, optional_flag, optional_id, optional_name,
@@ -22,7 +22,6 @@ use std::alloc::Global;
 pub fn reserve_from(alloc: Global, value: &Value) -> Result<Message, LineFault>
     ensures gives { Gives result (reserve_from (view value.now)) }
     ensures printable { IfOk result IsPrintable }
-    ensures request { IfOk result IsRequest }
 {
     let capacity = required_capacity(value, Key::Capacity)?;
     let connection = optional_id(value, Key::ConnectionId)?;
@@ -88,76 +87,4 @@ fn is_one_point(source: &Option<Name>, dest: &Option<Name>) -> bool
         (Some(source), Some(dest)) => source.is(dest),
         _ => false,
     }
-}
-
-#[tactic(auto, unfolding(crate::specs::Requests::commit_from))]
-pub fn commit_from(alloc: Global, value: &Value) -> Result<Message, LineFault>
-    ensures gives { Gives result (commit_from (view value.now)) }
-    ensures printable { IfOk result IsPrintable }
-    ensures request { IfOk result IsRequest }
-{
-    let (connection, header) = connected_from(alloc, value)?;
-    let body = Body::ReserveCommit { connection };
-    Ok(Message { header, body })
-}
-
-#[tactic(auto, unfolding(crate::specs::Requests::abort_from))]
-pub fn abort_from(alloc: Global, value: &Value) -> Result<Message, LineFault>
-    ensures gives { Gives result (abort_from (view value.now)) }
-    ensures printable { IfOk result IsPrintable }
-    ensures request { IfOk result IsRequest }
-{
-    let (connection, header) = connected_from(alloc, value)?;
-    let body = Body::ReserveAbort { connection };
-    Ok(Message { header, body })
-}
-
-#[tactic(auto, unfolding(crate::specs::Requests::provision_from))]
-pub fn provision_from(alloc: Global, value: &Value) -> Result<Message, LineFault>
-    ensures gives { Gives result (provision_from (view value.now)) }
-    ensures printable { IfOk result IsPrintable }
-    ensures request { IfOk result IsRequest }
-{
-    let (connection, header) = connected_from(alloc, value)?;
-    let body = Body::Provision { connection };
-    Ok(Message { header, body })
-}
-
-#[tactic(auto, unfolding(crate::specs::Requests::release_from))]
-pub fn release_from(alloc: Global, value: &Value) -> Result<Message, LineFault>
-    ensures gives { Gives result (release_from (view value.now)) }
-    ensures printable { IfOk result IsPrintable }
-    ensures request { IfOk result IsRequest }
-{
-    let (connection, header) = connected_from(alloc, value)?;
-    let body = Body::Release { connection };
-    Ok(Message { header, body })
-}
-
-#[tactic(auto, unfolding(crate::specs::Requests::terminate_from))]
-pub fn terminate_from(alloc: Global, value: &Value) -> Result<Message, LineFault>
-    ensures gives { Gives result (terminate_from (view value.now)) }
-    ensures printable { IfOk result IsPrintable }
-    ensures request { IfOk result IsRequest }
-{
-    let (connection, header) = connected_from(alloc, value)?;
-    let body = Body::Terminate { connection };
-    Ok(Message { header, body })
-}
-
-/// The connection and the header, where there is nothing else.
-#[tactic(auto, unfolding(crate::specs::Requests::connected_from))]
-fn connected_from(alloc: Global, value: &Value) -> Result<(Id, Header), LineFault>
-    ensures { Gives result (connected_from (view value.now)) }
-{
-    let connection = required_id(value, Key::ConnectionId)?;
-    let correlation = required_id(value, Key::CorrelationId)?;
-    let provider = required_name(alloc, value, Key::ProviderNsa)?;
-    let requester = required_name(alloc, value, Key::RequesterNsa)?;
-    let header = Header {
-        correlation,
-        requester,
-        provider,
-    };
-    Ok((connection, header))
 }

@@ -3,7 +3,7 @@
 ghost use Rattle.std.specs.Prelude.{◌≡◌, IfOk, None};
 ghost use Rattle.nsi_primitive.specs.Printable.{IsPrintable, IsPrintableBody, IsPrintableCause};
 
-use crate::{Key, LineFault, print_line, print_payload};
+use crate::{Key, LineFault, PayloadFault, print_message, print_payload};
 use nsi_base::{Flow, HoldTime, Mbps, Name, Second, Version};
 use nsi_primitive::{
     Body, Cause, DeliveryTimeout, Directionality, ErrorName, Exception, FaultEvent, FaultNotice,
@@ -59,6 +59,10 @@ const PAYLOAD_WITH_KEY: &str =
 
 const PAYLOAD: &str = r#"{"errorId":"PAYLOAD","fault":"NotJson","kind":"error","line":7}"#;
 
+const UNBUILT: &str = r#"{"errorId":"PAYLOAD","fault":"Unbuilt","kind":"error","line":8}"#;
+
+const TICK: &str = r#"{"errorId":"PAYLOAD","fault":"Tick","kind":"error","line":9}"#;
+
 fn header(alloc: Global, correlation: &[u8]) -> Result<Header, Fail> {
     Ok(Header {
         correlation: read_id(correlation)?,
@@ -78,7 +82,7 @@ fn first(alloc: Global, body: Body) -> Result<Message, Fail>
 fn is_written(alloc: Global, message: &Message, line: &str) -> Result<bool, Fail>
     requires { IsPrintable message.now }
 {
-    let written = print_line(alloc, message)?;
+    let written = print_message(alloc, message)?;
     Ok(written.as_slice() == line.as_bytes())
 }
 
@@ -297,11 +301,17 @@ fn delivery_timeout_is_written(rt: HostRuntime) -> Result<(), Fail> {
 #[test]
 fn unread_lines_are_answered(rt: HostRuntime) -> Result<(), Fail> {
     let answers = [
-        (LineFault::Bad(Key::Capacity), 6, PAYLOAD_WITH_KEY),
-        (LineFault::NotJson, 7, PAYLOAD),
+        (
+            PayloadFault::Line(LineFault::Bad(Key::Capacity)),
+            6,
+            PAYLOAD_WITH_KEY,
+        ),
+        (PayloadFault::Line(LineFault::NotJson), 7, PAYLOAD),
+        (PayloadFault::Unbuilt, 8, UNBUILT),
+        (PayloadFault::Tick, 9, TICK),
     ];
     for (fault, line, want) in answers {
-        let written = print_payload(rt.alloc(), fault.name(), fault.key(), line)?;
+        let written = print_payload(rt.alloc(), fault, line)?;
         assert_eq!(rt; written.as_slice(), want.as_bytes());
     }
     Ok(())

@@ -48,12 +48,17 @@ const READ: [(&str, &str); 9] = [
     (ABORT, ABORT),
 ];
 
+fn is_written_as(alloc: Global, line: &str, again: &str) -> Result<bool, Fail> {
+    let parcel = read_line(alloc, line.as_bytes())?;
+    let written = print_line(alloc, &parcel)?;
+    Ok(written.as_slice() == again.as_bytes())
+}
+
 #[test]
 fn requests_are_read_and_written(rt: HostRuntime) -> Result<(), Fail> {
     for (line, again) in &READ {
-        let message = read_line(rt.alloc(), line.as_bytes())?;
-        let written = print_line(rt.alloc(), &message)?;
-        assert_eq!(rt; written.as_slice(), again.as_bytes());
+        let is_right = is_written_as(rt.alloc(), *line, *again)?;
+        assert!(rt; is_right, "{line}");
     }
     Ok(())
 }
@@ -125,8 +130,8 @@ const CHANGED: [(&str, &str, LineFault); 35] = [
         "00000000001\"",
         LineFault::Bad(Key::CorrelationId),
     ),
-    ("\"reserve\"", "\"error\"", LineFault::Unbuilt),
-    ("\"reserve\"", "\"ack\"", LineFault::Unbuilt),
+    ("\"reserve\"", "\"error\"", LineFault::Missing(Key::ErrorId)),
+    ("\"reserve\"", "\"ack\"", LineFault::Missing(Key::Of)),
     ("\"reserve\"", "\"nonsense\"", LineFault::Bad(Key::Kind)),
     ("\"reserve\"", "7", LineFault::Bad(Key::Kind)),
     ("\"kind\":\"reserve\",", "", LineFault::NoKind),
@@ -269,53 +274,7 @@ const MODIFIED: [(&str, &str, Option<LineFault>); 32] = [
     ),
 ];
 
-/// The same for a request that names a connection and nothing else.
-const CONNECTED: [(&str, &str, LineFault); 10] = [
-    (
-        r#""connectionId":"urn:uuid:00000000-0000-8000-8000-000000000001","#,
-        "",
-        LineFault::Missing(Key::ConnectionId),
-    ),
-    (
-        r#""connectionId":"urn:uuid:00000000-0000-8000-8000-000000000001""#,
-        r#""connectionId":null"#,
-        LineFault::Bad(Key::ConnectionId),
-    ),
-    (
-        r#""correlationId":"urn:uuid:00000000-0001-8000-8000-000000000002","#,
-        "",
-        LineFault::Missing(Key::CorrelationId),
-    ),
-    (
-        r#""correlationId":"urn:uuid:00000000-0001-8000-8000-000000000002""#,
-        r#""correlationId":null"#,
-        LineFault::Bad(Key::CorrelationId),
-    ),
-    (
-        r#""providerNSA":"p1","#,
-        "",
-        LineFault::Missing(Key::ProviderNsa),
-    ),
-    (
-        r#""providerNSA":"p1""#,
-        r#""providerNSA":"p 1""#,
-        LineFault::Bad(Key::ProviderNsa),
-    ),
-    (
-        r#","requesterNSA":"r1""#,
-        "",
-        LineFault::Missing(Key::RequesterNsa),
-    ),
-    (r#""r1""#, r#""r 1""#, LineFault::Bad(Key::RequesterNsa)),
-    (r#""kind""#, r#""sort""#, LineFault::NoKind),
-    (
-        r#""kind":"#,
-        r#""kind":7,"sort":"#,
-        LineFault::Bad(Key::Kind),
-    ),
-];
-
-fn fault_of(alloc: Global, line: &[u8]) -> Option<LineFault> {
+pub fn fault_of(alloc: Global, line: &[u8]) -> Option<LineFault> {
     match read_line(alloc, line) {
         Ok(_) => None,
         Err(fault) => Some(fault),
@@ -350,62 +309,17 @@ fn modifications_are_refused(rt: HostRuntime) -> Result<(), Fail> {
     Ok(())
 }
 
-/// Requests that name a connection and nothing else.
-const KINDS: [&str; 5] = [
-    "reserveCommit",
-    "reserveAbort",
-    "provision",
-    "release",
-    "terminate",
-];
-
-fn object_fault_of(alloc: Global, line: &[u8]) -> Option<LineFault> {
+pub fn object_fault_of(alloc: Global, line: &[u8]) -> Option<LineFault> {
     match read_object(alloc, line) {
         Ok(_) => None,
         Err(fault) => Some(fault),
     }
 }
 
-/// Whether each change of the line has its fault.
-fn are_refused(alloc: Global, line: &str) -> Result<bool, Fail> {
-    for (old, new, fault) in &CONNECTED {
-        let changed = line.replace(alloc, *old, new)?;
-        if object_fault_of(alloc, changed.as_bytes()) != Some(*fault) {
-            return Ok(false);
-        }
-    }
-    Ok(true)
-}
-
-#[test]
-fn requests_about_a_connection_are_refused(rt: HostRuntime) -> Result<(), Fail> {
-    for kind in &KINDS {
-        let line = COMMIT.replace(rt.alloc(), "reserveCommit", *kind)?;
-        let is_right = are_refused(rt.alloc(), line.as_str())?;
-        assert!(rt; is_right, "{kind}");
-    }
-    Ok(())
-}
-
-fn is_written_again(alloc: Global, line: &str) -> Result<bool, Fail> {
-    let message = read_object(alloc, line.as_bytes())?;
-    let written = print_line(alloc, &message)?;
+pub fn is_written_again(alloc: Global, line: &str) -> Result<bool, Fail> {
+    let parcel = read_object(alloc, line.as_bytes())?;
+    let written = print_line(alloc, &parcel)?;
     Ok(written.as_slice() == line.as_bytes())
-}
-
-/// They are read as objects, and no line is taken of them.
-#[test]
-fn kinds_for_later_are_read_and_written(rt: HostRuntime) -> Result<(), Fail> {
-    for kind in ["provision", "release", "terminate"] {
-        let line = COMMIT.replace(rt.alloc(), "reserveCommit", kind)?;
-        let is_right = is_written_again(rt.alloc(), line.as_str())?;
-        assert!(rt; is_right, "{kind}");
-        assert_eq!(rt;
-            fault_of(rt.alloc(), line.as_bytes()),
-            Some(LineFault::Unbuilt)
-        );
-    }
-    Ok(())
 }
 
 /// Bytes that are no line, and the fault.
@@ -428,7 +342,10 @@ const OTHERS: [(&[u8], LineFault); 10] = [
         b"{\"kind\":\"reserveCommit\",\"correlationId\":null}",
         LineFault::Missing(Key::ConnectionId),
     ),
-    (b"{\"kind\":\"provision\"}", LineFault::Unbuilt),
+    (
+        b"{\"kind\":\"provision\"}",
+        LineFault::Missing(Key::ConnectionId),
+    ),
 ];
 
 #[test]

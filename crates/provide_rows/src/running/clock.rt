@@ -1,6 +1,6 @@
 //! Lines of the clock, and how many events there may be.
 
-use super::{behind_topology, in_full, is_answered, run_whole};
+use super::{is_answered, is_limited_by};
 use std::alloc::{AllocError, Global};
 use std::test::Fail;
 
@@ -257,7 +257,7 @@ tick
 {"capacity":600,"connectionId":"P#1","correlationId":"R#1","destSTP":"B","directionality":"Bidirectional","endTime":200,"kind":"reserveConfirmed","providerNSA":"p1","requesterNSA":"r1","sourceSTP":"A","startTime":100,"version":0}
 {"errorId":"PAYLOAD","fault":"NotJson","kind":"error","line":8}
 {"errorId":"PAYLOAD","fault":"Tick","kind":"error","line":9}
-{"errorId":"PAYLOAD","fault":"Unbuilt","kind":"error","line":11}
+{"errorId":"PAYLOAD","fault":"Missing","key":"connectionId","kind":"error","line":11}
 "#,
     ),
     (
@@ -335,35 +335,6 @@ tick 3
 "#,
     ),
 ];
-
-/// Whether the words let the lines behind the topology be answered so.
-fn is_limited(
-    alloc: Global,
-    words: &str,
-    lines: &str,
-    status: u8,
-    written: &str,
-) -> Result<bool, AllocError> {
-    let lines = in_full(alloc, lines)?;
-    let written = in_full(alloc, written)?;
-    let input = behind_topology(alloc, lines.as_bytes())?;
-    Ok(run_whole(alloc, words, input)?.is(status, written.as_bytes()))
-}
-
-/// Whether both forms of the option let the lines be answered so.
-fn is_limited_by(
-    alloc: Global,
-    most: &str,
-    lines: &str,
-    status: u8,
-    written: &str,
-) -> Result<bool, AllocError> {
-    let parted = format!(in alloc; "provide --events {most}")?;
-    let is_parted = is_limited(alloc, parted.as_str(), lines, status, written)?;
-    let joined = format!(in alloc; "provide --events={most}")?;
-    let is_joined = is_limited(alloc, joined.as_str(), lines, status, written)?;
-    Ok(is_parted && is_joined)
-}
 
 #[test]
 fn events_are_counted(rt: HostRuntime) -> Result<(), Fail> {

@@ -48,15 +48,15 @@ const REFUSED: [(&str, &str); 45] = [
     ),
     (
         r#"{"kind":"ack"}"#,
-        r#"{"errorId":"PAYLOAD","fault":"Unbuilt","kind":"error","line":6}"#,
+        r#"{"errorId":"PAYLOAD","fault":"Missing","key":"correlationId","kind":"error","line":6}"#,
     ),
     (
         r#"{"kind":"provision"}"#,
-        r#"{"errorId":"PAYLOAD","fault":"Unbuilt","kind":"error","line":6}"#,
+        r#"{"errorId":"PAYLOAD","fault":"Missing","key":"connectionId","kind":"error","line":6}"#,
     ),
     (
         r#"{"kind":"reserveTimeout"}"#,
-        r#"{"errorId":"PAYLOAD","fault":"Unbuilt","kind":"error","line":6}"#,
+        r#"{"errorId":"PAYLOAD","fault":"Missing","key":"connectionId","kind":"error","line":6}"#,
     ),
     (
         r#"{"kind":"reserveCommit"}"#,

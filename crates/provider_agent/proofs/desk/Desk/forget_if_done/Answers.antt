@@ -1,16 +1,17 @@
-use Rattle.std.proofs.Common.{◌≡◌, ◌∙◌, false, ap, sym, refl, length}
+use Rattle.std.proofs.Common.{◌≡◌, ◌∙◌, false, ap, sym, refl, length, is_some, arith}
 use Rattle.std.proofs.lemmas.List.{get_or_read_under}
-use Rattle.nsi_primitive.specs.declared.state.Machine.{Machine}
-use Rattle.connection_record.specs.Moves.{waits}
+use Rattle.connection_record.specs.Turns.{first_machine, has_work}
 use Rattle.provider_agent.specs.State.{no_record, record_at}
 use Rattle.provider_agent.proofs.Indexing.{indexed_removed}
 use Rattle.provider_agent.proofs.desk.Desk.forget_if_done.Goals as goal
 
-pub returns-then-not-waits-clause-indexed : goal.returns-then-not-waits-clause-indexed
-returns-then-not-waits-clause-indexed c =
+pub returns-then-is_none-clause-indexed : goal.returns-then-is_none-clause-indexed
+returns-then-is_none-clause-indexed c =
     let d = c.args.self.now in
     let xs = d.records.items in
     let n = c.args.place in
     let own_is : c.index.result.now ≡ record_at n xs = get_or_read_under xs n (length xs) c.index.result.now no_record c.index.ensures c.requires.within refl in
-    let idle : waits Machine.Reserve (record_at n xs) ≡ false = ap (waits Machine.Reserve) (sym own_is) ∙ (sym c.waits.ensures ∙ c.if-not-waits.true) in
-    indexed_removed xs d.waiting c.remove.new.self d.deadlines n c.requires.indexed idle c.remove.ensures
+    let machine_is = c.first_machine.ensures ∙ ap first_machine own_is in
+    let none : is_some c.first_machine.result ≡ false = grind (arith, c.is_none.ensures, c.if-is_none.true) in
+    let idle : has_work (record_at n xs) ≡ false = ap is_some (sym machine_is) ∙ none in
+    indexed_removed d.now xs d.waiting c.remove.new.self d.deadlines n c.requires.indexed idle c.remove.ensures

@@ -1,50 +1,48 @@
-use Rattle.std.proofs.Common.{List, ◌∙◌, ap, sym, subst, map}
+use Rattle.std.proofs.Common.{◌≡◌, ◌∙◌, List, length, sym, ap, subst, arith}
 use Rattle.connection_record.specs.declared.record.Record.{Record}
-use Rattle.provider_agent.specs.Steps.{ticks, ticks_at}
-use Rattle.provider_agent.specs.Ticks.{noted_at, lapsed_at, AreDue}
-use Rattle.provider_agent.specs.Kept.{AreKept}
-use Rattle.provider_agent.specs.Desk.{home_at, state_at}
 use Rattle.provider_agent.specs.Indexed.{AreIndexed}
-use Rattle.provider_agent.proofs.Indexing.{indexed_ticked}
-use Rattle.provider_agent.proofs.Due.{due_from, due_noted}
-use Rattle.provider_agent.proofs.Ticking.{ended_as, map_twice, kept_noted}
+use Rattle.provider_agent.specs.Kept.{AreKept}
+use Rattle.provider_agent.specs.Steps.{ticks_all}
+use Rattle.provider_agent.specs.Ticks.{AreDue, IsFreedBut}
+use Rattle.provider_agent.proofs.TickDue.{due_from}
+use Rattle.provider_agent.proofs.TickIndexed.{indexed_ticked, kept_ticked}
+use Rattle.provider_agent.proofs.TickSeams.{length_ticked}
 use Rattle.provider_agent.proofs.desk.Desk.tick.Goals as goal
 
-pub told-requires : goal.told-requires
-told-requires c =
+pub tick_all-requires-clause-due : goal.tick_all-requires-clause-due
+tick_all-requires-clause-due c =
     let d = c.args.self.now in
-    subst (AreDue c.args.now d.records.items) (sym c.items-due.ensures.items) (due_from d.records.items d.waiting d.deadlines c.args.now c.in_ok-places.places c.requires.indexed c.in_ok-places.ensures c.items-due.ensures.rising)
+    subst (AreDue d.now c.args.now d.records.items) (sym c.items-due.ensures.items)
+    (due_from d.now c.args.now d.records.items d.waiting d.deadlines c.in_ok-places.places c.requires.ready.indexed c.requires.on_time c.in_ok-places.ensures c.items-due.ensures.rising)
 
-pub note_all-requires : goal.note_all-requires
-note_all-requires c =
+pub free_all-requires-clause-within : goal.free_all-requires-clause-within
+free_all-requires-clause-within c n has =
     let d = c.args.self.now in
-    subst (AreDue c.args.now d.records.items) (sym c.items-due.ensures.items) (due_from d.records.items d.waiting d.deadlines c.args.now c.in_ok-places.places c.requires.indexed c.in_ok-places.ensures c.items-due.ensures.rising)
+    let due = subst (AreDue d.now c.args.now d.records.items) (sym c.items-due.ensures.items)
+    (due_from d.now c.args.now d.records.items d.waiting d.deadlines c.in_ok-places.places c.requires.ready.indexed c.requires.on_time c.in_ok-places.ensures c.items-due.ensures.rising) in
+    let records_are : c.deref.result.now ≡ (ticks_all d.agent d.now c.args.now d.next d.records.items).records = c.deref.ensures.value ∙ c.in_ok-tick_all.ensures.records in
+    omega (arith, due.within n has, ap length records_are, length_ticked d.agent d.now c.args.now d.next d.records.items)
 
-pub end_all-requires-clause-due : goal.end_all-requires-clause-due
-end_all-requires-clause-due c =
+pub free_all-requires-clause-few : goal.free_all-requires-clause-few
+free_all-requires-clause-few c =
     let d = c.args.self.now in
-    let now = c.args.now in
-    let due = subst (AreDue now d.records.items) (sym c.items-due.ensures.items) (due_from d.records.items d.waiting d.deadlines now c.in_ok-places.places c.requires.indexed c.in_ok-places.ensures c.items-due.ensures.rising) in
-    subst (λ rs. AreDue now rs c.items-due.result.now) (sym c.in_ok-note_all.ensures.ok) (due_noted now d.records.items c.items-due.result.now due)
+    let records_are : c.deref.result.now ≡ (ticks_all d.agent d.now c.args.now d.next d.records.items).records = c.deref.ensures.value ∙ c.in_ok-tick_all.ensures.records in
+    omega (arith, c.requires.ready.few, ap length records_are, length_ticked d.agent d.now c.args.now d.next d.records.items)
 
-pub end_all-requires-clause-kept : goal.end_all-requires-clause-kept
-end_all-requires-clause-kept c =
+pub free_all-requires-clause-but : goal.free_all-requires-clause-but
+free_all-requires-clause-but c =
     let d = c.args.self.now in
-    subst (λ rs. AreKept rs d.calendar.bookings) (sym c.in_ok-note_all.ensures.ok) (kept_noted c.args.now d.records.items d.calendar.bookings c.requires.kept)
+    let due = subst (AreDue d.now c.args.now d.records.items) (sym c.items-due.ensures.items)
+    (due_from d.now c.args.now d.records.items d.waiting d.deadlines c.in_ok-places.places c.requires.ready.indexed c.requires.on_time c.in_ok-places.ensures c.items-due.ensures.rising) in
+    let records_are : c.deref.result.now ≡ (ticks_all d.agent d.now c.args.now d.next d.records.items).records = c.deref.ensures.value ∙ c.in_ok-tick_all.ensures.records in
+    subst (λ (rs : List Record). IsFreedBut rs d.calendar.bookings c.items-due.result.now) (sym records_are)
+    (kept_ticked d.agent d.now c.args.now d.next d.records.items d.calendar.bookings c.items-due.result.now c.requires.ready.kept due)
 
-pub returns-clause-state : goal.returns-clause-state
-unfolding ticks
-returns-clause-state c =
-    let d = c.args.self.now in
-    let now = c.args.now in
-    let home = home_at d in
-    let ended = λ (r : Record). (ticks_at home now r).rec in
-    ap (λ (rs : List Record). record (state_at d) { records = rs; now = now })
-    (c.end_all.ensures.records ∙ (ap (map (lapsed_at now)) c.in_ok-note_all.ensures.ok ∙ map_twice (noted_at now) (lapsed_at now) ended d.records.items (ended_as home now)))
+pub returns-clause-kept : goal.returns-clause-kept
+returns-clause-kept c = subst (λ (rs : List Record). AreKept rs c.free_all.new.calendar.bookings) c.deref.ensures.value c.free_all.ensures.kept
 
 pub returns-clause-indexed : goal.returns-clause-indexed
 returns-clause-indexed c =
     let d = c.args.self.now in
-    let now = c.args.now in
-    let records_are = c.end_all.ensures.records ∙ ap (map (lapsed_at now)) c.in_ok-note_all.ensures.ok in
-    subst (λ rs. AreIndexed rs d.waiting c.pass.new.self) (sym records_are) (indexed_ticked d.records.items d.waiting d.deadlines c.pass.new.self now c.requires.indexed c.pass.ensures)
+    subst (λ (rs : List Record). AreIndexed c.args.now rs d.waiting c.pass.new.self) (sym c.in_ok-tick_all.ensures.records)
+    (indexed_ticked d.agent d.now c.args.now d.next d.records.items d.waiting d.deadlines c.pass.new.self c.requires.ready.indexed c.requires.on_time c.pass.ensures)

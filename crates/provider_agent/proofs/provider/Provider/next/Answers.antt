@@ -6,7 +6,8 @@ use Rattle.provider_agent.specs.Good.{IsGood}
 use Rattle.provider_agent.specs.Desk.{home_at, state_at, standing_at}
 use Rattle.provider_agent.proofs.PrintableAfter.{printable_after}
 use Rattle.provider_agent.proofs.HonestAfter.{honest_after}
-use Rattle.provider_agent.proofs.Steady.{taken_is, steady_after, standing_after, rising_where_good, stands_by, says_by, prints_by}
+use Rattle.provider_agent.proofs.Counting.{rising_where_good, taken_is}
+use Rattle.provider_agent.proofs.Steady.{steady_after, standing_after, stands_by, says_by, prints_by}
 use Rattle.provider_agent.proofs.provider.Provider.next.Goals as goal
 
 pub invariant_of-self : goal.invariant_of-self
@@ -14,7 +15,7 @@ invariant_of-self c =
     let d = c.self.inside.desk in
     let e = c.args.entry.now in
     let may : may_take (state_at d) e ≡ _ = ap (λ (x : Standing). may_take x.state e) c.self.view_is ∙ c.requires.may_take in
-    steady_after c.take.result d c.take.new.self (own_stp c.args.topology.now d.number) e c.self.invariant may c.requires.printable c.take.ensures.state c.take.ensures.err c.take.ensures.home c.take.ensures.kept c.take.ensures.indexed
+    steady_after c.take.result d c.take.new.self (own_stp c.args.topology.now d.agent.number) e c.self.invariant may c.requires.printable c.take.ensures.state c.take.ensures.err c.take.ensures.home c.take.ensures.kept c.take.ensures.indexed
 
 pub returns-clause-state : goal.returns-clause-state
 returns-clause-state c =
@@ -23,7 +24,7 @@ returns-clause-state c =
     let may : may_take (state_at d) e ≡ _ = ap (λ (x : Standing). may_take x.state e) c.self.view_is ∙ c.requires.may_take in
     let after_of = λ (x : Standing). record x { state = (after x.home (own_stp c.args.topology.now x.home.number) x.state e).state } in
     stands_by c.take.result c.take.new.self (after_of (standing_at d)) (after_of c.args.self.now) (ap after_of c.self.view_is)
-    (standing_after c.take.result d c.take.new.self (own_stp c.args.topology.now d.number) e c.self.invariant may c.requires.printable c.take.ensures.state c.take.ensures.err c.take.ensures.home c.take.ensures.kept c.take.ensures.indexed)
+    (standing_after c.take.result d c.take.new.self (own_stp c.args.topology.now d.agent.number) e c.self.invariant may c.requires.printable c.take.ensures.state c.take.ensures.err c.take.ensures.home c.take.ensures.kept c.take.ensures.indexed)
 
 pub returns-clause-out : goal.returns-clause-out
 returns-clause-out c =
@@ -31,7 +32,7 @@ returns-clause-out c =
     let e = c.args.entry.now in
     let may : may_take (state_at d) e ≡ _ = ap (λ (x : Standing). may_take x.state e) c.self.view_is ∙ c.requires.may_take in
     let out_of = λ (x : Standing). (after x.home (own_stp c.args.topology.now x.home.number) x.state e).out in
-    says_by c.take.result _ (out_of c.args.self.now) (ap (λ (x : Stepped). x.out) (sym (taken_is (home_at d) (own_stp c.args.topology.now d.number) (state_at d) e may)) ∙ ap out_of c.self.view_is) c.take.ensures.out
+    says_by c.take.result _ (out_of c.args.self.now) (ap (λ (x : Stepped). x.out) (sym (taken_is (home_at d) (own_stp c.args.topology.now d.agent.number) (state_at d) e may)) ∙ ap out_of c.self.view_is) c.take.ensures.out
 
 pub returns-clause-printable : goal.returns-clause-printable
 returns-clause-printable c =
@@ -45,14 +46,14 @@ returns-clause-capped c =
     let d = c.self.inside.desk in
     let e = c.args.entry.now in
     let may : may_take (state_at d) e ≡ _ = ap (λ (x : Standing). may_take x.state e) c.self.view_is ∙ c.requires.may_take in
-    (steady_after c.take.result d c.take.new.self (own_stp c.args.topology.now d.number) e c.self.invariant may c.requires.printable c.take.ensures.state c.take.ensures.err c.take.ensures.home c.take.ensures.kept c.take.ensures.indexed).good.capped
+    (steady_after c.take.result d c.take.new.self (own_stp c.args.topology.now d.agent.number) e c.self.invariant may c.requires.printable c.take.ensures.state c.take.ensures.err c.take.ensures.home c.take.ensures.kept c.take.ensures.indexed).good.capped
 
 pub returns-clause-rising : goal.returns-clause-rising
 returns-clause-rising c =
     let d = c.self.inside.desk in
     let e = c.args.entry.now in
     let may : may_take (state_at d) e ≡ _ = ap (λ (x : Standing). may_take x.state e) c.self.view_is ∙ c.requires.may_take in
-    let steady = steady_after c.take.result d c.take.new.self (own_stp c.args.topology.now d.number) e c.self.invariant may c.requires.printable c.take.ensures.state c.take.ensures.err c.take.ensures.home c.take.ensures.kept c.take.ensures.indexed in
+    let steady = steady_after c.take.result d c.take.new.self (own_stp c.args.topology.now d.agent.number) e c.self.invariant may c.requires.printable c.take.ensures.state c.take.ensures.err c.take.ensures.home c.take.ensures.kept c.take.ensures.indexed in
     rising_where_good (home_at c.take.new.self) (state_at c.take.new.self) steady.good
 
 pub returns-clause-honest : goal.returns-clause-honest

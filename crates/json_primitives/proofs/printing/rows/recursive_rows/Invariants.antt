@@ -1,0 +1,8 @@
+use Rattle.json_fields.specs.Written.{rows_of}
+use Rattle.json_primitives.specs.Rows.{recursive_fields, row_data}
+use Rattle.json_primitives.specs.ValidRows.{IsValidRecursiveRow}
+use Rattle.json_primitives.proofs.RowLoops.{ArePrinted}
+use Rattle.json_primitives.proofs.printing.rows.recursive_rows.Given as goal
+
+abbrev pub invariant-loop-row : goal.invariant-loop-row
+invariant-loop-row l = ArePrinted (λ r. row_data (recursive_fields r)) IsValidRecursiveRow l.rows l.row-index (rows_of l.written)

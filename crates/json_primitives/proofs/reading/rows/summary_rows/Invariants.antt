@@ -1,0 +1,11 @@
+use Rattle.std.proofs.Common.{◌≡◌, drop}
+use Rattle.std.specs.List.{All}
+use Rattle.nsi_primitive.specs.Printable.{IsShort}
+use Rattle.serde_json.specs.View.{items_view}
+use Rattle.json_fields.specs.RowFields.{each_from}
+use Rattle.json_primitives.specs.RowLines.{summary_row_from}
+use Rattle.json_primitives.proofs.RowLoops.{onto}
+use Rattle.json_primitives.proofs.reading.rows.summary_rows.Given as goal
+
+abbrev pub invariant-loop-item : goal.invariant-loop-item
+invariant-loop-item l = (onto l.rows (each_from summary_row_from (items_view (drop l.item-index l.items))) ≡ each_from summary_row_from (items_view l.items)) × All (λ r. IsShort 256 r.description × IsShort 128 r.global) l.rows

@@ -1,0 +1,86 @@
+//! The queries, key by key in byte order.
+
+ghost use Rattle.std.specs.Prelude.{◌≡◌, IfOk};
+ghost use Rattle.serde_json.specs.View.{view};
+ghost use Rattle.nsi_primitive.specs.Printable.{IsPrintable};
+ghost use Rattle.json_fields.specs.Faults.{Gives};
+ghost use Rattle.json_primitives.specs.Queries.{summary_from, ranged_from, notifications_from, results_from};
+
+use json_fields::reading::{optional_count, optional_id, required_id, required_name};
+use json_fields::{Key, LineFault};
+use nsi_primitive::{Body, Header, Message, NumberRange};
+use serde_json::Value;
+use std::alloc::Global;
+
+/// Of one connection, or of all.
+#[tactic(auto, unfolding(crate::specs::Queries::summary_from))]
+pub fn summary_from(alloc: Global, value: &Value) -> Result<Message, LineFault>
+    ensures gives { Gives result (summary_from (view value.now)) }
+    ensures printable { IfOk result IsPrintable }
+{
+    let connection = optional_id(value, Key::ConnectionId)?;
+    let correlation = required_id(value, Key::CorrelationId)?;
+    let provider = required_name(alloc, value, Key::ProviderNsa)?;
+    let requester = required_name(alloc, value, Key::RequesterNsa)?;
+    let header = Header {
+        correlation,
+        requester,
+        provider,
+    };
+    let body = Body::QuerySummary { connection };
+    Ok(Message { header, body })
+}
+
+#[tactic(auto, unfolding(crate::specs::Queries::notifications_from))]
+pub fn notifications_from(alloc: Global, value: &Value) -> Result<Message, LineFault>
+    ensures gives { Gives result (notifications_from (view value.now)) }
+    ensures printable { IfOk result IsPrintable }
+{
+    let (range, header) = ranged_from(
+        alloc,
+        value,
+        Key::EndNotificationId,
+        Key::StartNotificationId,
+    )?;
+    let body = Body::QueryNotification(range);
+    Ok(Message { header, body })
+}
+
+#[tactic(auto, unfolding(crate::specs::Queries::results_from))]
+pub fn results_from(alloc: Global, value: &Value) -> Result<Message, LineFault>
+    ensures gives { Gives result (results_from (view value.now)) }
+    ensures printable { IfOk result IsPrintable }
+{
+    let (range, header) = ranged_from(alloc, value, Key::EndResultId, Key::StartResultId)?;
+    let body = Body::QueryResult(range);
+    Ok(Message { header, body })
+}
+
+/// The range of numbers and the header, by the keys of the range's end and start.
+#[tactic(auto, unfolding(crate::specs::Queries::ranged_from))]
+fn ranged_from(
+    alloc: Global,
+    value: &Value,
+    end_key: Key,
+    start_key: Key,
+) -> Result<(NumberRange, Header), LineFault>
+    ensures { Gives result (ranged_from end_key start_key (view value.now)) }
+{
+    let connection = required_id(value, Key::ConnectionId)?;
+    let correlation = required_id(value, Key::CorrelationId)?;
+    let end = optional_count(value, end_key)?;
+    let provider = required_name(alloc, value, Key::ProviderNsa)?;
+    let requester = required_name(alloc, value, Key::RequesterNsa)?;
+    let start = optional_count(value, start_key)?;
+    let header = Header {
+        correlation,
+        requester,
+        provider,
+    };
+    let range = NumberRange {
+        connection,
+        end,
+        start,
+    };
+    Ok((range, header))
+}
