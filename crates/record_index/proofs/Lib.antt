@@ -1,3 +1,4 @@
+pub mod Coming
 pub mod Members
+pub mod Order
 pub mod Rising
-pub mod Split

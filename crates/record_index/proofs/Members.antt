@@ -3,11 +3,11 @@ use Rattle.std.proofs.Common.{◌≡◌, ◌≢◌, ◌↔◌, ◌<◌, ◌⊎�
 use Rattle.std.specs.List.{insert, remove}
 use Rattle.std.proofs.lemmas.List.Sorted.{Contains-permutation, IsPermutation-sym, IsPermutation-insert, IsPermutation-remove}
 
-contains_first : {X : Type 0} (x p : X) (xs : List X) → Contains (x ∷ xs) p → (p ≡ x) ⊎ Contains xs p
+pub contains_first : {X : Type 0} (x p : X) (xs : List X) → Contains (x ∷ xs) p → (p ≡ x) ⊎ Contains xs p
 contains_first x p xs (zero, l, e) = inl (sym e)
 contains_first x p xs (suc k, l, e) = inr (k, omega arith, e)
 
-contains_more : {X : Type 0} (x p : X) (xs : List X) → (p ≡ x) ⊎ Contains xs p → Contains (x ∷ xs) p
+pub contains_more : {X : Type 0} (x p : X) (xs : List X) → (p ≡ x) ⊎ Contains xs p → Contains (x ∷ xs) p
 contains_more x p xs (inl e) = (zero, omega arith, sym e)
 contains_more x p xs (inr h) = (suc h.0, omega (arith, h.1), h.2)
 

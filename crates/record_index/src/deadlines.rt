@@ -1,17 +1,17 @@
 //! When something is to be done to which record.
 
-ghost use Rattle.std.specs.Prelude.{◌≡◌, ◌<◌, ◌≤◌, ◌↔◌, ◌⊎◌, ℕ, [], length, take, drop, map, IfOk, OnOk, OnErr, Contains};
+ghost use Rattle.std.specs.Prelude.{◌≡◌, ◌<◌, ◌↔◌, ◌⊎◌, ℕ, [], IfOk, OnOk, OnErr, Contains};
 ghost use Rattle.record_index.specs.declared.deadlines.Deadline.{Deadline as DeadlineValue};
-ghost use Rattle.record_index.specs.Due.{AreInOrder, IsDueIn, IsSplit};
+ghost use Rattle.record_index.specs.Due.{IsDueIn};
 
 use crate::places::Places;
 use nsi_base::Second;
 use std::alloc::{AllocError, Global};
-use std::collections::VecDeque;
+use std::collections::BTreeSet;
 use std::marker::Model;
 
-/// A second by which something is to be done to the record at a place.
-#[derive(Clone, Copy, Debug)]
+/// A second by which something is to be done to the record at a place. Its order is that of the seconds.
+#[derive(Clone, Copy, Debug, PartialEq, Eq, PartialOrd, Ord)]
 pub struct Deadline {
     pub second: u64,
     pub place: usize,
@@ -20,19 +20,16 @@ pub struct Deadline {
 /// Deadlines in the order of their seconds.
 #[derive(Drop)]
 pub struct Deadlines {
-    entries: VecDeque<Deadline>,
+    entries: BTreeSet<Deadline>,
 }
 
 impl Model for Deadlines {
     ghost use Rattle.std.specs.Prelude.{List};
     ghost use Rattle.record_index.specs.declared.deadlines.Deadline.{Deadline};
-    ghost use Rattle.record_index.specs.Due.{AreInOrder};
 
     ghost Value = { List Deadline };
 
-    ghost view = { λ d. d.entries.items };
-
-    ghost invariant = { λ d. AreInOrder d.entries.items };
+    ghost view = { λ d. d.entries.keys };
 }
 
 impl Deadlines {
@@ -40,7 +37,7 @@ impl Deadlines {
         ensures { result ≡ [] }
     {
         Deadlines {
-            entries: VecDeque::new(alloc),
+            entries: BTreeSet::new(alloc),
         }
     }
 
@@ -49,8 +46,7 @@ impl Deadlines {
         ensures ok { OnOk result ((d : DeadlineValue) → Contains self.new d ↔ ((d ≡ record { second = second; place = place }) ⊎ Contains self.old d)) }
         ensures err { OnErr result (self.new ≡ self.old) }
     {
-        let at = count_by(&self.entries, second);
-        self.entries.insert(at, Deadline { second, place })?;
+        self.entries.insert(Deadline { second, place })?;
         Ok(())
     }
 
@@ -58,8 +54,7 @@ impl Deadlines {
     pub fn due_by(&self, alloc: Global, now: Second) -> Result<Places, AllocError>
         ensures { IfOk result (λ due. (p : ℕ) → Contains due p ↔ IsDueIn self.now now p) }
     {
-        let count = count_by(&self.entries, now.get());
-        let places = first_places(alloc, &self.entries, count)?;
+        let places = places_by(alloc, &self.entries, now.get())?;
         Ok(Places::among(places))
     }
 
@@ -67,37 +62,35 @@ impl Deadlines {
     pub fn pass(&mut self, now: Second)
         ensures { (d : DeadlineValue) → Contains self.new d ↔ ((now < d.second) × Contains self.old d) }
     {
-        let count = count_by(&self.entries, now.get());
-        drop_first(&mut self.entries, count);
+        drop_by(&mut self.entries, now.get());
     }
 }
 
-/// How many deadlines are by a second.
-fn count_by(entries: &VecDeque<Deadline>, second: u64) -> usize
-    requires { AreInOrder entries.now.items }
-    ensures { IsSplit second entries.now.items result }
-{
-    entries.partition_point(|entry| entry.second <= second)
-}
-
-fn first_places(
+/// The places of the deadlines by a second, in their order.
+fn places_by(
     alloc: Global,
-    entries: &VecDeque<Deadline>,
-    count: usize,
+    entries: &BTreeSet<Deadline>,
+    second: u64,
 ) -> Result<Vec<usize>, AllocError>
-    requires { count ≤ length entries.now.items }
-    ensures { IfOk result (λ places. places.items ≡ map (λ (d : DeadlineValue). d.place) (take count entries.now.items)) }
+    ensures { IfOk result (λ places. (p : ℕ) → Contains places.items p ↔ IsDueIn entries.now.keys second p) }
 {
     let mut places = Vec::new(alloc);
-    for n in 0..count {
-        places.push(entries[n].place)?;
+    for entry in entries {
+        if second < entry.second {
+            break;
+        }
+        places.push(entry.place)?;
     }
     Ok(places)
 }
 
-fn drop_first(entries: &mut VecDeque<Deadline>, count: usize)
-    requires { count ≤ length entries.old.items }
-    ensures { entries.new.items ≡ drop count entries.old.items }
+fn drop_by(entries: &mut BTreeSet<Deadline>, second: u64)
+    ensures { (d : DeadlineValue) → Contains entries.new.keys d ↔ ((second < d.second) × Contains entries.old.keys d) }
 {
-    entries.drain(..count);
+    while let Some(first) = entries.first() {
+        if second < first.second {
+            break;
+        }
+        entries.pop_first();
+    }
 }

@@ -38,6 +38,27 @@ fn deadlines_that_passed_are_forgotten(rt: HostRuntime) -> Result<(), Fail> {
     Ok(())
 }
 
+/// Each second below 300 once, in an order that jumps.
+fn many_deadlines(alloc: Global) -> Result<Deadlines, Fail> {
+    let mut deadlines = Deadlines::new(alloc);
+    for place in 0..300 {
+        let second = place * 7 % 300;
+        deadlines.add(second as u64, place)?;
+    }
+    Ok(deadlines)
+}
+
+#[test]
+fn many_deadlines_come_in_any_order(rt: HostRuntime) -> Result<(), Fail> {
+    let mut deadlines = many_deadlines(rt.alloc())?;
+    let some = due_by(&deadlines, rt.alloc(), 99)?;
+    deadlines.pass(Second::new(99).ok_or("a second")?);
+    let others = due_by(&deadlines, rt.alloc(), 299)?;
+    assert!(rt; some.items().len() == 100);
+    assert!(rt; others.items().len() == 200);
+    Ok(())
+}
+
 #[test]
 fn place_is_named_once(rt: HostRuntime) -> Result<(), Fail> {
     let mut places = Places::new(rt.alloc());
