@@ -3,3 +3,5 @@ pub mod Bytes
 pub mod Flows
 pub mod Lines
 pub mod Digits
+pub mod Words
+pub mod Options

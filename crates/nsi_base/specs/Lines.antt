@@ -1,5 +1,5 @@
 -- The lines of a text.
-use Rattle.std.specs.Prelude.{ℕ, suc, ◌-◌, List, [], ◌∷◌, length, get_or, take, Bool, true, false, ◌&&◌, ◌==◌, if◌then◌else◌, Option, Some, None, option_map}
+use Rattle.std.specs.Prelude.{ℕ, suc, ◌+◌, ◌-◌, List, [], ◌∷◌, length, get_or, take, drop, Bool, true, false, ◌&&◌, ◌==◌, if◌then◌else◌, Option, Some, None, option_map}
 
 -- a byte in front of the first line; where there is no line, it begins one, if a line needs no end
 abbrev pub onto : Bool → ℕ → List (List ℕ) → List (List ℕ)
@@ -31,6 +31,11 @@ ended_lines text = lines_to false text
 unfoldable pub feed_at : List ℕ → Option ℕ
 feed_at [] = None
 feed_at (b ∷ bs) = if b == 10 then Some 0 else option_map suc (feed_at bs)
+
+-- what stands behind that line feed; without one, nothing
+abbrev pub behind_feed : Option ℕ → List ℕ → List ℕ
+behind_feed None text = []
+behind_feed (Some i) text = drop (i + 1) text
 
 -- a line without the carriage return that belongs to its end
 unfoldable pub without_return : List ℕ → List ℕ

@@ -1,7 +1,7 @@
 //! The lines of a text.
 
-ghost use Rattle.std.specs.Prelude.{◌≡◌, ◌<◌, length, IfSome};
-ghost use Rattle.nsi_base.specs.Lines.{feed_at, without_return};
+ghost use Rattle.std.specs.Prelude.{◌≡◌, ◌<◌, ◌∷◌, length, IfSome};
+ghost use Rattle.nsi_base.specs.Lines.{lines_of, feed_at, without_return, behind_feed};
 
 /// Where the first line feed stands.
 #[tactic(auto, unfolding(crate::specs::Lines::feed_at))]
@@ -25,5 +25,21 @@ pub fn without_return(line: &[u8]) -> &[u8]
     match line.split_last() {
         Some((b'\r', front)) => front,
         _ => line,
+    }
+}
+
+/// The first line without its end, and what stands behind it.
+pub fn cut_line(text: &[u8]) -> (&[u8], &[u8])
+    requires { 0 < length text.now }
+    ensures lines { lines_of text.now ≡ result.0.now ∷ lines_of result.1.now }
+    ensures behind { result.1.now ≡ behind_feed (feed_at text.now) text.now }
+    ensures shorter { length result.1.now < length text.now }
+{
+    match feed_at(text) {
+        Some(i) => {
+            let (line, behind) = text.split_at(i);
+            (without_return(line), behind.split_at(1).1)
+        }
+        None => text.split_at(text.len()),
     }
 }

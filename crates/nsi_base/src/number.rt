@@ -1,7 +1,7 @@
 //! Numbers within their ranges.
 
 ghost use Rattle.std.specs.Prelude.{◌≡◌, ◌≤◌};
-ghost use Rattle.nsi_base.specs.Range.{within};
+ghost use Rattle.nsi_base.specs.Range.{within, greatest_second, least_mbps, greatest_mbps, greatest_version, greatest_agent, greatest_stp, greatest_record, least_hold, greatest_hold};
 
 use std::marker::Model;
 
@@ -35,7 +35,7 @@ impl Second {
     pub const MAX: u64 = 253_370_764_799;
 
     pub fn new(n: u64) -> Option<Self>
-        ensures { result ≡ within 0 Self.MAX n }
+        ensures { result ≡ within 0 greatest_second n }
     {
         if n <= Self::MAX {
             Some(Second { value: n })
@@ -46,7 +46,7 @@ impl Second {
 
     pub fn get(self) -> u64
         ensures value { result ≡ self }
-        ensures in_range { self ≤ Self.MAX }
+        ensures in_range { self ≤ greatest_second }
     {
         self.value
     }
@@ -75,7 +75,7 @@ impl Mbps {
     pub const MAX: u64 = 1_099_511_627_776;
 
     pub fn new(n: u64) -> Option<Self>
-        ensures { result ≡ within 1 Self.MAX n }
+        ensures { result ≡ within least_mbps greatest_mbps n }
     {
         if 1 <= n && n <= Self::MAX {
             Some(Mbps { value: n })
@@ -86,8 +86,8 @@ impl Mbps {
 
     pub fn get(self) -> u64
         ensures value { result ≡ self }
-        ensures positive { 1 ≤ self }
-        ensures in_range { self ≤ Self.MAX }
+        ensures positive { least_mbps ≤ self }
+        ensures in_range { self ≤ greatest_mbps }
     {
         self.value
     }
@@ -123,7 +123,7 @@ impl Version {
     pub const MAX: u32 = 2_147_483_647;
 
     pub fn new(n: u32) -> Option<Self>
-        ensures { result ≡ within 0 Self.MAX n }
+        ensures { result ≡ within 0 greatest_version n }
     {
         if n <= Self::MAX {
             Some(Version { value: n })
@@ -134,7 +134,7 @@ impl Version {
 
     pub fn get(self) -> u32
         ensures value { result ≡ self }
-        ensures in_range { self ≤ Self.MAX }
+        ensures in_range { self ≤ greatest_version }
     {
         self.value
     }
@@ -163,7 +163,7 @@ impl AgentNo {
     pub const MAX: u16 = 63;
 
     pub fn new(n: u16) -> Option<Self>
-        ensures { result ≡ within 0 Self.MAX n }
+        ensures { result ≡ within 0 greatest_agent n }
     {
         if n <= Self::MAX {
             Some(AgentNo { value: n })
@@ -174,7 +174,7 @@ impl AgentNo {
 
     pub fn get(self) -> u16
         ensures value { result ≡ self }
-        ensures in_range { self ≤ Self.MAX }
+        ensures in_range { self ≤ greatest_agent }
     {
         self.value
     }
@@ -203,7 +203,7 @@ impl StpNo {
     pub const MAX: u16 = 4_095;
 
     pub fn new(n: u16) -> Option<Self>
-        ensures { result ≡ within 0 Self.MAX n }
+        ensures { result ≡ within 0 greatest_stp n }
     {
         if n <= Self::MAX {
             Some(StpNo { value: n })
@@ -214,7 +214,7 @@ impl StpNo {
 
     pub fn get(self) -> u16
         ensures value { result ≡ self }
-        ensures in_range { self ≤ Self.MAX }
+        ensures in_range { self ≤ greatest_stp }
     {
         self.value
     }
@@ -243,7 +243,7 @@ impl RecordNo {
     pub const MAX: u32 = 4_194_303;
 
     pub fn new(n: u32) -> Option<Self>
-        ensures { result ≡ within 0 Self.MAX n }
+        ensures { result ≡ within 0 greatest_record n }
     {
         if n <= Self::MAX {
             Some(RecordNo { value: n })
@@ -254,7 +254,7 @@ impl RecordNo {
 
     pub fn get(self) -> u32
         ensures value { result ≡ self }
-        ensures in_range { self ≤ Self.MAX }
+        ensures in_range { self ≤ greatest_record }
     {
         self.value
     }
@@ -283,7 +283,7 @@ impl HoldTime {
     pub const MAX: u32 = 86_400;
 
     pub fn new(n: u32) -> Option<Self>
-        ensures { result ≡ within 1 Self.MAX n }
+        ensures { result ≡ within least_hold greatest_hold n }
     {
         if 1 <= n && n <= Self::MAX {
             Some(HoldTime { value: n })
@@ -294,8 +294,8 @@ impl HoldTime {
 
     pub fn get(self) -> u32
         ensures value { result ≡ self }
-        ensures positive { 1 ≤ self }
-        ensures in_range { self ≤ Self.MAX }
+        ensures positive { least_hold ≤ self }
+        ensures in_range { self ≤ greatest_hold }
     {
         self.value
     }

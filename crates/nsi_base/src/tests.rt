@@ -1,11 +1,14 @@
 //! Limits of numbers, names and words, and the ends of lines, by hand.
 
-use crate::digits::number_of;
-use crate::line::{feed_at, without_return};
+use crate::digits::{number_of, number_written, push_number};
+use crate::input::greatest_input;
+use crate::line::{cut_line, feed_at, without_return};
+use crate::words::words;
 use crate::{
-    AgentNo, Flow, HoldTime, Interval, Mbps, Name, NameFault, RecordNo, Second, StpNo, Text,
-    TextFault, Version,
+    AgentNo, Blanks, Flow, HoldTime, Interval, List, Mbps, Name, NameFault, RecordNo, Second,
+    StpNo, Text, TextFault, Version,
 };
+use std::alloc::{AllocError, Global};
 use std::test::Fail;
 
 #[test]
@@ -58,6 +61,60 @@ fn words_of_digits_are_read(rt: HostRuntime) {
     for (word, number) in words {
         assert_eq!(rt; number_of(1, 9, word.as_bytes()), number, "{word}");
     }
+    for (word, number) in [
+        ("00000000000000000007", Some(7)),
+        ("18446744073709551615", Some(u64::MAX)),
+        ("18446744073709551616", None),
+        ("99999999999999999999", None),
+    ] {
+        assert_eq!(rt; number_of(0, u64::MAX, word.as_bytes()), number, "{word}");
+    }
+}
+
+#[test]
+fn numbers_are_written_without_leading_zeros(rt: HostRuntime) -> Result<(), Fail> {
+    for (word, number) in [
+        ("0", Some(0)),
+        ("7", Some(7)),
+        ("18446744073709551615", Some(u64::MAX)),
+        ("18446744073709551616", None),
+        ("00", None),
+        ("07", None),
+        ("", None),
+        ("+1", None),
+    ] {
+        assert_eq!(rt; number_written(word.as_bytes()), number, "{word}");
+    }
+    let mut text = Vec::from_slice(rt.alloc(), b"tick ")?;
+    push_number(rt.alloc(), &mut text, 120)?;
+    assert_eq!(rt; text.as_slice(), b"tick 120".as_slice());
+    Ok(())
+}
+
+fn are_words(
+    alloc: Global,
+    blanks: Blanks,
+    text: &str,
+    expected: &[&str],
+) -> Result<bool, AllocError> {
+    let found = words(alloc, blanks, text.as_bytes())?;
+    Ok(
+        found.len() == expected.len()
+            && found
+                .iter()
+                .zip(expected)
+                .all(|(word, other)| *word == other.as_bytes()),
+    )
+}
+
+#[test]
+fn words_stand_between_single_blanks(rt: HostRuntime) -> Result<(), Fail> {
+    let spaces = are_words(rt.alloc(), Blanks::Space, "ab c\td", &["ab", "c\td"])?;
+    let tabs = are_words(rt.alloc(), Blanks::SpaceOrTab, "ab c\td", &["ab", "c", "d"])?;
+    let empty = are_words(rt.alloc(), Blanks::Space, " a  b", &["", "a", "", "b"])?;
+    let none = are_words(rt.alloc(), Blanks::Space, "", &[""])?;
+    assert!(rt; spaces && tabs && empty && none);
+    Ok(())
 }
 
 #[test]
@@ -80,6 +137,21 @@ fn names_and_texts_are_taken(rt: HostRuntime) -> Result<(), Fail> {
 }
 
 #[test]
+fn copies_and_lists_are_made(rt: HostRuntime) -> Result<(), Fail> {
+    let name = Name::of(rt.alloc(), b"urn:ogf:network:a")?;
+    let same = name.copy()?;
+    assert_eq!(rt; same.as_str(), "urn:ogf:network:a");
+    let text = Text::of(rt.alloc(), b"a text")?;
+    let same = text.copy()?;
+    assert_eq!(rt; same.as_str(), "a text");
+    let mut list = List::new(rt.alloc());
+    list.push(7u64)?;
+    list.push(8u64)?;
+    assert_eq!(rt; list.items(), &[7, 8]);
+    Ok(())
+}
+
+#[test]
 fn lines_lose_their_ends(rt: HostRuntime) {
     assert_eq!(rt; (feed_at(b"ab\nc\n"), feed_at(b"ab\r")), (Some(2), None));
     for (line, without) in [
@@ -91,6 +163,21 @@ fn lines_lose_their_ends(rt: HostRuntime) {
     ] {
         assert_eq!(rt; without_return(line.as_bytes()), without.as_bytes());
     }
+}
+
+#[test]
+fn first_lines_are_cut_off(rt: HostRuntime) {
+    for (text, line, behind) in [
+        ("ab\r\nc\n", "ab", "c\n"),
+        ("\nc", "", "c"),
+        ("ab\r", "ab\r", ""),
+    ] {
+        assert_eq!(rt;
+            cut_line(text.as_bytes()),
+            (line.as_bytes(), behind.as_bytes())
+        );
+    }
+    assert_eq!(rt; greatest_input(), 64 * 1024 * 1024);
 }
 
 #[test]

@@ -1,0 +1,28 @@
+-- Words between single blanks.
+use Rattle.std.specs.Prelude.{ℕ, List, [], ◌∷◌, ◌++◌, Bool, ◌||◌, not, ◌==◌, if◌then◌else◌}
+use Rattle.std.specs.List.{list_all}
+use Rattle.nsi_base.specs.declared.words.Blanks.{Blanks}
+use Rattle.nsi_base.specs.declared.words.Blanks.TheVariants.{Space, SpaceOrTab}
+
+abbrev pub is_blank : Blanks → ℕ → Bool
+is_blank Space b = b == 32
+is_blank SpaceOrTab b = b == 32 || b == 9
+
+-- a byte in front of the first word
+abbrev pub with_front : ℕ → List (List ℕ) → List (List ℕ)
+with_front b [] = (b ∷ []) ∷ []
+with_front b (word ∷ words) = (b ∷ word) ∷ words
+
+-- the words between single blanks; two blanks in a row have an empty word between them
+unfoldable pub words_of : Blanks → List ℕ → List (List ℕ)
+words_of blanks [] = [] ∷ []
+words_of blanks (b ∷ bs) = if is_blank blanks b then [] ∷ words_of blanks bs else with_front b (words_of blanks bs)
+
+-- words behind a first one, each behind a space
+abbrev pub behind : List (List ℕ) → List ℕ
+behind [] = []
+behind (word ∷ words) = 32 ∷ (word ++ behind words)
+
+-- a word has no blank in it
+abbrev pub is_word : Blanks → List ℕ → Bool
+is_word blanks bytes = list_all (λ b. not (is_blank blanks b)) bytes

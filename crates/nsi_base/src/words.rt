@@ -1,0 +1,59 @@
+//! The words of a text between single blanks.
+
+ghost use Rattle.std.specs.Prelude.{◌≡◌, ℕ, ◌<◌, List, ◌∷◌, ◌++◌, length, map, IfOk, IfSome, IfNone, slice_index, true, false};
+ghost use Rattle.std.specs.List.{AllByRecursion};
+ghost use Rattle.nsi_base.specs.Words.{is_blank, is_word, words_of, behind};
+
+use std::alloc::{AllocError, Global};
+
+/// Which bytes part words.
+#[derive(Clone, Copy, Debug, PartialEq, Eq)]
+pub enum Blanks {
+    Space,
+    SpaceOrTab,
+}
+
+impl Blanks {
+    fn has(self, b: u8) -> bool
+        ensures { result ≡ is_blank self b }
+    {
+        match self {
+            Blanks::Space => b == b' ',
+            Blanks::SpaceOrTab => b == b' ' || b == b'\t',
+        }
+    }
+}
+
+fn first_blank(blanks: Blanks, bytes: &[u8]) -> Option<usize>
+    ensures found { IfSome result (λ k. (k < length bytes.now) × (is_blank blanks (slice_index bytes.now k) ≡ true) × ((j : ℕ) → j < k → is_blank blanks (slice_index bytes.now j) ≡ false)) }
+    ensures none { IfNone result ((j : ℕ) → j < length bytes.now → is_blank blanks (slice_index bytes.now j) ≡ false) }
+{
+    for (i, b) in bytes.iter().enumerate() {
+        if blanks.has(*b) {
+            return Some(i);
+        }
+    }
+    None
+}
+
+/// The words between single blanks. Where two blanks follow each other, or one ends the text, there is an empty word.
+pub fn words(alloc: Global, blanks: Blanks, text: &[u8]) -> Result<Vec<&[u8]>, AllocError>
+    ensures { IfOk result (λ v. map (λ w. w.now) v.items ≡ words_of blanks text.now) }
+{
+    let mut words = Vec::new(alloc);
+    let mut rest = text;
+    'words: loop {
+        let Some(k) = first_blank(blanks, rest) else {
+            words.push(rest)?;
+            return Ok(words);
+        };
+        let (word, behind) = rest.split_at(k);
+        words.push(word)?;
+        rest = behind.split_at(1).1;
+    }
+}
+
+/// Words that are written with a space between them are read again.
+pub fn words_again(blanks: Blanks)
+    ensures { (word : List ℕ) (others : List (List ℕ)) → is_word blanks word ≡ true → AllByRecursion (λ w. is_word blanks w ≡ true) others → words_of blanks (word ++ behind others) ≡ word ∷ others }
+{}
