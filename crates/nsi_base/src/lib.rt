@@ -13,7 +13,7 @@ pub use flow::Flow;
 pub use interval::Interval;
 pub use list::List;
 pub use number::{AgentNo, HoldTime, Mbps, RecordNo, Second, StpNo, Version};
-pub use text::{Name, NameFault, Text, TextFault, is_name};
+pub use text::{Name, NameFault, Text, TextFault, copy_name, copy_text, is_name};
 
 #[cfg(test)]
 mod tests;
