@@ -16,7 +16,7 @@ pub use input::GREATEST_INPUT;
 pub use interval::Interval;
 pub use list::List;
 pub use number::{AgentNo, HoldTime, Mbps, RecordNo, Second, StpNo, Version};
-pub use text::{Name, NameFault, Text, TextFault, is_name};
+pub use text::{Name, NameFault, Text, TextFault, copy_name, copy_text, is_name};
 pub use words::Blanks;
 
 #[cfg(test)]

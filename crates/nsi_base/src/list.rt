@@ -63,6 +63,11 @@ impl<T> List<T> {
         self.items.truncate(count);
     }
 
+    /// Where the list takes its memory from.
+    pub fn allocator(&self) -> Global {
+        *self.items.allocator()
+    }
+
     pub fn items(&self) -> &[T]
         ensures { result.now ≡ self.now }
     {

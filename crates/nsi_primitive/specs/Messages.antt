@@ -1,8 +1,10 @@
--- Messages: their kinds and identities.
-use Rattle.std.specs.Prelude.{ℕ, Bool, Option, Some, None}
+-- Messages: their kinds and identities, and who sends them to whom.
+use Rattle.std.specs.Prelude.{ℕ, List, Bool, Option, Some, None, if◌then◌else◌}
 use Rattle.nsi_primitive.specs.Kinds.{is_request_kind, is_query_kind}
 use Rattle.nsi_primitive.specs.declared.kind.Kind.{Kind}
+use Rattle.nsi_primitive.specs.declared.kind.ErrorName.{ErrorName}
 use Rattle.nsi_primitive.specs.declared.message.Body.{Body}
+use Rattle.nsi_primitive.specs.declared.message.Cause.{Cause}
 use Rattle.nsi_primitive.specs.declared.message.Identity.{Identity}
 use Rattle.nsi_primitive.specs.declared.message.Message.{Message}
 
@@ -59,6 +61,41 @@ connection_of (Body.QueryResult range) = Some range.connection
 connection_of (Body.QueryRecursive connection) = Some connection
 connection_of _ = None
 
+-- the connection that a body of any kind is about, where it names one
+unfoldable pub named_connection : Body → Option ℕ
+named_connection (Body.ReserveResponse connection) = Some connection
+named_connection (Body.ReserveConfirmed confirmation) = Some confirmation.connection
+named_connection (Body.ReserveFailed connection exception) = Some connection
+named_connection (Body.ReserveCommitConfirmed connection) = Some connection
+named_connection (Body.ReserveCommitFailed connection exception) = Some connection
+named_connection (Body.ReserveAbortConfirmed connection) = Some connection
+named_connection (Body.ProvisionConfirmed connection) = Some connection
+named_connection (Body.ReleaseConfirmed connection) = Some connection
+named_connection (Body.TerminateConfirmed connection) = Some connection
+named_connection (Body.Error connection exception) = connection
+named_connection (Body.ReserveTimeout timeout) = Some timeout.connection
+named_connection (Body.ErrorEvent notice) = Some notice.connection
+named_connection (Body.DataPlaneStateChange notice) = Some notice.connection
+named_connection (Body.MessageDeliveryTimeout timeout) = Some timeout.connection
+named_connection (Body.QuerySummaryConfirmed more rows) = None
+named_connection (Body.QueryNotificationConfirmed connection more rows) = Some connection
+named_connection (Body.QueryResultConfirmed connection more rows) = Some connection
+named_connection (Body.QueryRecursiveConfirmed connection more rows) = Some connection
+named_connection request = connection_of request
+
+-- the name of the error that a cause is
+abbrev pub error_of : Cause → ErrorName
+error_of (Cause.Plain error) = error
+error_of (Cause.Bandwidth stp flow second load capacity) = ErrorName.Bandwidth
+error_of (Cause.Child child error) = ErrorName.Child
+
 -- the two agents, the correlation and the kind
 abbrev pub identity : Message → Identity
 identity m = record { requester = m.header.requester; provider = m.header.provider; correlation = m.header.correlation; kind = kind_of m.body }
+
+-- A request goes from its requester to its provider, every other kind the other way.
+abbrev pub sender : Identity → List ℕ
+sender i = if is_request_kind i.kind then i.requester else i.provider
+
+abbrev pub addressee : Identity → List ℕ
+addressee i = if is_request_kind i.kind then i.provider else i.requester

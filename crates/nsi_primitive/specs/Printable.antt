@@ -1,13 +1,21 @@
--- Which messages have a spelling as a line.
-use Rattle.std.specs.Prelude.{◌≡◌, ◌≤◌, ℕ, List, Bool, true, false, length, Option, None, IfSome, IfNone, IsSome}
+-- Which messages, asks and entries have a spelling.
+use Rattle.std.specs.Prelude.{◌≡◌, ◌≤◌, ◌↔◌, ℕ, List, Bool, true, false, length, Option, None, IfSome, IfNone, IsSome, IsTrue}
 use Rattle.std.specs.List.{All}
 use Rattle.std.specs.Str.{bytes_eq}
 use Rattle.nsi_primitive.specs.Messages.{is_request}
+use Rattle.nsi_primitive.specs.declared.ask.Ask.{Ask}
+use Rattle.nsi_primitive.specs.declared.ask.AskAnswer.{AskAnswer}
+use Rattle.nsi_primitive.specs.declared.ask.What.{What}
+use Rattle.nsi_primitive.specs.declared.entry.Entry.{Entry}
+use Rattle.nsi_primitive.specs.declared.entry.Event.{Event}
+use Rattle.nsi_primitive.specs.declared.entry.Happening.{Happening}
+use Rattle.nsi_primitive.specs.declared.entry.Input.{Input}
 use Rattle.nsi_primitive.specs.declared.kind.ErrorName.{ErrorName}
 use Rattle.nsi_primitive.specs.declared.message.Cause.{Cause}
 use Rattle.nsi_primitive.specs.declared.message.ReserveRequest.{ReserveRequest}
 use Rattle.nsi_primitive.specs.declared.message.Body.{Body}
 use Rattle.nsi_primitive.specs.declared.message.Message.{Message}
+use Rattle.nsi_primitive.specs.declared.message.Parcel.{Parcel}
 
 -- a text of at most so many bytes, where it is given
 abbrev pub IsShort : ℕ → Option (List ℕ) → Type 0
@@ -69,6 +77,52 @@ IsPrintableBody (Body.QueryRecursiveConfirmed connection more rows) = Unit {0}
 -- what the types of a message leave open, so that it can be written and read again
 abbrev pub IsPrintable : Message → Type 0
 IsPrintable m = IsPrintableBody m.body
+
+-- an acknowledgement has a spelling whatever its types let it say
+abbrev pub IsPrintableParcel : Parcel → Type 0
+IsPrintableParcel (Parcel.Message m) = IsPrintable m
+IsPrintableParcel (Parcel.Ack identity) = Unit {0}
+
+-- only a summary may be asked for without a label
+abbrev pub needs_label : What → Bool
+needs_label What.Summary = false
+needs_label _ = true
+
+-- the points of a reserve differ
+abbrev pub ArePointsApart : What → Type 0
+ArePointsApart (What.Reserve r) = bytes_eq r.source r.dest ≡ false
+ArePointsApart _ = Unit {0}
+
+-- what the types of an ask leave open
+pub record IsPrintableAsk (a : Ask) : Type 0 where
+  pub label : IsTrue (needs_label a.what) → IsSome a.label
+  pub apart : ArePointsApart a.what
+
+-- what the types of an entry leave open
+abbrev pub IsPrintableInput : Input → Type 0
+IsPrintableInput (Input.Ask number ask) = IsPrintableAsk ask
+IsPrintableInput (Input.Got m) = IsPrintable m
+IsPrintableInput _ = Unit {0}
+
+abbrev pub IsPrintableEntry : Entry → Type 0
+IsPrintableEntry e = IsPrintableInput e.input
+
+abbrev pub is_ask : Input → Bool
+is_ask (Input.Ask number ask) = true
+is_ask _ = false
+
+-- an ask is answered, and nothing else is
+pub record IsPrintableTaken (e : Entry) (answer : Option AskAnswer) : Type 0 where
+  pub entry : IsPrintableEntry e
+  pub answered : IsTrue (is_ask e.input) ↔ IsSome answer
+
+-- what the types of an event leave open
+abbrev pub IsPrintableHappening : Happening → Type 0
+IsPrintableHappening (Happening.Entry entry answer) = IsPrintableTaken entry answer
+IsPrintableHappening _ = Unit {0}
+
+abbrev pub IsPrintableEvent : Event → Type 0
+IsPrintableEvent e = IsPrintableHappening e.what
 
 -- a request that is read from a line
 abbrev pub IsRequest : Message → Type 0

@@ -1,9 +1,10 @@
--- The names of states.
+-- The names of states and machines.
 use Rattle.std.specs.Prelude.{ℕ, List, [], ◌∷◌, codes, if◌then◌else◌, Option, Some, None}
 use Rattle.std.specs.Str.{bytes_eq}
 use Rattle.nsi_primitive.specs.declared.state.Rsm.{Rsm}
 use Rattle.nsi_primitive.specs.declared.state.Psm.{Psm}
 use Rattle.nsi_primitive.specs.declared.state.Lsm.{Lsm}
+use Rattle.nsi_primitive.specs.declared.state.Machine.{Machine}
 
 unfoldable pub rsm_text : Rsm → List ℕ
 rsm_text Rsm.ReserveStart = codes "ReserveStart"
@@ -51,3 +52,16 @@ psm_named name = first_state psm_text name psms
 
 unfoldable pub lsm_named : List ℕ → Option Lsm
 lsm_named name = first_state lsm_text name lsms
+
+-- a machine's name
+unfoldable pub machine_text : Machine → List ℕ
+machine_text Machine.Reserve = codes "reserve"
+machine_text Machine.Provision = codes "provision"
+machine_text Machine.Lifecycle = codes "lifecycle"
+
+abbrev pub machines : List Machine
+machines = Machine.Reserve ∷ Machine.Provision ∷ Machine.Lifecycle ∷ []
+
+-- the machine that has the name
+unfoldable pub machine_named : List ℕ → Option Machine
+machine_named name = first_state machine_text name machines

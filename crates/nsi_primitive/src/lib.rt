@@ -2,6 +2,7 @@
 #![tactic(auto)]
 
 pub mod ask;
+mod copies;
 pub mod entry;
 pub mod id;
 pub mod kind;
@@ -10,6 +11,7 @@ pub mod plane;
 pub mod state;
 
 pub use ask::{Ask, AskAnswer, NumbersAsked, ReserveAsk, What};
+pub use copies::rows::{copy_notices, copy_outcomes, copy_recursive_rows, copy_summary_rows};
 pub use entry::{Entry, Event, Happening, Input};
 pub use id::{Id, IdFault, agent_and_n, id_of, print_id, read_id};
 pub use kind::{Directionality, ErrorName, FaultEvent, Kind};

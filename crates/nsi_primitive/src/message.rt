@@ -1,7 +1,7 @@
 //! Messages: a header and a body (GFD.237, section 8).
 
 ghost use Rattle.std.specs.Prelude.{◌≡◌, IfOk};
-ghost use Rattle.nsi_primitive.specs.Messages.{kind_of, is_request, is_query, connection_of, identity};
+ghost use Rattle.nsi_primitive.specs.Messages.{kind_of, is_request, is_query, connection_of, named_connection, error_of, identity, sender, addressee};
 
 use crate::id::Id;
 use crate::kind::{Directionality, ErrorName, FaultEvent, Kind};
@@ -15,18 +15,6 @@ pub struct Header {
     pub correlation: Id,
     pub requester: Name,
     pub provider: Name,
-}
-
-impl Header {
-    pub fn copy(&self) -> Result<Header, AllocError>
-        ensures { IfOk result (λ h. h ≡ self.now) }
-    {
-        Ok(Header {
-            correlation: self.correlation,
-            requester: self.requester.copy()?,
-            provider: self.provider.copy()?,
-        })
-    }
 }
 
 /// A notification that was sent of a connection (GFD.237, queryNotification): its number, counted from 1, and when.
@@ -319,6 +307,27 @@ pub enum Parcel {
     Ack(Identity),
 }
 
+impl Cause {
+    /// The name of the error that it is.
+    pub fn error(&self) -> ErrorName
+        ensures { result ≡ error_of self.now }
+    {
+        match self {
+            Cause::Plain(error) => *error,
+            Cause::Bandwidth { .. } => ErrorName::Bandwidth,
+            Cause::Child { .. } => ErrorName::Child,
+        }
+    }
+}
+
+impl Exception {
+    pub fn error(&self) -> ErrorName
+        ensures { result ≡ error_of self.now.cause }
+    {
+        self.cause.error()
+    }
+}
+
 impl Body {
     /// The connection that a request is about, where it names one.
     #[tactic(auto, unfolding(crate::specs::Messages::connection_of))]
@@ -336,6 +345,34 @@ impl Body {
             Body::QuerySummary { connection } => *connection,
             Body::QueryNotification(range) | Body::QueryResult(range) => Some(range.connection),
             _ => None,
+        }
+    }
+
+    /// The connection that it is about, of whatever kind it is, where it names one.
+    #[tactic(auto, unfolding(crate::specs::Messages::named_connection))]
+    pub fn named_connection(&self) -> Option<Id>
+        ensures { result ≡ named_connection self.now }
+    {
+        match self {
+            Body::ReserveResponse { connection }
+            | Body::ReserveFailed { connection, .. }
+            | Body::ReserveCommitConfirmed { connection }
+            | Body::ReserveCommitFailed { connection, .. }
+            | Body::ReserveAbortConfirmed { connection }
+            | Body::ProvisionConfirmed { connection }
+            | Body::ReleaseConfirmed { connection }
+            | Body::TerminateConfirmed { connection }
+            | Body::QueryNotificationConfirmed { connection, .. }
+            | Body::QueryResultConfirmed { connection, .. }
+            | Body::QueryRecursiveConfirmed { connection, .. } => Some(*connection),
+            Body::Error { connection, .. } => *connection,
+            Body::ReserveConfirmed(confirmation) => Some(confirmation.connection),
+            Body::ReserveTimeout(timeout) => Some(timeout.connection),
+            Body::ErrorEvent(notice) => Some(notice.connection),
+            Body::DataPlaneStateChange(notice) => Some(notice.connection),
+            Body::MessageDeliveryTimeout(timeout) => Some(timeout.connection),
+            Body::QuerySummaryConfirmed { .. } => None,
+            _ => self.connection(),
         }
     }
 }
@@ -399,5 +436,49 @@ impl Message {
             correlation: self.header.correlation,
             kind: self.kind(),
         })
+    }
+
+    pub fn sender(&self) -> &Name
+        ensures { result.now ≡ sender (identity self.now) }
+    {
+        if self.is_request() {
+            &self.header.requester
+        } else {
+            &self.header.provider
+        }
+    }
+
+    pub fn addressee(&self) -> &Name
+        ensures { result.now ≡ addressee (identity self.now) }
+    {
+        if self.is_request() {
+            &self.header.provider
+        } else {
+            &self.header.requester
+        }
+    }
+}
+
+impl Identity {
+    /// Who sends the messages of this identity.
+    pub fn sender(&self) -> &Name
+        ensures { result.now ≡ sender self.now }
+    {
+        if self.kind.is_request() {
+            &self.requester
+        } else {
+            &self.provider
+        }
+    }
+
+    /// To whom they are sent.
+    pub fn addressee(&self) -> &Name
+        ensures { result.now ≡ addressee self.now }
+    {
+        if self.kind.is_request() {
+            &self.provider
+        } else {
+            &self.requester
+        }
     }
 }

@@ -1,7 +1,7 @@
 //! The states of a connection's three machines (GFD.237, section 6), and who runs them.
 
 ghost use Rattle.std.specs.Prelude.{◌≡◌};
-ghost use Rattle.nsi_primitive.specs.States.{rsm_text, psm_text, lsm_text, rsm_named, psm_named, lsm_named, first_state};
+ghost use Rattle.nsi_primitive.specs.States.{rsm_text, psm_text, lsm_text, rsm_named, psm_named, lsm_named, first_state, machine_text, machine_named};
 
 const RSMS: [Rsm; 7] = [
     Rsm::ReserveStart,
@@ -27,6 +27,8 @@ const LSMS: [Lsm; 5] = [
     Lsm::Terminating,
     Lsm::Terminated,
 ];
+
+const MACHINES: [Machine; 3] = [Machine::Reserve, Machine::Provision, Machine::Lifecycle];
 
 /// The states of the reservation machine.
 #[derive(Clone, Copy, Debug, PartialEq, Eq)]
@@ -174,6 +176,40 @@ pub enum Machine {
     Reserve,
     Provision,
     Lifecycle,
+}
+
+impl Machine {
+    /// The name by which the machine is written.
+    #[tactic(auto, unfolding(crate::specs::States::machine_text))]
+    pub fn text(self) -> &'static str
+        ensures { result.now ≡ machine_text self }
+    {
+        match self {
+            Machine::Reserve => "reserve",
+            Machine::Provision => "provision",
+            Machine::Lifecycle => "lifecycle",
+        }
+    }
+
+    /// The machine that is written so.
+    #[tactic(auto, unfolding(crate::specs::States::machine_named))]
+    pub fn named(name: &[u8]) -> Option<Machine>
+        ensures { result ≡ machine_named name.now }
+    {
+        first_machine(name, &MACHINES)
+    }
+}
+
+#[tactic(auto, unfolding(crate::specs::States::first_state))]
+fn first_machine(name: &[u8], machines: &[Machine]) -> Option<Machine>
+    ensures { result ≡ first_state machine_text name.now machines.now }
+{
+    for machine in machines {
+        if name == machine.text().as_bytes() {
+            return Some(*machine);
+        }
+    }
+    None
 }
 
 /// Whether an agent has ports of its own (GFD.237, the ultimate provider agent), or children that it asks.

@@ -1,0 +1,86 @@
+//! Copies of the rows of answers.
+
+ghost use Rattle.std.specs.Prelude.{◌≡◌, IfOk};
+
+use crate::message::{Notice, Outcome, RecursiveRow, SummaryRow};
+use nsi_base::{List, copy_text};
+use std::alloc::AllocError;
+
+impl SummaryRow {
+    pub fn copy(&self) -> Result<SummaryRow, AllocError>
+        ensures { IfOk result (λ r. r ≡ self.now) }
+    {
+        Ok(SummaryRow {
+            active: self.active,
+            capacity: self.capacity,
+            connection: self.connection,
+            description: copy_text(&self.description)?,
+            dest: self.dest.copy()?,
+            directionality: self.directionality,
+            end: self.end,
+            global: copy_text(&self.global)?,
+            lifecycle: self.lifecycle,
+            provision: self.provision,
+            reservation: self.reservation,
+            source: self.source.copy()?,
+            start: self.start,
+            version: self.version,
+        })
+    }
+}
+
+impl RecursiveRow {
+    pub fn copy(&self) -> Result<RecursiveRow, AllocError>
+        ensures { IfOk result (λ r. r ≡ self.now) }
+    {
+        Ok(RecursiveRow {
+            connection: self.connection,
+            depth: self.depth,
+            lifecycle: self.lifecycle,
+            provider: self.provider.copy()?,
+            provision: self.provision,
+            reservation: self.reservation,
+            version: self.version,
+        })
+    }
+}
+
+pub fn copy_summary_rows(rows: &List<SummaryRow>) -> Result<List<SummaryRow>, AllocError>
+    ensures { IfOk result (λ copy. copy ≡ rows.now) }
+{
+    let mut copy = List::new(rows.allocator());
+    for row in rows.items() {
+        copy.push(row.copy()?)?;
+    }
+    Ok(copy)
+}
+
+pub fn copy_recursive_rows(rows: &List<RecursiveRow>) -> Result<List<RecursiveRow>, AllocError>
+    ensures { IfOk result (λ copy. copy ≡ rows.now) }
+{
+    let mut copy = List::new(rows.allocator());
+    for row in rows.items() {
+        copy.push(row.copy()?)?;
+    }
+    Ok(copy)
+}
+
+pub fn copy_notices(notices: &List<Notice>) -> Result<List<Notice>, AllocError>
+    ensures { IfOk result (λ copy. copy ≡ notices.now) }
+{
+    let mut copy = List::new(notices.allocator());
+    for notice in notices.items() {
+        copy.push(*notice)?;
+    }
+    Ok(copy)
+}
+
+pub fn copy_outcomes(outcomes: &List<Outcome>) -> Result<List<Outcome>, AllocError>
+    ensures { IfOk result (λ copy. copy ≡ outcomes.now) }
+{
+    let mut copy = List::new(outcomes.allocator());
+    for outcome in outcomes.items() {
+        copy.push(*outcome)?;
+    }
+    Ok(copy)
+}
