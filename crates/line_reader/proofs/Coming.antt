@@ -1,13 +1,13 @@
 -- What is still to come, as lines are taken and more is read.
-use Rattle.std.proofs.Common.{◌≡◌, ◌<◌, ◌≤◌, ◌+◌, ◌-◌, ℕ, suc, List, [], ◌∷◌, ◌++◌, length, take, drop, Bool, true, false, cond, leb, eqb, Option, Some, None, option_map, IfSome, arith, refl, sym, ap, ◌∙◌, subst, append_assoc, append-nil, length-append, length-drop, drop-drop}
-use Rattle.std.proofs.lemmas.List.{take-append-drop, length-take-le, take_all}
+use Rattle.std.proofs.Common.{◌≡◌, ◌<◌, ◌≤◌, ◌+◌, ◌-◌, ℕ, suc, List, [], ◌∷◌, ◌++◌, length, take, drop, Bool, true, false, cond, leb, eqb, Option, Some, None, option_map, IfSome, arith, refl, sym, ap, ◌∙◌, inl, inr, subst, append_assoc, append-nil, length-append, length-drop, drop-drop}
+use Rattle.std.proofs.lemmas.List.{take-append-drop, length-take-le, take_all, take-append-le, drop-append-le}
 use Rattle.std.proofs.Math.Seq.{take-append-add}
 use Rattle.std.proofs.Math.Dec.{leb-zero}
 use Rattle.std.proofs.lemmas.Bool.Decides.{nat_tests}
 use Rattle.nsi_base.specs.Lines.{lines_to, feed_at, without_return}
 use Rattle.nsi_base.proofs.LineCuts.{lines_end, lines_last, ended_none}
 use Rattle.line_reader.specs.Given.{Given, given_of, IsSame, with_line, TakesLine, IsAtEnd, IsCutFrom}
-use Rattle.line_reader.specs.Held.{Held, budget, to_come}
+use Rattle.line_reader.specs.Held.{Held, budget, to_come, rest_of, IsFirstLine, Cuts}
 
 feed_within : (bs : List ℕ) (i : ℕ) → feed_at bs ≡ Some i → i < length bs
 unfolding feed_at
@@ -137,9 +137,42 @@ fewer old new i e n =
     omega (arith, length-drop (suc i) old.bytes, feed_within old.bytes i e)
 
 -- what has been read on is what was to come
-pub same-after : (a b c : Option Given) → IsSame a b → IsSame b c → IsSame a c
+pub same-after : {A : Type 0} (a b c : Option A) → IsSame a b → IsSame b c → IsSame a c
 same-after None b c p q = tt
-same-after (Some g) b c p q = let P : Option Given → Type 0 = λ o. IsSame o c in subst P p q
+same-after {A} (Some g) b c p q = let P : Option A → Type 0 = λ o. IsSame o c in subst P p q
+
+feed_before : (a b : List ℕ) (i : ℕ) → feed_at a ≡ Some i → feed_at (a ++ b) ≡ Some i
+unfolding feed_at
+feed_before [] b i h = cc
+feed_before (x ∷ a) b i h = by_test (eqb x 10) (feed_at a) h (λ j e. feed_before a b j e)
+  where
+    by_test : (t : Bool) (o : Option ℕ) → cond t (Some 0) (option_map suc o) ≡ Some i → ((j : ℕ) → o ≡ Some j → feed_at (a ++ b) ≡ Some j) → cond t (Some 0) (option_map suc (feed_at (a ++ b))) ≡ Some i
+    by_test true o e next = e
+    by_test false None e next = cc
+    by_test false (Some j) e next = ap (option_map suc) (next j refl) ∙ e
+
+-- the first line of what is held is the first line of all
+pub cuts_line : (start old new : Held) (first left : Option (List ℕ)) (i : ℕ) (line : List ℕ) → IsSame (rest_of start first) (rest_of old left) → feed_at old.bytes ≡ Some i → line ≡ without_return (take i old.bytes)
+    → new ≡ record { bytes = drop (suc i) old.bytes; room = old.room } → IfSome (rest_of start first) (λ bytes. (rest : List ℕ) × (rest_of new left ≡ Some rest) × IsFirstLine bytes line rest)
+cuts_line start old new None left i line same e l n = tt
+cuts_line start old new (Some more) None i line same e l n = cc
+cuts_line start old new (Some more) (Some rest) i line same e l n =
+    let is : old.bytes ++ rest ≡ start.bytes ++ more = cc in
+    let within : i < length old.bytes = feed_within old.bytes i e in
+    let whole : feed_at (start.bytes ++ more) ≡ Some i = ap feed_at (sym is) ∙ feed_before old.bytes rest i e in
+    let front : take i old.bytes ≡ take i (start.bytes ++ more) = sym (take-append-le i old.bytes rest (omega arith)) ∙ ap (take i) is in
+    let behind : drop (suc i) old.bytes ++ rest ≡ drop (suc i) (start.bytes ++ more) = sym (drop-append-le (suc i) old.bytes rest (omega arith)) ∙ ap (drop (suc i)) is in
+    (drop (suc i) (start.bytes ++ more), ap (λ (h : Held). Some (h.bytes ++ rest)) n ∙ ap (λ bytes. Some bytes) behind, inl (i, whole, l ∙ ap without_return front, refl))
+
+-- a last line without an end is all that there is
+pub cuts_last : (start old new : Held) (first left now : Option (List ℕ)) (line : List ℕ) → IsSame (rest_of start first) (rest_of old left) → feed_at old.bytes ≡ None → IfSome left (λ bytes. (bytes ≡ []) × (now ≡ Some []))
+    → line ≡ old.bytes → new ≡ record { bytes = []; room = old.room } → (old.bytes ≡ [] → ⊥) → IfSome (rest_of start first) (λ bytes. (rest : List ℕ) × (rest_of new now ≡ Some rest) × IsFirstLine bytes line rest)
+cuts_last start old new None left now line same e ended l n some = tt
+cuts_last start old new (Some more) None now line same e ended l n some = cc
+cuts_last start old new (Some more) (Some rest) now line same e ended l n some =
+    let is : old.bytes ++ rest ≡ start.bytes ++ more = cc in
+    let all : old.bytes ≡ start.bytes ++ more = sym (append-nil old.bytes) ∙ (ap (λ bytes. old.bytes ++ bytes) (sym ended.0) ∙ is) in
+    ([], ap (option_map (λ bytes. new.bytes ++ bytes)) ended.1 ∙ ap (λ (h : Held). Some (h.bytes ++ [])) n, inr (ap feed_at (sym all) ∙ e, λ none. some (all ∙ none), l ∙ all, refl))
 
 pub takes_line : (start old new : Held) (first left : Option (List ℕ)) (i : ℕ) (line : List ℕ) → IsSame (to_come start first) (to_come old left) → feed_at old.bytes ≡ Some i → line ≡ without_return (take i old.bytes)
     → new ≡ record { bytes = drop (suc i) old.bytes; room = old.room } → TakesLine (to_come start first) (to_come new left) line
@@ -183,13 +216,19 @@ is_long start old (Some more) (Some rest) same e full some =
 
 -- reading on moves bytes from what is left to what is held
 pub fills : (old new : Held) (left now : Option (List ℕ)) (piece : List ℕ) → new.bytes ≡ old.bytes ++ piece → new.room + length piece ≡ old.room → 0 < length piece → IsCutFrom left now piece
-    → IsSame (to_come old left) (to_come new now) × (budget new ≡ budget old) × (new.room < old.room)
+    → IsSame (to_come old left) (to_come new now) × (budget new ≡ budget old) × (new.room < old.room) × IsSame (rest_of old left) (rest_of new now)
 unfolding to_come
 fills old new left now piece bytes room some cut =
     let size : length new.bytes ≡ length old.bytes + length piece = ap length bytes ∙ length-append old.bytes piece in
     let kept : budget new ≡ budget old = omega arith in
-    (told left cut kept, kept, omega arith)
+    (told left cut kept, kept, omega arith, rest left cut)
   where
+    rest : (l : Option (List ℕ)) → IsCutFrom l now piece → IsSame (rest_of old l) (rest_of new now)
+    rest None h = tt
+    rest (Some left) h =
+        let moved : new.bytes ++ h.0 ≡ old.bytes ++ left = ap (λ bs. bs ++ h.0) bytes ∙ (append_assoc old.bytes piece h.0 ∙ ap (λ bs. old.bytes ++ bs) (sym h.2)) in
+        ap (option_map (λ more. new.bytes ++ more)) h.1 ∙ ap (λ given. Some given) moved
+
     told : (l : Option (List ℕ)) → IsCutFrom l now piece → budget new ≡ budget old → IsSame (option_map (λ more. given_of (budget old) (old.bytes ++ more)) l) (option_map (λ more. given_of (budget new) (new.bytes ++ more)) now)
     told None h kept = tt
     told (Some left) h kept =
@@ -201,3 +240,15 @@ ends_here None now piece e cut = tt
 ends_here (Some bytes) now piece e cut =
     let none : cut.0 ≡ [] = cut.3 e in
     (cut.2 ∙ (ap (λ bs. bs ++ cut.0) e ∙ none), cut.1 ∙ ap (λ bs. Some bs) none)
+
+-- nothing was read
+pub still_to_come : (start old new : Held) (first left now : Option (List ℕ)) → IsSame (to_come start first) (to_come old left) → new ≡ old → IsSame left now → IsSame (to_come start first) (to_come new now)
+unfolding to_come
+still_to_come start old new None left now same e l = tt
+still_to_come start old new (Some more) None now same e l = cc
+still_to_come start old new (Some more) (Some bytes) now same e l = ap (to_come new) l ∙ (ap (λ (h : Held). to_come h (Some bytes)) e ∙ same)
+
+pub still_there : (start old new : Held) (first left now : Option (List ℕ)) → IsSame (rest_of start first) (rest_of old left) → new ≡ old → IsSame left now → IsSame (rest_of start first) (rest_of new now)
+still_there start old new None left now same e l = tt
+still_there start old new (Some more) None now same e l = cc
+still_there start old new (Some more) (Some bytes) now same e l = ap (rest_of new) l ∙ (ap (λ (h : Held). rest_of h (Some bytes)) e ∙ same)

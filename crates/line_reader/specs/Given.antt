@@ -17,8 +17,8 @@ abbrev pub IsCutFrom : Option (List ℕ) → Option (List ℕ) → List ℕ → 
 IsCutFrom left now piece = IfSome left (λ bytes. (rest : List ℕ) × (now ≡ Some rest) × (bytes ≡ piece ++ rest) × (piece ≡ [] → rest ≡ []))
 
 -- where it is told, it is the same
-abbrev pub IsSame : Option Given → Option Given → Type 0
-IsSame old new = IfSome old (λ given. new ≡ Some given)
+abbrev pub IsSame : {A : Type 0} → Option A → Option A → Type 0
+IsSame old new = IfSome old (λ a. new ≡ Some a)
 
 abbrev pub with_line : List ℕ → Given → Given
 with_line line given = record { lines = line ∷ given.lines; long = given.long }

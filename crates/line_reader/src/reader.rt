@@ -2,7 +2,7 @@
 
 ghost use Rattle.std.specs.Prelude.{◌≡◌, ◌<◌, ◌≤◌, ◌+◌, ℕ, [], length, take, drop, suc, Some, None, Ok, OnOk, IfOk, IfSome, IsErrOf, true};
 ghost use Rattle.nsi_base.specs.Lines.{feed_at, without_return};
-ghost use Rattle.line_reader.specs.Given.{IsCutFrom};
+ghost use Rattle.line_reader.specs.Given.{IsCutFrom, IsSame};
 
 use crate::fill::Filled;
 use nsi_base::line::{feed_at, without_return};
@@ -51,8 +51,7 @@ impl Model for LineReader {
 }
 
 impl LineReader {
-    ghost use Rattle.line_reader.specs.Held.{budget, to_come, Takes, Fills};
-    ghost use Rattle.line_reader.specs.Given.{IsSame};
+    ghost use Rattle.line_reader.specs.Held.{budget, to_come, rest_of, Takes, Cuts, Fills};
     ghost use Rattle.line_reader.specs.Next.{is_line, TakesLast};
 
     /// A reader that takes that many bytes at most.
@@ -71,9 +70,16 @@ impl LineReader {
     /// memory the reader is of no more use, since bytes may be lost.
     pub fn next<S: Source>(&mut self, alloc: Global, input: &mut S) -> Result<Next, ReadError>
         ensures next { IfOk result (Takes (to_come self.old (S.left input.old)) (to_come self.new (S.left input.new))) }
+        ensures cut { IfOk result (Cuts (rest_of self.old (S.left input.old)) (rest_of self.new (S.left input.new))) }
         ensures shrinks { IfOk result (λ next. is_line next ≡ true → budget self.new < budget self.old) }
         ensures failed { IsErrOf result ReadError.Failed → S.faults input.old < S.faults input.new }
         ensures counted { S.faults input.old ≤ S.faults input.new }
+        ensures quiet { OnOk result (S.faults input.new ≡ S.faults input.old) }
+        ensures memory { IsErrOf result ReadError.NoMemory → S.faults input.new ≡ S.faults input.old }
+        // After a failed read the reader has all that it was given, and no whole line.
+        ensures reads_on { IsErrOf result ReadError.Failed → IsSame (to_come self.old (S.left input.old)) (to_come self.new (S.left input.new)) }
+        ensures keeps { IsErrOf result ReadError.Failed → IsSame (rest_of self.old (S.left input.old)) (rest_of self.new (S.left input.new)) }
+        ensures waits { IsErrOf result ReadError.Failed → feed_at self.new.bytes ≡ None }
     {
         'reading: loop {
             if let Some(line) = self.take_line(alloc)? {
@@ -151,7 +157,10 @@ impl LineReader {
     fn fill<S: Source>(&mut self, alloc: Global, input: &mut S) -> Result<Filled, ReadError>
         ensures filled { IfOk result (Fills self.old (S.left input.old) self.new (S.left input.new)) }
         ensures failed { IsErrOf result ReadError.Failed → S.faults input.old < S.faults input.new }
-        ensures counted { S.faults input.old ≤ S.faults input.new }
+        ensures quiet { OnOk result (S.faults input.new ≡ S.faults input.old) }
+        ensures memory { IsErrOf result ReadError.NoMemory → S.faults input.new ≡ S.faults input.old }
+        ensures same { IsErrOf result ReadError.Failed → self.new ≡ self.old }
+        ensures left { IsErrOf result ReadError.Failed → IsSame (S.left input.old) (S.left input.new) }
     {
         if self.room == 0 {
             return probe(input);
@@ -180,7 +189,9 @@ pub(crate) fn read_piece<S: Source>(
     ensures few { IfOk result (λ piece. length piece.items ≤ most) }
     ensures piece { IfOk result (λ piece. IsCutFrom (S.left input.old) (S.left input.new) piece.items) }
     ensures failed { IsErrOf result ReadError.Failed → S.faults input.old < S.faults input.new }
-    ensures counted { S.faults input.old ≤ S.faults input.new }
+    ensures quiet { OnOk result (S.faults input.new ≡ S.faults input.old) }
+    ensures memory { IsErrOf result ReadError.NoMemory → S.faults input.new ≡ S.faults input.old }
+    ensures left { IsErrOf result ReadError.Failed → IsSame (S.left input.old) (S.left input.new) }
 {
     let mut buffer = [0u8; PIECE];
     let most = most.min(PIECE);
@@ -199,7 +210,9 @@ fn probe<S: Source>(input: &mut S) -> Result<Filled, ReadError>
     ensures full { result ≡ Ok Filled.Full → IfSome (S.left input.old) (λ bytes. (bytes ≡ []) → ⊥) }
     ensures not_more { result ≡ Ok Filled.More → ⊥ }
     ensures failed { IsErrOf result ReadError.Failed → S.faults input.old < S.faults input.new }
-    ensures counted { S.faults input.old ≤ S.faults input.new }
+    ensures quiet { OnOk result (S.faults input.new ≡ S.faults input.old) }
+    ensures memory { IsErrOf result ReadError.NoMemory → S.faults input.new ≡ S.faults input.old }
+    ensures left { IsErrOf result ReadError.Failed → IsSame (S.left input.old) (S.left input.new) }
 {
     let mut buffer = [0u8; 1];
     match input.read(&mut buffer) {

@@ -1,6 +1,6 @@
 //! An input as a whole.
 
-ghost use Rattle.std.specs.Prelude.{◌≡◌, ◌<◌, ◌≤◌, ◌+◌, ◌^◌, length, None, Ok, Some, IfOk, IfSome, IsErrOf};
+ghost use Rattle.std.specs.Prelude.{◌≡◌, ◌<◌, ◌≤◌, ◌+◌, ◌^◌, length, None, Ok, Some, IfOk, OnOk, IfSome, IsErrOf};
 ghost use Rattle.line_reader.specs.Whole.{IsWhole};
 
 use crate::reader::{ReadError, read_piece};
@@ -19,6 +19,8 @@ pub fn read_whole<S: Source>(
     ensures long { result ≡ Ok None → IfSome (S.left input.old) (λ bytes. size < length bytes) }
     ensures failed { IsErrOf result ReadError.Failed → S.faults input.old < S.faults input.new }
     ensures counted { S.faults input.old ≤ S.faults input.new }
+    ensures quiet { OnOk result (S.faults input.new ≡ S.faults input.old) }
+    ensures memory { IsErrOf result ReadError.NoMemory → S.faults input.new ≡ S.faults input.old }
 {
     let mut bytes = Vec::new(alloc);
     'pieces: loop {

@@ -2,11 +2,48 @@
 //! faults. Once a count stands at the end of its type an adapter goes on without an error, which no clause forbids.
 
 ghost use Rattle.std.specs.Prelude.{◌≡◌, None};
+ghost use Rattle.nsi_outside.specs.Adapters.{read_outcome, write_outcome};
 
 use crate::sink::{Sink, SinkError};
 use crate::source::{ReadFailed, Source};
-use std::io::{Read, Write};
+use std::io::{self, Read, Write};
 use std::marker::Model;
+
+/// What a read came to: so many bytes, the end, or a fault.
+#[derive(Clone, Copy, Debug, PartialEq, Eq)]
+pub enum ReadOutcome {
+    Bytes(usize),
+    End,
+    Failed,
+}
+
+/// What a write came to: so many bytes, or a fault.
+#[derive(Clone, Copy, Debug, PartialEq, Eq)]
+pub enum WriteOutcome {
+    Bytes(usize),
+    Failed,
+}
+
+/// What a read of std came to, into a buffer that isn't empty.
+pub fn read_outcome(given: io::Result<usize>) -> ReadOutcome
+    ensures { result ≡ read_outcome given }
+{
+    match given {
+        Ok(0) => ReadOutcome::End,
+        Ok(n) => ReadOutcome::Bytes(n),
+        Err(_) => ReadOutcome::Failed,
+    }
+}
+
+/// What a write of std came to, of a piece that isn't empty.
+pub fn write_outcome(given: io::Result<usize>) -> WriteOutcome
+    ensures { result ≡ write_outcome given }
+{
+    match given {
+        Ok(0) | Err(_) => WriteOutcome::Failed,
+        Ok(n) => WriteOutcome::Bytes(n),
+    }
+}
 
 /// A source over a reader.
 #[derive(Drop)]
@@ -40,9 +77,10 @@ impl<R: Read> Source for StdSource<R> {
         if self.faults == u64::MAX {
             return Ok(0);
         }
-        match self.reader.read(buffer) {
-            Ok(n) => Ok(n),
-            Err(_) => {
+        match read_outcome(self.reader.read(buffer)) {
+            ReadOutcome::Bytes(n) => Ok(n),
+            ReadOutcome::End => Ok(0),
+            ReadOutcome::Failed => {
                 self.faults += 1;
                 Err(ReadFailed)
             }
@@ -82,9 +120,9 @@ impl<W: Write> Sink for StdSink<W> {
         if self.faults == u64::MAX {
             return Ok(piece.len());
         }
-        match self.writer.write(piece) {
-            Ok(n) if 0 < n => Ok(n),
-            _ => {
+        match write_outcome(self.writer.write(piece)) {
+            WriteOutcome::Bytes(n) => Ok(n),
+            WriteOutcome::Failed => {
                 self.faults += 1;
                 Err(SinkError::Failed)
             }

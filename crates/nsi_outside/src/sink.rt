@@ -1,6 +1,6 @@
 //! Where bytes go.
 
-ghost use Rattle.std.specs.Prelude.{◌≡◌, ◌<◌, ◌≤◌, ◌++◌, ℕ, length, IfOk, OnErr, OnOk, IfSome, IsErrOf, List, Option, Some, take, []};
+ghost use Rattle.std.specs.Prelude.{◌≡◌, ◌<◌, ◌≤◌, ◌++◌, ℕ, length, IfOk, OnErr, OnOk, IfSome, IsErrOf, List, Option, Some, Err, take, []};
 
 use std::alloc::Global;
 use std::marker::Model;
@@ -29,7 +29,9 @@ pub trait Sink {
         ensures within { IfOk result (λ n. n ≤ length piece.now) }
         ensures bytes { Writes (content self.old) (content self.new) piece.now result }
         ensures failed { IsErrOf result SinkError.Failed → faults self.old < faults self.new }
-        ensures counted { faults self.old ≤ faults self.new };
+        ensures counted { faults self.old ≤ faults self.new }
+        ensures quiet { OnOk result (faults self.new ≡ faults self.old) }
+        ensures memory { IsErrOf result SinkError.NoMemory → faults self.new ≡ faults self.old };
 }
 
 /// Bytes in memory. The listed calls fail, once each.
@@ -47,7 +49,7 @@ impl Model for MemorySink {
 
     ghost Value = { Told };
 
-    ghost view = { λ s. record { bytes = s.bytes.items; faults = s.faults } };
+    ghost view = { λ s. record { bytes = s.bytes.items; faults = s.faults; calls = s.calls; failing = s.failing.items } };
 
     ghost invariant = { λ s. s.faults ≤ s.calls };
 }
@@ -55,8 +57,7 @@ impl Model for MemorySink {
 impl MemorySink {
     /// Nothing yet. The calls with these numbers, counted from 1, fail.
     pub fn new(alloc: Global, failing: Vec<u64>) -> MemorySink
-        ensures bytes { result.bytes ≡ [] }
-        ensures faults { result.faults ≡ 0 }
+        ensures { result ≡ record { bytes = []; faults = 0; calls = 0; failing = failing.items } }
     {
         MemorySink {
             bytes: Vec::new(alloc),
@@ -74,11 +75,24 @@ impl MemorySink {
 }
 
 impl Sink for MemorySink {
+    ghost use Rattle.nsi_outside.specs.Stream.{Writes, IsPlanned, IsCalled, has_failed};
+
     ghost content = { λ s. Some s.bytes };
 
     ghost faults = { λ s. s.faults };
 
-    fn write(&mut self, piece: &[u8]) -> Result<usize, SinkError> {
+    fn write(&mut self, piece: &[u8]) -> Result<usize, SinkError>
+        requires { 0 < length piece.now }
+        ensures positive { IfOk result (λ n. 0 < n) }
+        ensures within { IfOk result (λ n. n ≤ length piece.now) }
+        ensures bytes { Writes (Some self.old.bytes) (Some self.new.bytes) piece.now result }
+        ensures failed { IsErrOf result SinkError.Failed → self.old.faults < self.new.faults }
+        ensures counted { self.old.faults ≤ self.new.faults }
+        ensures quiet { OnOk result (self.new.faults ≡ self.old.faults) }
+        ensures memory { IsErrOf result SinkError.NoMemory → self.new.faults ≡ self.old.faults }
+        ensures planned { IsPlanned self.old (has_failed result) }
+        ensures called { IsCalled self.old self.new }
+    {
         if self.calls < u64::MAX {
             self.calls += 1;
             if self.failing.contains(&self.calls) {
@@ -99,6 +113,8 @@ pub fn write_all<K: Sink>(out: &mut K, bytes: &[u8]) -> Result<(), SinkError>
     ensures front { OnErr result (IfSome (K.content out.old) (λ old. (k : ℕ) × (K.content out.new ≡ Some (old ++ take k bytes.now)))) }
     ensures failed { IsErrOf result SinkError.Failed → K.faults out.old < K.faults out.new }
     ensures counted { K.faults out.old ≤ K.faults out.new }
+    ensures quiet { OnOk result (K.faults out.new ≡ K.faults out.old) }
+    ensures memory { IsErrOf result SinkError.NoMemory → K.faults out.new ≡ K.faults out.old }
 {
     let mut written = 0;
     while written < bytes.len() {

@@ -1,6 +1,6 @@
 //! Where bytes come from.
 
-ghost use Rattle.std.specs.Prelude.{◌≡◌, ◌<◌, ◌≤◌, ℕ, length, IfOk, OnErr, List, Option, Some, drop, take, min};
+ghost use Rattle.std.specs.Prelude.{◌≡◌, ◌<◌, ◌≤◌, ℕ, length, IfOk, OnOk, OnErr, is_err, List, Option, Some, drop, take, min};
 
 use std::marker::Model;
 
@@ -24,7 +24,8 @@ pub trait Source {
         ensures within { IfOk result (λ n. n ≤ length buffer.old) }
         ensures bytes { Reads (left self.old) (left self.new) buffer.new result }
         ensures failed { OnErr result (faults self.old < faults self.new) }
-        ensures counted { faults self.old ≤ faults self.new };
+        ensures counted { faults self.old ≤ faults self.new }
+        ensures quiet { OnOk result (faults self.new ≡ faults self.old) };
 }
 
 /// Bytes in memory. The listed calls fail, once each.
@@ -43,7 +44,7 @@ impl Model for MemorySource {
 
     ghost Value = { Told };
 
-    ghost view = { λ s. record { bytes = drop s.place s.bytes.items; faults = s.faults } };
+    ghost view = { λ s. record { bytes = drop s.place s.bytes.items; faults = s.faults; calls = s.calls; failing = s.failing.items } };
 
     ghost invariant = { λ s. (s.place ≤ vec_len s.bytes) × (s.faults ≤ s.calls) };
 }
@@ -51,8 +52,7 @@ impl Model for MemorySource {
 impl MemorySource {
     /// The bytes, of which the calls with these numbers, counted from 1, fail.
     pub fn new(bytes: Vec<u8>, failing: Vec<u64>) -> MemorySource
-        ensures bytes { result.bytes ≡ bytes.items }
-        ensures faults { result.faults ≡ 0 }
+        ensures { result ≡ record { bytes = bytes.items; faults = 0; calls = 0; failing = failing.items } }
     {
         MemorySource {
             bytes,
@@ -65,11 +65,22 @@ impl MemorySource {
 }
 
 impl Source for MemorySource {
+    ghost use Rattle.nsi_outside.specs.Stream.{Reads, IsPlanned, IsCalled};
+
     ghost left = { λ s. Some s.bytes };
 
     ghost faults = { λ s. s.faults };
 
-    fn read(&mut self, buffer: &mut [u8]) -> Result<usize, ReadFailed> {
+    fn read(&mut self, buffer: &mut [u8]) -> Result<usize, ReadFailed>
+        requires { 0 < length buffer.old }
+        ensures within { IfOk result (λ n. n ≤ length buffer.old) }
+        ensures bytes { Reads (Some self.old.bytes) (Some self.new.bytes) buffer.new result }
+        ensures failed { OnErr result (self.old.faults < self.new.faults) }
+        ensures counted { self.old.faults ≤ self.new.faults }
+        ensures quiet { OnOk result (self.new.faults ≡ self.old.faults) }
+        ensures planned { IsPlanned self.old (is_err result) }
+        ensures called { IsCalled self.old self.new }
+    {
         if self.calls < u64::MAX {
             self.calls += 1;
             if self.failing.contains(&self.calls) {

@@ -1,4 +1,4 @@
-use Rattle.std.proofs.Common.{◌≤◌, ◌+◌, ◌-◌, length}
+use Rattle.std.proofs.Common.{◌≡◌, ◌≤◌, ◌+◌, ◌-◌, length}
 use Rattle.line_reader.specs.Whole.{IsRead}
 use Rattle.line_reader.proofs.whole.read_whole.Given as goal
 
@@ -9,5 +9,5 @@ abbrev pub invariant-pieces : goal.invariant-pieces
 invariant-pieces g l = record {
   read : IsRead (g.S.Source.left l.fn.input) (g.S.Source.left l.input) l.bytes.items;
   few : length l.bytes.items ≤ l.size;
-  counted : g.S.Source.faults l.fn.input ≤ g.S.Source.faults l.input;
+  quiet : g.S.Source.faults l.input ≡ g.S.Source.faults l.fn.input;
 }
