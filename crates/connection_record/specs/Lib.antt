@@ -6,3 +6,7 @@ pub mod Lives
 pub mod Turns
 pub mod Later
 pub mod Refusal
+pub mod Order
+pub mod Speaking
+pub mod Courses
+pub mod Laws
