@@ -1,47 +1,134 @@
 #!/usr/bin/env bash
-# Runs the program with these words, and builds it first where that has to be done.
+# Runs the program with these words: as it was built or, where no build is of these sources, the sources before any proof.
+# Only the program, --help and --version write to standard output.
 set -u
 
 root=$(dirname -- "$(readlink -f -- "${BASH_SOURCE[0]}")")
 crate=$root/crates/nsi
 program=$crate/out/nsi
-# As old as the sources that the program was built from.
-stamp=$crate/out/launched
+# `rt try` hands on no more of an input.
+most_tried=$((64 * 1024 * 1024 - 1))
 
-if [ "$#" -eq 1 ] && [ "$1" = --help ]; then
-    exec cat -- "$root/docs/help.txt"
-fi
+main() {
+    case $#:${1-} in
+        1:--help) exec cat -- "$root/docs/help.txt" ;;
+        1:--version) show_version ;;
+        1:--build) build ;;
+        *) run "$@" ;;
+    esac
+}
 
-is_built() {
-    [ -x "$program" ] && [ -e "$stamp" ] || return 1
-    local newer
-    newer=$(find "$root/crates" "$root/crates.txt" -name out -prune -o \
-        \( -path '*/src*' -o -path '*/specs*' -o -path '*/proofs*' -o -name crates.txt \) \
-        -newer "$stamp" -print -quit) || return 1
-    [ -z "$newer" ]
+# Built: no source is younger than the program, which is as old as what it was built from. After `rt ci` it is too.
+state() {
+    local younger
+    [ -x "$program" ] || { echo 'not built'; return; }
+    younger=$(shopt -s nullglob && cd -- "$root" &&
+        find crates.txt crates/*/{src,specs,proofs} -newer "$program" -print -quit) || younger=unknown
+    [ -z "$younger" ] && echo built || echo stale
+}
+
+run() {
+    local state
+    state=$(state)
+    [ "$state" != built ] || exec "$program" "$@"
+    require_rt "$state"
+    say "the program is $state, so this call runs before any proof, once its input has ended; to prove and build: $0 --build"
+    make_room
+    cat >"$room/input" || fail 'standard input could not be kept'
+    try "$@"
+    say 'the toolchain gives no answer before a proof here, so the program is proved and built now'
+    build
+    exec <"$room/input"
+    clear_room
+    exec "$program" "$@"
+}
+
+# Ends with the program's status and output, and returns where the toolchain couldn't run it to its end.
+try() {
+    local status
+    [ "$(wc -c <"$room/input")" -le "$most_tried" ] || return
+    (cd -- "$crate" && exec rt try -- "$@") <"$room/input" >"$room/output" 2>"$room/said"
+    [[ $(tail -n 1 -- "$room/said") =~ ^run=ended\ status=([0-9]+)\  ]] || return
+    status=${BASH_REMATCH[1]}
+    # What the program itself answers where writing fails.
+    if [ -s "$room/output" ]; then cat -- "$room/output" 2>/dev/null || status=3; fi
+    exit "$status"
 }
 
 build() {
-    local log status new
-    command -v rt >/dev/null || fail 'there is no command rt, which builds it'
-    echo 'nsi: the program is being built. The first time takes some minutes.' >&2
-    log=$(mktemp) && new=$(mktemp) || fail 'there is no room for the log'
-    # The program without a word ends with status 4, with which no build that fails ends.
-    (cd -- "$crate" && exec rt run) </dev/null >"$log" 2>&1
-    status=$?
-    if [ "$status" -ne 4 ] || [ ! -x "$program" ]; then
-        tail -n 20 -- "$log" >&2
-        rm -f -- "$log" "$new"
-        fail "the build failed with status $status"
+    local names name number=0 begun=$SECONDS
+    if [ "$(state)" = built ]; then
+        say "the program is built: $program"
+        return
     fi
-    touch -r "$new" -- "$stamp"
-    rm -f -- "$log" "$new"
+    require_rt "$(state)"
+    make_room
+    touch -- "$room/begun"
+    mapfile -t names < <(sed -n '/^nsi:/ { s/:.*//p; q }; /^[a-z]/ s/:.*//p' "$root/crates.txt")
+    for name in "${names[@]}"; do
+        number=$((number + 1))
+        build_crate "$name"
+        say "$number of ${#names[@]} $name, $(duration $((SECONDS - begun)))"
+        # Another run that was waited for may have built all.
+        [ "$(state)" != built ] || break
+    done
+    touch -r "$room/begun" -- "$program"
+    say "proved and built in $(duration $((SECONDS - begun))): $program"
+}
+
+build_crate() {
+    local verb=lib wanted=0 status
+    # The program without a word ends with status 4, with which no build that fails ends.
+    [ "$1" != nsi ] || { verb=run wanted=4; }
+    (cd -- "$root/crates/$1" && exec rt "$verb") </dev/null 2>&1 | show_waits >"$room/log"
+    status=${PIPESTATUS[0]}
+    [ "$status" -ne "$wanted" ] || return 0
+    grep -v -e ': proved$' -e '^so far: ' -- "$room/log" | tail -n 60 >&2
+    fail "the build of $1 failed with status $status"
+}
+
+# Passes lines on, and shows those that say for whom the toolchain waits.
+show_waits() {
+    local line
+    while IFS= read -r line; do
+        case $line in 'rt: '*waiting\ for*) printf '%s\n' "$line" >&2 ;; esac
+        printf '%s\n' "$line"
+    done
+}
+
+show_version() {
+    echo "nsi $(sed -n 's/^## \[\([0-9][^]]*\)\].*/\1/p' "$root/CHANGELOG.md" | head -n 1)"
+    echo "toolchain: $(rt version 2>/dev/null || echo 'no command rt')"
+}
+
+duration() {
+    if [ "$1" -lt 60 ]; then echo "$1 s"; else echo "$(($1 / 60)) min $(($1 % 60)) s"; fi
+}
+
+make_room() {
+    [ -z "$room" ] || return 0
+    room=$(mktemp -d) || fail 'there is no room for temporary files'
+}
+
+clear_room() {
+    [ -z "$room" ] || rm -rf -- "$room"
+}
+
+require_rt() {
+    command -v rt >/dev/null || fail "the program is $1, and there is no command rt to run or build it"
+}
+
+say() {
+    echo "nsi: $1" >&2
 }
 
 fail() {
-    echo "nsi: $1" >&2
+    say "$1"
     exit 70
 }
 
-is_built || build
-exec "$program" "$@"
+room=
+trap clear_room EXIT
+trap 'exit 130' INT
+trap 'exit 143' TERM
+main "$@"

@@ -1,0 +1,5 @@
+//! What the commands write: worked rows, and lines that try to break them.
+#![tactic(auto)]
+
+#[cfg(test)]
+mod running;
