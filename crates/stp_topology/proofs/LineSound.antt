@@ -1,6 +1,7 @@
 -- The topology after a line is sound.
 use Rattle.std.proofs.Common.{◌≡◌, ℕ, List, Bool, true, false, ◌&&◌, cond, Result, Ok, Err, codes}
 use Rattle.std.specs.Str.{bytes_eq}
+use Rattle.nsi_base.specs.Range.{least_hold, greatest_hold, least_mbps, greatest_mbps}
 use Rattle.stp_topology.specs.declared.fault.TopologyFault.{TopologyFault}
 use Rattle.stp_topology.specs.declared.fault.TopologyFault.TheVariants.{Word, Unknown}
 use Rattle.stp_topology.specs.declared.network.AgentKind.TheVariants.{Provider, Aggregator, Requester}
@@ -15,8 +16,8 @@ use Rattle.stp_topology.proofs.SoundLemmas.{first_step, agent_sound, stp_sound, 
 provider_sound : (t new : Network) (name hold : List ℕ) → IsSound t → add_provider t name hold ≡ Ok new → IsSound new
 unfolding add_provider
 provider_sound t new name hold s h =
-    let a = first_step (name_form name) (λ n. number_form 1 86400 hold >>= λ k. with_agent t n (Provider k)) new h in
-    let b = first_step (number_form 1 86400 hold) (λ k. with_agent t a.0 (Provider k)) new a.2 in
+    let a = first_step (name_form name) (λ n. number_form least_hold greatest_hold hold >>= λ k. with_agent t n (Provider k)) new h in
+    let b = first_step (number_form least_hold greatest_hold hold) (λ k. with_agent t a.0 (Provider k)) new a.2 in
     agent_sound t new a.0 (Provider b.0) s (λ p e. cc) b.2
 
 aggregator_sound : (t new : Network) (name : List ℕ) → IsSound t → add_aggregator t name ≡ Ok new → IsSound new
@@ -37,9 +38,9 @@ requester_sound t new name agent s h =
 points_sound : (t new : Network) (provider name capacity : List ℕ) → IsSound t → add_stp t provider name capacity ≡ Ok new → IsSound new
 unfolding add_stp
 points_sound t new provider name capacity s h =
-    let a = first_step (name_form provider) (λ p. name_form name >>= λ n. number_form 1 1099511627776 capacity >>= λ c. known_agent t sorts.OneProvider p >>= λ i. with_stp t n i c) new h in
-    let b = first_step (name_form name) (λ n. number_form 1 1099511627776 capacity >>= λ c. known_agent t sorts.OneProvider a.0 >>= λ i. with_stp t n i c) new a.2 in
-    let c = first_step (number_form 1 1099511627776 capacity) (λ c. known_agent t sorts.OneProvider a.0 >>= λ i. with_stp t b.0 i c) new b.2 in
+    let a = first_step (name_form provider) (λ p. name_form name >>= λ n. number_form least_mbps greatest_mbps capacity >>= λ c. known_agent t sorts.OneProvider p >>= λ i. with_stp t n i c) new h in
+    let b = first_step (name_form name) (λ n. number_form least_mbps greatest_mbps capacity >>= λ c. known_agent t sorts.OneProvider a.0 >>= λ i. with_stp t n i c) new a.2 in
+    let c = first_step (number_form least_mbps greatest_mbps capacity) (λ c. known_agent t sorts.OneProvider a.0 >>= λ i. with_stp t b.0 i c) new b.2 in
     let d = first_step (known_agent t sorts.OneProvider a.0) (λ i. with_stp t b.0 i c.0) new c.2 in
     stp_sound t new b.0 d.0 c.0 s (known_provider t a.0 d.0 d.1) d.2
 

@@ -5,7 +5,7 @@ use Rattle.nsi_base.specs.Digits.{value_from, number_of}
 use Rattle.stp_topology.specs.declared.fault.TopologyFault.TheVariants.{Word, Unknown, Twice, Cycle, TooDeep, Empty}
 use Rattle.stp_topology.specs.declared.network.AgentKind.TheVariants.{Provider, Requester}
 use Rattle.stp_topology.specs.Network.{Network, nothing}
-use Rattle.stp_topology.specs.Words.{words_of}
+use Rattle.nsi_base.specs.Words.{words_of}
 use Rattle.stp_topology.specs.Lines.{known_agent, with_agent, add_provider, add_aggregator, add_requester, with_stp, add_stp, with_sdp, add_sdp, leads_down, stands_over, with_child, add_child, line_of}
 use Rattle.stp_topology.specs.Text.{of_line, read_lines, behind_lines, topology_of}
 

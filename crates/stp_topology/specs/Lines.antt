@@ -2,6 +2,7 @@
 use Rattle.std.specs.Prelude.{ℕ, zero, suc, List, [], ◌∷◌, ◌++◌, Bool, true, false, ◌&&◌, ◌||◌, ◌==◌, nat_le, if◌then◌else◌, length, Option, Some, None, is_some, slice_get, slice_set, Result, Ok, Err, codes, get_or}
 use Rattle.std.specs.List.{list_any}
 use Rattle.std.specs.Str.{bytes_eq}
+use Rattle.nsi_base.specs.Range.{least_hold, greatest_hold, least_mbps, greatest_mbps}
 use Rattle.stp_topology.specs.declared.fault.TopologyFault.{TopologyFault}
 use Rattle.stp_topology.specs.declared.fault.TopologyFault.TheVariants.{Word, Unknown, Twice, Cycle, TooDeep, Limit}
 use Rattle.stp_topology.specs.declared.network.AgentKind.TheVariants.{Provider, Aggregator, Requester}
@@ -36,7 +37,7 @@ with_agent t name kind =
 unfoldable pub add_provider : Network → List ℕ → List ℕ → Result Network TopologyFault
 add_provider t name hold = do
   n ← name_form name
-  h ← number_form 1 86400 hold
+  h ← number_form least_hold greatest_hold hold
   with_agent t n (Provider h)
 
 -- `agent NAME aggregator`
@@ -65,7 +66,7 @@ unfoldable pub add_stp : Network → List ℕ → List ℕ → List ℕ → Resu
 add_stp t provider name capacity = do
   p ← name_form provider
   n ← name_form name
-  c ← number_form 1 1099511627776 capacity
+  c ← number_form least_mbps greatest_mbps capacity
   a ← known_agent t sorts.OneProvider p
   with_stp t n a c
 

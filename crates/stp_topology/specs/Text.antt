@@ -1,7 +1,9 @@
 -- A topology as a text.
-use Rattle.std.specs.Prelude.{◌≡◌, ℕ, zero, suc, ◌+◌, ◌-◌, List, [], ◌∷◌, Bool, ◌||◌, ◌==◌, if◌then◌else◌, length, drop, Option, Some, None, Result, Ok, Err, codes, get_or}
+use Rattle.std.specs.Prelude.{◌≡◌, ℕ, zero, suc, ◌+◌, ◌-◌, List, [], ◌∷◌, Bool, ◌||◌, ◌==◌, if◌then◌else◌, length, Result, Ok, Err, codes, get_or}
 use Rattle.std.specs.Str.{bytes_eq}
-use Rattle.nsi_base.specs.Lines.{lines_of, feed_at}
+use Rattle.nsi_base.specs.declared.words.Blanks.TheVariants.{SpaceOrTab}
+use Rattle.nsi_base.specs.Lines.{lines_of, feed_at, behind_feed}
+use Rattle.nsi_base.specs.Words.{words_of}
 use Rattle.stp_topology.specs.declared.fault.TopologyFault.{TopologyFault}
 use Rattle.stp_topology.specs.declared.fault.TopologyFault.TheVariants.{Word, Empty}
 use Rattle.stp_topology.specs.declared.fault.TopologyRefusal.{TopologyRefusal}
@@ -11,7 +13,6 @@ use Rattle.stp_topology.specs.declared.topology.Taken.TheVariants.{More, Whole}
 use Rattle.stp_topology.specs.Faults.{◌>>=◌}
 use Rattle.stp_topology.specs.Lines.{line_of}
 use Rattle.stp_topology.specs.Network.{Network, nothing}
-use Rattle.stp_topology.specs.Words.{words_of}
 
 -- an empty line or a comment
 abbrev pub is_skipped : List ℕ → Bool
@@ -22,7 +23,7 @@ unfoldable pub of_line : Network → List ℕ → Result Taken TopologyFault
 of_line t line =
     if is_skipped line then Ok (More t)
     else if bytes_eq line (codes "---") then (if length t.agents == 0 then Err Empty else Ok (Whole t))
-    else line_of t (words_of line) >>= λ new. Ok (More new)
+    else line_of t (words_of SpaceOrTab line) >>= λ new. Ok (More new)
 
 -- what a line makes of the reading, which goes on where more is to come
 abbrev pub onward : ℕ → Result Taken TopologyFault → (Network → Result (Network × ℕ) (ℕ × TopologyFault)) → Result (Network × ℕ) (ℕ × TopologyFault)
@@ -34,11 +35,6 @@ onward number (Err fault) next = Err (number, fault)
 unfoldable pub read_lines : Network → ℕ → List (List ℕ) → Result (Network × ℕ) (ℕ × TopologyFault)
 read_lines t before [] = Err (before + 1, Word)
 read_lines t before (line ∷ lines) = onward (before + 1) (of_line t line) (λ new. read_lines new (before + 1) lines)
-
--- what stands behind the line feed
-abbrev pub behind_feed : Option ℕ → List ℕ → List ℕ
-behind_feed None text = []
-behind_feed (Some i) text = drop (i + 1) text
 
 -- what stands behind that many lines
 unfoldable pub behind_lines : ℕ → List ℕ → List ℕ

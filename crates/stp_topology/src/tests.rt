@@ -1,6 +1,5 @@
 //! Each call once, and the limits.
 
-use crate::words::words;
 use crate::{
     AgentKind, LineRefusal, Taken, Topology, TopologyFault, TopologyRefusal, read_topology,
 };
@@ -161,17 +160,6 @@ fn finds_a_fault(rt: HostRuntime) {
             assert_eq!(rt; fault.name(), "Cycle");
         }
         _ => assert!(rt; false),
-    }
-}
-
-#[test]
-fn cuts_words(rt: HostRuntime) {
-    match words(rt.alloc(), b"a  b\t") {
-        Ok(words) => {
-            assert_eq!(rt; words.len(), 4);
-            assert!(rt; words[2] == b"b".as_slice());
-        }
-        Err(_) => assert!(rt; false),
     }
 }
 

@@ -1,33 +1,17 @@
 //! A topology as a text.
 
-ghost use Rattle.std.specs.Prelude.{◌≡◌, ◌<◌, ◌≤◌, ◌∷◌, length};
-ghost use Rattle.nsi_base.specs.Lines.{lines_of, feed_at};
-ghost use Rattle.stp_topology.specs.Text.{Reads, topology_of, behind_feed};
+ghost use Rattle.std.specs.Prelude.{◌≤◌, length};
+ghost use Rattle.nsi_base.specs.Range.{greatest_input};
+ghost use Rattle.stp_topology.specs.Text.{Reads, topology_of};
 
 use crate::fault::{LineRefusal, TopologyFault, TopologyRefusal};
 use crate::topology::{Taken, Topology};
-use nsi_base::line::{feed_at, without_return};
+use nsi_base::line::cut_line;
 use std::alloc::Global;
-
-/// The first line without its end, and what stands behind it.
-fn cut_line(text: &[u8]) -> (&[u8], &[u8])
-    requires { 0 < length text.now }
-    ensures lines { lines_of text.now ≡ result.0.now ∷ lines_of result.1.now }
-    ensures behind { result.1.now ≡ behind_feed (feed_at text.now) text.now }
-    ensures shorter { length result.1.now < length text.now }
-{
-    match feed_at(text) {
-        Some(i) => {
-            let (line, behind) = text.split_at(i);
-            (without_return(line), behind.split_at(1).1)
-        }
-        None => text.split_at(text.len()),
-    }
-}
 
 /// The topology that a text begins with, and the place behind the line `---` and its end.
 pub fn read_topology(alloc: Global, text: &[u8]) -> Result<(Topology, usize), TopologyRefusal>
-    requires { length text.now ≤ 67108864 }
+    requires { length text.now ≤ greatest_input }
     ensures { Reads result (topology_of text.now) }
 {
     let mut topology = Topology::new(alloc);

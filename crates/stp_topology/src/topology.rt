@@ -12,8 +12,8 @@ use crate::declare::{agent_at, stp_at};
 use crate::fault::{LineRefusal, TopologyFault};
 use crate::network::{AgentKind, Network};
 use crate::rank::rank_to;
-use crate::words::words;
-use nsi_base::{AgentNo, Flow, Mbps, Name, StpNo};
+use nsi_base::words::words;
+use nsi_base::{AgentNo, Blanks, Flow, Mbps, Name, StpNo};
 use std::alloc::Global;
 use std::marker::Model;
 
@@ -77,7 +77,7 @@ impl Topology {
             return Ok(Taken::Whole(self));
         }
         let Topology { alloc, mut network } = self;
-        let Ok(words) = words(alloc, line) else {
+        let Ok(words) = words(alloc, Blanks::SpaceOrTab, line) else {
             return Err(LineRefusal::NoMemory);
         };
         network.declare(alloc, &words)?;
