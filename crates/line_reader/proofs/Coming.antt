@@ -7,7 +7,7 @@ use Rattle.std.proofs.lemmas.Bool.Decides.{nat_tests}
 use Rattle.nsi_base.specs.Lines.{lines_to, feed_at, without_return}
 use Rattle.nsi_base.proofs.LineCuts.{lines_end, lines_last, ended_none}
 use Rattle.line_reader.specs.Given.{Given, given_of, IsSame, with_line, TakesLine, IsAtEnd, IsCutFrom}
-use Rattle.line_reader.specs.Held.{Held, budget, to_come, rest_of, IsFirstLine, Cuts}
+use Rattle.line_reader.specs.Held.{Held, budget, to_come, rest_of, CutsLine}
 
 feed_within : (bs : List ℕ) (i : ℕ) → feed_at bs ≡ Some i → i < length bs
 unfolding feed_at
@@ -153,7 +153,7 @@ feed_before (x ∷ a) b i h = by_test (eqb x 10) (feed_at a) h (λ j e. feed_bef
 
 -- the first line of what is held is the first line of all
 pub cuts_line : (start old new : Held) (first left : Option (List ℕ)) (i : ℕ) (line : List ℕ) → IsSame (rest_of start first) (rest_of old left) → feed_at old.bytes ≡ Some i → line ≡ without_return (take i old.bytes)
-    → new ≡ record { bytes = drop (suc i) old.bytes; room = old.room } → IfSome (rest_of start first) (λ bytes. (rest : List ℕ) × (rest_of new left ≡ Some rest) × IsFirstLine bytes line rest)
+    → new ≡ record { bytes = drop (suc i) old.bytes; room = old.room } → CutsLine (rest_of start first) (rest_of new left) line
 cuts_line start old new None left i line same e l n = tt
 cuts_line start old new (Some more) None i line same e l n = cc
 cuts_line start old new (Some more) (Some rest) i line same e l n =
@@ -166,7 +166,7 @@ cuts_line start old new (Some more) (Some rest) i line same e l n =
 
 -- a last line without an end is all that there is
 pub cuts_last : (start old new : Held) (first left now : Option (List ℕ)) (line : List ℕ) → IsSame (rest_of start first) (rest_of old left) → feed_at old.bytes ≡ None → IfSome left (λ bytes. (bytes ≡ []) × (now ≡ Some []))
-    → line ≡ old.bytes → new ≡ record { bytes = []; room = old.room } → (old.bytes ≡ [] → ⊥) → IfSome (rest_of start first) (λ bytes. (rest : List ℕ) × (rest_of new now ≡ Some rest) × IsFirstLine bytes line rest)
+    → line ≡ old.bytes → new ≡ record { bytes = []; room = old.room } → (old.bytes ≡ [] → ⊥) → CutsLine (rest_of start first) (rest_of new now) line
 cuts_last start old new None left now line same e ended l n some = tt
 cuts_last start old new (Some more) None now line same e ended l n some = cc
 cuts_last start old new (Some more) (Some rest) now line same e ended l n some =

@@ -28,9 +28,13 @@ IsFirstLine bytes line rest =
     ((i : ℕ) × (feed_at bytes ≡ Some i) × (line ≡ without_return (take i bytes)) × (rest ≡ drop (suc i) bytes))
     ⊎ ((feed_at bytes ≡ None) × (bytes ≢ []) × (line ≡ bytes) × (rest ≡ []))
 
--- taking a line cuts it off the bytes that are not handed out yet
+-- the line was cut off the bytes that were not handed out yet
+abbrev pub CutsLine : Option (List ℕ) → Option (List ℕ) → List ℕ → Type 0
+CutsLine old new line = IfSome old (λ bytes. (rest : List ℕ) × (new ≡ Some rest) × IsFirstLine bytes line rest)
+
+-- taking a line cuts it off
 abbrev pub Cuts : Option (List ℕ) → Option (List ℕ) → Next → Type 0
-Cuts old new (Next.Line line) = IfSome old (λ bytes. (rest : List ℕ) × (new ≡ Some rest) × IsFirstLine bytes line.items rest)
+Cuts old new (Next.Line line) = CutsLine old new line.items
 Cuts old new _ = Unit {0}
 
 -- what taking the next line answers, by what was to come before and is to come now
