@@ -19,7 +19,7 @@ use Rattle.connection_record.specs.Demand.{last}
 use Rattle.connection_record.specs.Replies.{Moved, plain}
 use Rattle.connection_record.specs.Moves.{reserves, reserves_if, hold_end}
 use Rattle.connection_record.specs.Lives.{provisions, provisions_if, lives, lives_if}
-use Rattle.connection_record.specs.Turns.{reservation_closing, provision_closing, closes_reservation, closes_provision, closes, moves, schedule_end, ticks, is_told, status_of, tells_plane, tells}
+use Rattle.connection_record.specs.Turns.{reservation_closing, provision_closing, closes_reservation, closes_provision, closes, moves, moves_if, schedule_end, ticks, is_told, status_of, tells_plane, tells}
 
 take_self : {X : Type 0} (xs : List X) → take (length xs) xs ≡ xs
 take_self xs = take_all (length xs) xs (omega arith)
@@ -59,20 +59,20 @@ pub lives_later : (k : Lsm) (move : LifecycleMove) (now : ℕ) (r : Record) → 
 unfolding lives
 lives_later k move now r = grind (arith, take-append_seam, take_self)
 
-reserves_if_later : (move : Option ReservationMove) (now : ℕ) (r : Record) → IsLater r (reserves_if move now r).rec
+pub reserves_if_later : (move : Option ReservationMove) (now : ℕ) (r : Record) → IsLater r (reserves_if move now r).rec
 reserves_if_later None now r = later_refl r
 reserves_if_later (Some move) now r = reserves_later r.rsm move now r
 
-provisions_if_later : (side : Side) (move : Option ProvisionMove) (now : ℕ) (r : Record) → IsLater r (provisions_if side move now r).rec
+pub provisions_if_later : (side : Side) (move : Option ProvisionMove) (now : ℕ) (r : Record) → IsLater r (provisions_if side move now r).rec
 provisions_if_later side None now r = later_refl r
 provisions_if_later side (Some move) now r = provisions_later side r.psm move now r
 
-lives_if_later : (move : Option LifecycleMove) (now : ℕ) (r : Record) → IsLater r (lives_if move now r).rec
+pub lives_if_later : (move : Option LifecycleMove) (now : ℕ) (r : Record) → IsLater r (lives_if move now r).rec
 lives_if_later None now r = later_refl r
 lives_if_later (Some move) now r = lives_later r.lsm move now r
 
 -- the end of a connection is three moves
-closes_later : (agent : List ℕ) (side : Side) (now : ℕ) (r : Record) → IsLater r (closes agent side now r).rec
+pub closes_later : (agent : List ℕ) (side : Side) (now : ℕ) (r : Record) → IsLater r (closes agent side now r).rec
 unfolding closes
 closes_later agent side now r =
     let reserved : Record = (closes_reservation agent now r).rec in
@@ -89,6 +89,10 @@ moves_later side (Move.Reservation move) now r = reserves_later r.rsm move now r
 moves_later side (Move.Provision move) now r = provisions_later side r.psm move now r
 moves_later side (Move.Lifecycle move) now r = lives_later r.lsm move now r
 moves_later side (Move.Close agent) now r = closes_later agent side now r
+
+pub moves_if_later : (side : Side) (o : Option Move) (now : ℕ) (r : Record) → IsLater r (moves_if side o now r).rec
+moves_if_later side None now r = later_refl r
+moves_if_later side (Some move) now r = moves_later side move now r
 
 pub ticks_later : (live : Bool) (origin : Origin) (now : ℕ) (r : Record) → IsLater r (ticks live origin now r).rec
 unfolding ticks

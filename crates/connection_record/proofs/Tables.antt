@@ -1,6 +1,6 @@
 -- Each machine of a record moves as its table says, and says what the table says; where the table has no row nothing changes.
 use Rattle.std.proofs.Common.{ℕ, ◌≡◌, List, [], ◌∷◌, Option, Some, None, arith, option_to_list}
-use Rattle.nsi_primitive.specs.Messages.{kind_of}
+use Rattle.std.specs.Prelude.{is_some}
 use Rattle.nsi_primitive.specs.declared.kind.Kind.{Kind}
 use Rattle.nsi_primitive.specs.declared.state.Rsm.{Rsm}
 use Rattle.nsi_primitive.specs.declared.state.Psm.{Psm}
@@ -15,28 +15,27 @@ use Rattle.connection_record.specs.declared.moves.Reply.{Reply}
 use Rattle.connection_record.specs.declared.moves.ReservationMove.{ReservationMove}
 use Rattle.connection_record.specs.declared.provisioning.ProvisionMove.{ProvisionMove}
 use Rattle.connection_record.specs.declared.life.LifecycleMove.{LifecycleMove}
+use Rattle.connection_record.specs.Order.{is_pending}
 use Rattle.connection_record.specs.Replies.{stays}
 use Rattle.connection_record.specs.Moves.{event_of, reserves}
+use Rattle.connection_record.specs.Tabled.{next_or, message_of, kinds}
 use Rattle.connection_record.specs.Lives.{provision_event, provisions, lifecycle_event, lives}
-
--- the row's next state, or the same where there is no row
-abbrev pub next_or : {S : Type 0} → S → Option (S × Option Kind) → S
-next_or state None = state
-next_or state (Some row) = row.0
-
--- the kind of the row's message, where there is a row and it has one
-abbrev pub message_of : {S : Type 0} → Option (S × Option Kind) → List Kind
-message_of None = []
-message_of (Some row) = option_to_list row.1
-
-abbrev pub kinds : List Reply → List Kind
-kinds [] = []
-kinds (x ∷ xs) = kind_of x.body ∷ kinds xs
 
 -- what is checked is there
 abbrev pub IsAtHand : Rsm → Option Criteria → Type 0
 IsAtHand Rsm.ReserveChecking None = ⊥
 IsAtHand _ pending = Unit {0}
+
+pub at_hand : (k : Rsm) (pending : Option Criteria) → is_some pending ≡ is_pending k → IsAtHand k pending
+unfolding is_pending
+at_hand Rsm.ReserveChecking None e = absurd (cc)
+at_hand Rsm.ReserveChecking (Some c) e = tt
+at_hand Rsm.ReserveStart pending e = tt
+at_hand Rsm.ReserveFailed pending e = tt
+at_hand Rsm.ReserveHeld pending e = tt
+at_hand Rsm.ReserveCommitting pending e = tt
+at_hand Rsm.ReserveTimeout pending e = tt
+at_hand Rsm.ReserveAborting pending e = tt
 
 ---- The reservation machine
 

@@ -1,15 +1,34 @@
 -- The laws of a record.
-use Rattle.std.specs.Prelude.{ℕ, ◌≡◌, ◌≤◌, Bool, true, List, Option, Some, ◌⊎◌}
+use Rattle.std.specs.Prelude.{ℕ, ◌≡◌, ◌≤◌, ◌+◌, Bool, true, List, [], Option, Some, None, ◌⊎◌}
+use Rattle.nsi_primitive.specs.Messages.{connection_of}
 use Rattle.nsi_primitive.specs.declared.plane.Plane.{Plane}
+use Rattle.nsi_primitive.specs.declared.state.Machine.{Machine}
 use Rattle.nsi_primitive.specs.declared.state.Side.{Side}
+use Rattle.nsi_primitive.specs.declared.message.Body.{Body}
+use Rattle.nsi_primitive.specs.declared.message.Cause.{Cause}
+use Rattle.nsi_primitive.specs.declared.message.Message.{Message}
+use Rattle.nsi_primitive.specs.declared.message.ReserveRequest.{ReserveRequest}
 use Rattle.nsi_primitive.specs.declared.message.Service.{Service}
+use Rattle.reserve_machine.specs.Table.{step as reserve_step}
+use Rattle.provision_machine.specs.Table.{step as provision_step}
+use Rattle.lifecycle_machine.specs.Table.{step as lifecycle_step}
 use Rattle.connection_record.specs.declared.record.Record.{Record}
+use Rattle.connection_record.specs.declared.life.LifecycleMove.{LifecycleMove}
 use Rattle.connection_record.specs.declared.moves.Origin.{Origin}
+use Rattle.connection_record.specs.declared.moves.Reply.{Reply}
+use Rattle.connection_record.specs.declared.moves.ReservationMove.{ReservationMove}
+use Rattle.connection_record.specs.declared.provisioning.ProvisionMove.{ProvisionMove}
 use Rattle.connection_record.specs.declared.turn.Move.{Move}
-use Rattle.connection_record.specs.Moves.{fresh}
+use Rattle.connection_record.specs.Courses.{IsAct, Course, IsAfter}
+use Rattle.connection_record.specs.Lives.{provision_event, provisions, lifecycle_event, lives}
+use Rattle.connection_record.specs.Moves.{event_of, reserves, fresh, asked_criteria}
 use Rattle.connection_record.specs.Order.{IsInOrder, HasPoints}
-use Rattle.connection_record.specs.Speaking.{owed}
-use Rattle.connection_record.specs.Turns.{moves, ticked, tells}
+use Rattle.connection_record.specs.Refusal.{refusal, record_refusal, modification_refusal, first_refusal}
+use Rattle.connection_record.specs.Replies.{Moved}
+use Rattle.connection_record.specs.Speaking.{owed, begun_of, drawn_of, no_ids, drawn_if, Speaks, Names}
+use Rattle.connection_record.specs.Tabled.{FollowsRow}
+use Rattle.connection_record.specs.Turns.{moves, moves_if, requested, work_of, closes, ticks, ticked, is_told, tells}
+use Rattle.connection_record.specs.Unrefused.{IsFitFor, IsTakenAt}
 
 ---- Order
 
@@ -38,3 +57,95 @@ abbrev pub TicksKeepPoints : Type 0
 TicksKeepPoints =
     (stp_of : List ℕ → Option ℕ) (origin : Origin) (before : Plane) (c now : ℕ) (r : Record) → HasPoints stp_of r →
     HasPoints stp_of (tells before c now (ticked origin now r)).rec
+
+---- What a record says
+
+abbrev pub MovesSpeak : Type 0
+MovesSpeak = (side : Side) (move : Move) (now : ℕ) (r : Record) → Speaks (begun_of move) (drawn_of move) r (moves side move now r)
+
+-- a request begins nothing but itself
+abbrev pub RequestsSpeak : Type 0
+RequestsSpeak = (side : Side) (body : Body) (c now : ℕ) (r : Record) → Speaks (Some c) no_ids r (moves_if side (requested body c r) now r)
+
+abbrev pub WorksSpeak : Type 0
+WorksSpeak =
+    (side : Side) (machine : Machine) (lack : Option Cause) (agent : List ℕ) (deadline now : ℕ) (r : Record) →
+    Speaks None no_ids r (moves_if side (work_of machine r lack agent deadline) now r)
+
+abbrev pub TicksSpeak : Type 0
+TicksSpeak = (origin : Origin) (now : ℕ) (r : Record) → Speaks None no_ids r (ticked origin now r)
+
+-- a change of the data plane is told under the id that is drawn for it
+abbrev pub TellingSpeaks : Type 0
+TellingSpeaks =
+    (before : Plane) (begun : Option ℕ) (drawn : ℕ → ℕ) (c now : ℕ) (r : Record) (x : Moved) → Speaks begun drawn r x →
+    Speaks begun (λ d. drawn d + drawn_if (is_told before now x.rec) c d) r (tells before c now x)
+
+abbrev pub MovesName : Type 0
+MovesName = (side : Side) (move : Move) (now : ℕ) (r : Record) → Names r (moves side move now r)
+
+abbrev pub TicksName : Type 0
+TicksName = (origin : Origin) (now : ℕ) (r : Record) → Names r (ticked origin now r)
+
+abbrev pub TellingNames : Type 0
+TellingNames = (before : Plane) (c now : ℕ) (r : Record) (x : Moved) → Names r x → Names r (tells before c now x)
+
+---- What an agent does by itself
+
+abbrev pub WorksAct : Type 0
+WorksAct =
+    (side : Side) (machine : Machine) (lack : Option Cause) (agent : List ℕ) (deadline now : ℕ) (r : Record) →
+    IsAct r (moves_if side (work_of machine r lack agent deadline) now r)
+
+abbrev pub ForcesAct : Type 0
+ForcesAct = (side : Side) (c : ℕ) (origin : Origin) (now : ℕ) (r : Record) → IsAct r (moves side (Move.Lifecycle (LifecycleMove.Force c origin)) now r)
+
+abbrev pub ClosesAct : Type 0
+ClosesAct = (agent : List ℕ) (side : Side) (now : ℕ) (r : Record) → IsAct r (closes agent side now r)
+
+abbrev pub TicksAct : Type 0
+TicksAct = (origin : Origin) (now : ℕ) (r : Record) → IsAct r (ticked origin now r)
+
+abbrev pub TellingActs : Type 0
+TellingActs = (before : Plane) (c now : ℕ) (r : Record) (x : Moved) → IsAct r x → IsAct r (tells before c now x)
+
+abbrev pub CoursesKeep : Type 0
+CoursesKeep = (r q : Record) (out : List Reply) → Course r q out → IsAfter r q out
+
+---- Refusals
+
+abbrev pub UnrefusedFits : Type 0
+UnrefusedFits = (body : Body) (r : Record) → record_refusal body r ≡ None → IsFitFor body r
+
+-- a reserve that isn't refused asks for criteria
+abbrev pub ModificationAsks : Type 0
+ModificationAsks = (q : ReserveRequest) (r : Record) → modification_refusal (Body.Reserve q) r ≡ None → asked_criteria q r.committed ≡ None → ⊥
+
+abbrev pub FirstAsks : Type 0
+FirstAsks = (stp_of : List ℕ → Option ℕ) (q : ReserveRequest) → first_refusal stp_of q ≡ None → asked_criteria q [] ≡ None → ⊥
+
+abbrev pub UnrefusedNamesAgent : Type 0
+UnrefusedNamesAgent =
+    (agent : List ℕ) (stp_of : List ℕ → Option ℕ) (records : List Record) (m : Message) → refusal agent stp_of records m ≡ None → m.header.provider ≡ agent
+
+abbrev pub UnrefusedIsTaken : Type 0
+UnrefusedIsTaken =
+    (agent : List ℕ) (stp_of : List ℕ → Option ℕ) (records : List Record) (m : Message) (id : ℕ) → connection_of m.body ≡ Some id →
+    refusal agent stp_of records m ≡ None → IsTakenAt m records id
+
+---- The written tables
+
+abbrev pub ReservesByTable : Type 0
+ReservesByTable =
+    (move : ReservationMove) (now : ℕ) (r : Record) → IsInOrder r →
+    FollowsRow (reserve_step r.rsm (event_of move)) r.rsm (reserves r.rsm move now r).rec.rsm r (reserves r.rsm move now r)
+
+abbrev pub ProvisionsByTable : Type 0
+ProvisionsByTable =
+    (side : Side) (move : ProvisionMove) (now : ℕ) (r : Record) →
+    FollowsRow (provision_step side r.psm (provision_event move)) r.psm (provisions side r.psm move now r).rec.psm r (provisions side r.psm move now r)
+
+abbrev pub LivesByTable : Type 0
+LivesByTable =
+    (move : LifecycleMove) (now : ℕ) (r : Record) →
+    FollowsRow (lifecycle_step r.lsm (lifecycle_event move)) r.lsm (lives r.lsm move now r).rec.lsm r (lives r.lsm move now r)

@@ -9,4 +9,6 @@ pub mod Refusal
 pub mod Order
 pub mod Speaking
 pub mod Courses
+pub mod Unrefused
+pub mod Tabled
 pub mod Laws
