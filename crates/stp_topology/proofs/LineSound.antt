@@ -1,5 +1,5 @@
 -- The topology after a line is sound.
-use Rattle.std.proofs.Common.{◌≡◌, ℕ, List, Bool, true, false, ◌&&◌, cond, Result, Ok, Err, codes}
+use Rattle.std.proofs.Common.{◌≡◌, ℕ, List, Bool, true, false, ◌&&◌, cond, Result, Ok, Err, codes, subst}
 use Rattle.std.specs.Str.{bytes_eq}
 use Rattle.nsi_base.specs.Range.{least_hold, greatest_hold, least_mbps, greatest_mbps}
 use Rattle.stp_topology.specs.declared.fault.TopologyFault.{TopologyFault}
@@ -8,10 +8,10 @@ use Rattle.stp_topology.specs.declared.network.AgentKind.TheVariants.{Provider, 
 use Rattle.stp_topology.specs.declared.declare.Sort.TheVariants as sorts
 use Rattle.stp_topology.specs.Faults.{◌>>=◌, value_or}
 use Rattle.stp_topology.specs.Network.{Network, stp_of}
-use Rattle.stp_topology.specs.Sound.{IsSound}
+use Rattle.stp_topology.specs.Sound.{IsSound, TakesRequests}
 use Rattle.stp_topology.specs.Words.{name_form, number_form}
 use Rattle.stp_topology.specs.Lines.{known_agent, with_agent, add_provider, add_aggregator, add_requester, with_stp, add_stp, with_sdp, add_sdp, with_child, add_child, word, is_form, line_of}
-use Rattle.stp_topology.proofs.SoundLemmas.{first_step, agent_sound, stp_sound, sdp_sound, child_sound, known_provider, known_aggregator, known_within, stp_within}
+use Rattle.stp_topology.proofs.SoundLemmas.{first_step, agent_sound, stp_sound, sdp_sound, child_sound, known_provider, known_aggregator, known_takes, known_within, stp_within}
 
 provider_sound : (t new : Network) (name hold : List ℕ) → IsSound t → add_provider t name hold ≡ Ok new → IsSound new
 unfolding add_provider
@@ -33,7 +33,7 @@ requester_sound t new name agent s h =
     let b = first_step (name_form agent) (λ p. known_agent t sorts.Either p >>= λ i. with_agent t a.0 (Requester i)) new a.2 in
     let c = first_step (known_agent t sorts.Either b.0) (λ i. with_agent t a.0 (Requester i)) new b.2 in
     let w = known_within t sorts.Either b.0 c.0 s c.1 in
-    agent_sound t new a.0 (Requester c.0) s (λ p e. let q : c.0 ≡ p = cc in rw (← q) w) c.2
+    agent_sound t new a.0 (Requester c.0) s (λ p e. let q : c.0 ≡ p = cc in (rw (← q) w, subst (TakesRequests t) q (known_takes t b.0 c.0 c.1))) c.2
 
 points_sound : (t new : Network) (provider name capacity : List ℕ) → IsSound t → add_stp t provider name capacity ≡ Ok new → IsSound new
 unfolding add_stp
@@ -60,7 +60,7 @@ childs_sound t new parent child s h =
     let b = first_step (name_form child) (λ b. known_agent t sorts.OneAggregator a.0 >>= λ i. known_agent t sorts.Either b >>= λ j. with_child t i j) new a.2 in
     let c = first_step (known_agent t sorts.OneAggregator a.0) (λ i. known_agent t sorts.Either b.0 >>= λ j. with_child t i j) new b.2 in
     let d = first_step (known_agent t sorts.Either b.0) (λ j. with_child t c.0 j) new c.2 in
-    child_sound t new c.0 d.0 s (known_aggregator t a.0 c.0 c.1) (known_within t sorts.Either b.0 d.0 s d.1) d.2
+    child_sound t new c.0 d.0 s (known_aggregator t a.0 c.0 c.1) (known_takes t b.0 d.0 d.1) (known_within t sorts.Either b.0 d.0 s d.1) d.2
 
 either : (b : Bool) (x y : Result Network TopologyFault) (new : Network) → (x ≡ Ok new → IsSound new) → (y ≡ Ok new → IsSound new) → cond b x y ≡ Ok new → IsSound new
 either true x y new f g h = f h

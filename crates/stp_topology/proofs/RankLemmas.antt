@@ -9,10 +9,10 @@ use Rattle.stp_topology.specs.Network.{Network, AgentKind, children_of}
 use Rattle.stp_topology.specs.Lines.{is_of, is_aggregator, stands_over, is_too_deep}
 use Rattle.stp_topology.specs.Rank.{rank_to, rank_of}
 
-neither_of : (a b : Bool) → (a || b) ≡ false → (a ≡ false) × (b ≡ false)
+pub neither_of : (a b : Bool) → (a || b) ≡ false → (a ≡ false) × (b ≡ false)
 neither_of a b h = (grind arith, grind arith)
 
-no_both : (a b : Bool) → (a && b) ≡ false → a ≡ true → b ≡ false
+pub no_both : (a b : Bool) → (a && b) ≡ false → a ≡ true → b ≡ false
 no_both a b h t = grind arith
 
 -- the greatest rank of the children, where each that passes the bound is one of those that there are none of
@@ -29,7 +29,7 @@ greatest_within r q m a low (e ∷ es) b l h =
     by_test false f next = next b l
 
 -- an agent's rank is at most the number of aggregators that can't stand below it
-rank_within : (t : Network) (n m a : ℕ) → (is_aggregator t.kinds a && stands_over t.kinds t.children m a) ≡ false → rank_to n t a ≤ m
+pub rank_within : (t : Network) (n m a : ℕ) → (is_aggregator t.kinds a && stands_over t.kinds t.children m a) ≡ false → rank_to n t a ≤ m
 unfolding rank_to stands_over
 rank_within t zero m a h = omega arith
 rank_within t (suc n) zero a h = by_test (is_aggregator t.kinds a) h
@@ -67,12 +67,17 @@ not_over kinds pairs a h t = none_over (λ x. stands_over kinds pairs 4 x) (λ (
 and_false : (a : Bool) → (a && false) ≡ false
 and_false a = grind arith
 
-pub rank_at_most_4 : (t : Network) (a : ℕ) → is_too_deep t.kinds t.children ≡ false → rank_of t a ≤ 4
-rank_at_most_4 t a h =
-    let none = false_if_not_true (stands_over t.kinds t.children 4 a) (not_over t.kinds t.children a h) in
-    rank_within t 5 4 a (ap (λ b. is_aggregator t.kinds a && b) none ∙ and_false (is_aggregator t.kinds a))
+-- no agent stands over four aggregators
+pub none_over_four : (kinds : List AgentKind) (pairs : List (ℕ × ℕ)) (a : ℕ) → is_too_deep kinds pairs ≡ false → stands_over kinds pairs 4 a ≡ false
+none_over_four kinds pairs a h = false_if_not_true (stands_over kinds pairs 4 a) (not_over kinds pairs a h)
 
-before : {X : Type 0} (xs ys : List X) (k : ℕ) → k < length xs → slice_get (xs ++ ys) k ≡ slice_get xs k
+pub none_four : (kinds : List AgentKind) (pairs : List (ℕ × ℕ)) (a : ℕ) → is_too_deep kinds pairs ≡ false → (is_aggregator kinds a && stands_over kinds pairs 4 a) ≡ false
+none_four kinds pairs a h = ap (λ b. is_aggregator kinds a && b) (none_over_four kinds pairs a h) ∙ and_false (is_aggregator kinds a)
+
+pub rank_at_most_4 : (t : Network) (a : ℕ) → is_too_deep t.kinds t.children ≡ false → rank_of t a ≤ 4
+rank_at_most_4 t a h = rank_within t 5 4 a (none_four t.kinds t.children a h)
+
+pub before : {X : Type 0} (xs ys : List X) (k : ℕ) → k < length xs → slice_get (xs ++ ys) k ≡ slice_get xs k
 before [] ys k l = absurd (omega arith)
 before (x ∷ xs) ys zero l = refl
 before (x ∷ xs) ys (suc k) l = before xs ys k (omega arith)

@@ -47,6 +47,21 @@ faults :
 unfolding lines_to feed_at value_from number_of words_of known_agent with_agent add_provider add_aggregator add_requester with_stp add_stp with_sdp add_sdp leads_down stands_over with_child add_child line_of of_line read_lines behind_lines
 faults = (refl, refl, refl, refl, refl, refl, refl, refl, refl, refl, refl, refl)
 
+-- an aggregator below itself, over two, three and four agents
+cycles :
+    (topology_of (codes "agent a aggregator\nagent b aggregator\nchild a b\nchild b a") ≡ Err (4, Cycle))
+    × (topology_of (codes "agent a aggregator\nagent b aggregator\nagent c aggregator\nchild a b\nchild b c\nchild c a") ≡ Err (6, Cycle))
+    × (topology_of (codes "agent a aggregator\nagent b aggregator\nagent c aggregator\nagent d aggregator\nchild c d\nchild a b\nchild b c\nchild d a") ≡ Err (8, Cycle))
+unfolding lines_to feed_at value_from number_of words_of known_agent with_agent add_provider add_aggregator add_requester with_stp add_stp with_sdp add_sdp leads_down stands_over with_child add_child line_of of_line read_lines behind_lines
+cycles = (refl, refl, refl)
+
+-- two chains of two and three aggregators joined, and a pair that stands there already
+deep_between :
+    (topology_of (codes "agent a aggregator\nagent b aggregator\nagent c aggregator\nagent d aggregator\nagent e aggregator\nchild a b\nchild c d\nchild d e\nchild b c") ≡ Err (9, TooDeep))
+    × (topology_of (codes "agent a aggregator\nagent b aggregator\nchild a b\nchild a b") ≡ Err (4, Twice))
+unfolding lines_to feed_at value_from number_of words_of known_agent with_agent add_provider add_aggregator add_requester with_stp add_stp with_sdp add_sdp leads_down stands_over with_child add_child line_of of_line read_lines behind_lines
+deep_between = (refl, refl)
+
 -- the fifth aggregator one over the other
 depths : topology_of (codes "agent p provider 1\nagent a aggregator\nagent b aggregator\nagent c aggregator\nagent d aggregator\nagent e aggregator\nchild a p\nchild b a\nchild c b\nchild d c\nchild e d") ≡ Err (11, TooDeep)
 unfolding lines_to feed_at value_from number_of words_of known_agent with_agent add_provider add_aggregator add_requester with_stp add_stp with_sdp add_sdp leads_down stands_over with_child add_child line_of of_line read_lines behind_lines

@@ -9,21 +9,17 @@ use Rattle.stp_topology.specs.declared.fault.TopologyFault.TheVariants.{Unknown,
 use Rattle.stp_topology.specs.declared.network.AgentKind.TheVariants.{Provider, Aggregator, Requester}
 use Rattle.stp_topology.specs.declared.declare.Sort.{Sort}
 use Rattle.stp_topology.specs.declared.declare.Sort.TheVariants as sorts
-use Rattle.stp_topology.proofs.RankLemmas.{deep_same}
+use Rattle.stp_topology.proofs.RankLemmas.{before, deep_same}
+use Rattle.stp_topology.proofs.NameLemmas.{at_push, names_after}
 use Rattle.stp_topology.specs.Faults.{◌>>=◌, value_or}
 use Rattle.stp_topology.specs.Names.{place_of}
 use Rattle.stp_topology.specs.Network.{Network, AgentKind, agent_of, stp_of, nothing, is_provider}
-use Rattle.stp_topology.specs.Sound.{IsSound, IsProvider, IsAggregator}
+use Rattle.stp_topology.specs.Laws.{child_after}
+use Rattle.stp_topology.proofs.PairLemmas.{no_pair}
+use Rattle.stp_topology.specs.Sound.{IsSound, IsProvider, IsAggregator, TakesRequests}
 use Rattle.stp_topology.specs.Lines.{is_of, known_agent, with_agent, with_stp, is_joined, are_same, with_sdp, has_pair, leads_down, is_too_deep, with_child}
 
--- where an element stands that a longer list has
-at_push : {X : Type 0} (xs : List X) (y z : X) (k : ℕ) → slice_get (xs ++ y ∷ []) k ≡ Some z → (slice_get xs k ≡ Some z) ⊎ ((k ≡ length xs) × (y ≡ z))
-at_push [] y z zero h = inr (refl, cc)
-at_push [] y z (suc k) h = cc
-at_push (x ∷ xs) y z zero h = inl h
-at_push (x ∷ xs) y z (suc k) h = elim (at_push xs y z k h) [ inl e ↦ inl e | inr e ↦ inr (ap suc e.0, e.1) ]
-
-stays_at : {X : Type 0} (xs ys : List X) (z : X) (k : ℕ) → slice_get xs k ≡ Some z → slice_get (xs ++ ys) k ≡ Some z
+pub stays_at : {X : Type 0} (xs ys : List X) (z : X) (k : ℕ) → slice_get xs k ≡ Some z → slice_get (xs ++ ys) k ≡ Some z
 stays_at [] ys z k h = cc
 stays_at (x ∷ xs) ys z zero h = h
 stays_at (x ∷ xs) ys z (suc k) h = stays_at xs ys z k h
@@ -63,13 +59,24 @@ nothing_sound = record {
   parents = λ k e h. cc;
   children = λ k e h. cc;
   depth = refl;
+  agents = λ a name h. cc;
+  stps = λ s name h. cc;
+  apart = λ s p h. cc;
+  answering = λ k e h. cc;
+  once = λ k l e h g. cc;
 }
+
+-- an agent more leaves the others what they are
+takes_still : (ks : List AgentKind) (kind : AgentKind) (a : ℕ) → ((hold : ℕ) × (slice_get ks a ≡ Some (Provider hold))) ⊎ (slice_get ks a ≡ Some Aggregator)
+    → ((hold : ℕ) × (slice_get (ks ++ kind ∷ []) a ≡ Some (Provider hold))) ⊎ (slice_get (ks ++ kind ∷ []) a ≡ Some Aggregator)
+takes_still ks kind a (inl p) = inl (p.0, stays_at ks (kind ∷ []) (Provider p.0) a p.1)
+takes_still ks kind a (inr g) = inr (stays_at ks (kind ∷ []) Aggregator a g)
 
 abbrev agent_after : Network → List ℕ → AgentKind → Network
 agent_after t name kind = record t { agents = t.agents ++ name ∷ []; kinds = t.kinds ++ kind ∷ [] }
 
-agent_made : (t : Network) (name : List ℕ) (kind : AgentKind) → IsSound t → ((p : ℕ) → kind ≡ Requester p → p < length t.agents) → length t.agents + 1 ≤ 64 → IsSound (agent_after t name kind)
-agent_made t name kind i asks few = record {
+agent_made : (t : Network) (name : List ℕ) (kind : AgentKind) → IsSound t → ((p : ℕ) → kind ≡ Requester p → (p < length t.agents) × TakesRequests t p) → agent_of t name ≡ None → length t.agents + 1 ≤ 64 → IsSound (agent_after t name kind)
+agent_made t name kind i asks new few = record {
   fit = record {
     few_agents = omega (arith, pushed t.agents name);
     few_stps = i.fit.few_stps;
@@ -80,29 +87,46 @@ agent_made t name kind i asks few = record {
   };
   owned = λ s a h. let p = i.owned s a h in (p.0, stays_at t.kinds (kind ∷ []) (Provider p.0) a p.1);
   asked = λ a p h. elim (at_push t.kinds kind (Requester p) a h) [
-    | inl e ↦ omega (arith, pushed t.agents name, i.asked a p e)
-    | inr e ↦ omega (arith, pushed t.agents name, asks p e.1)
+    | inl e ↦ let old = i.asked a p e in (old.0, takes_still t.kinds kind p old.1)
+    | inr e ↦ let now = asks p e.1 in (omega (arith, i.fit.kinds, e.0, now.0), takes_still t.kinds kind p now.1)
   ];
   joined = i.joined;
   parents = λ k e h. stays_at t.kinds (kind ∷ []) Aggregator e.0 (i.parents k e h);
   children = λ k e h. omega (arith, pushed t.agents name, i.children k e h);
   depth = deep_same t.kinds kind t.children (λ k e h. omega (arith, i.children k e h, i.fit.kinds)) ∙ i.depth;
+  agents = names_after t.agents name new i.agents;
+  stps = i.stps;
+  apart = i.apart;
+  answering = λ k e h. takes_still t.kinds kind e.1 (i.answering k e h);
+  once = i.once;
 }
 
-pub agent_sound : (t new : Network) (name : List ℕ) (kind : AgentKind) → IsSound t → ((p : ℕ) → kind ≡ Requester p → p < length t.agents) → with_agent t name kind ≡ Ok new → IsSound new
+is_absent : (o : Option ℕ) → is_some o ≡ false → o ≡ None
+is_absent None h = refl
+is_absent (Some a) h = cc
+
+pub agent_sound : (t new : Network) (name : List ℕ) (kind : AgentKind) → IsSound t → ((p : ℕ) → kind ≡ Requester p → (p < length t.agents) × TakesRequests t p) → with_agent t name kind ≡ Ok new → IsSound new
 unfolding with_agent
 agent_sound t new name kind i asks h =
     let a = passes (is_some (agent_of t name)) Twice _ new h in
     let b = passes (nat_le 64 (length t.agents)) Limit _ new a.1 in
     let few : length t.agents + 1 ≤ 64 = grind (arith, nat_tests, b.0) in
     let same : agent_after t name kind ≡ new = cc in
-    subst IsSound same (agent_made t name kind i asks few)
+    subst IsSound same (agent_made t name kind i asks (is_absent (agent_of t name) a.0) few)
 
 abbrev stp_after : Network → List ℕ → ℕ → ℕ → Network
 stp_after t name owner capacity = record t { stps = t.stps ++ name ∷ []; owners = t.owners ++ owner ∷ []; capacities = t.capacities ++ capacity ∷ []; partners = t.partners ++ None ∷ [] }
 
-stp_made : (t : Network) (name : List ℕ) (owner capacity : ℕ) → IsSound t → IsProvider t owner → length t.stps + 1 ≤ 4096 → IsSound (stp_after t name owner capacity)
-stp_made t name owner capacity i own few = record {
+-- points that are joined have their owners still
+apart_still : (t : Network) (owner s p : ℕ) → IsSound t → slice_get t.partners s ≡ Some (Some p) → slice_get (t.owners ++ owner ∷ []) s ≢ slice_get (t.owners ++ owner ∷ []) p
+apart_still t owner s p i h e =
+    let there : length t.partners ≡ length t.owners = i.fit.partners ∙ sym i.fit.owners in
+    let at_s = before t.owners (owner ∷ []) s (omega (arith, there, slice_get_within t.partners s (Some p) h)) in
+    let at_p = before t.owners (owner ∷ []) p (omega (arith, there, slice_get_within t.partners p (Some s) (i.joined s p h))) in
+    i.apart s p h (sym at_s ∙ (e ∙ at_p))
+
+stp_made : (t : Network) (name : List ℕ) (owner capacity : ℕ) → IsSound t → IsProvider t owner → stp_of t name ≡ None → length t.stps + 1 ≤ 4096 → IsSound (stp_after t name owner capacity)
+stp_made t name owner capacity i own new few = record {
   fit = record {
     few_agents = i.fit.few_agents;
     few_stps = omega (arith, pushed t.stps name);
@@ -117,6 +141,11 @@ stp_made t name owner capacity i own few = record {
   parents = i.parents;
   children = i.children;
   depth = i.depth;
+  agents = i.agents;
+  stps = names_after t.stps name new i.stps;
+  apart = λ s p h. elim (at_push t.partners None (Some p) s h) [ inl e ↦ apart_still t owner s p i e | inr e ↦ cc ];
+  answering = i.answering;
+  once = i.once;
 }
 
 pub stp_sound : (t new : Network) (name : List ℕ) (owner capacity : ℕ) → IsSound t → IsProvider t owner → with_stp t name owner capacity ≡ Ok new → IsSound new
@@ -126,7 +155,7 @@ stp_sound t new name owner capacity i own h =
     let b = passes (nat_le 4096 (length t.stps)) Limit _ new a.1 in
     let few : length t.stps + 1 ≤ 4096 = grind (arith, nat_tests, b.0) in
     let same : stp_after t name owner capacity ≡ new = cc in
-    subst IsSound same (stp_made t name owner capacity i own few)
+    subst IsSound same (stp_made t name owner capacity i own (is_absent (stp_of t name) a.0) few)
 
 -- a point in range with no partner
 alone : (o : Option (Option ℕ)) → is_joined o ≡ false → o ≢ None → o ≡ Some None
@@ -171,11 +200,21 @@ module _ (P : List (Option ℕ)) (i j : ℕ) (pi : slice_get P i ≡ Some None) 
           let back = old s p before in
           at_other p (λ e. absurd (cc (ap (slice_get P) e, pi, back))) (λ e. absurd (cc (ap (slice_get P) e, pj, back))) ∙ back
 
+  -- and they have two owners
+  of_two : (owners : List ℕ) → slice_get owners i ≢ slice_get owners j → ((s p : ℕ) → slice_get P s ≡ Some (Some p) → slice_get owners s ≢ slice_get owners p)
+      → (s p : ℕ) → slice_get pairs s ≡ Some (Some p) → slice_get owners s ≢ slice_get owners p
+  of_two owners two old s p h = by_place (cases_eq s i) (cases_eq s j)
+    where
+      by_place : (s ≡ i) ⊎ (s ≢ i) → (s ≡ j) ⊎ (s ≢ j) → slice_get owners s ≢ slice_get owners p
+      by_place (inl e) d g = let q : p ≡ j = cc (ap (slice_get pairs) e, at_i, h) in two (ap (slice_get owners) (sym e) ∙ (g ∙ ap (slice_get owners) q))
+      by_place (inr n) (inl e) g = let q : p ≡ i = cc (ap (slice_get pairs) e, at_j, h) in two (ap (slice_get owners) (sym q) ∙ (sym g ∙ ap (slice_get owners) e))
+      by_place (inr n) (inr m) g = old s p (sym (at_other s n m) ∙ h) g
+
 abbrev sdp_after : Network → ℕ → ℕ → Network
 sdp_after t i j = record t { partners = slice_set (slice_set t.partners i (Some j)) j (Some i) }
 
-sdp_made : (t : Network) (i j : ℕ) → IsSound t → slice_get t.partners i ≡ Some None → slice_get t.partners j ≡ Some None → i ≢ j → IsSound (sdp_after t i j)
-sdp_made t i j s pi pj apart = record {
+sdp_made : (t : Network) (i j : ℕ) → IsSound t → slice_get t.partners i ≡ Some None → slice_get t.partners j ≡ Some None → i ≢ j → slice_get t.owners i ≢ slice_get t.owners j → IsSound (sdp_after t i j)
+sdp_made t i j s pi pj apart two = record {
   fit = record {
     few_agents = s.fit.few_agents;
     few_stps = s.fit.few_stps;
@@ -190,6 +229,11 @@ sdp_made t i j s pi pj apart = record {
   parents = s.parents;
   children = s.children;
   depth = s.depth;
+  agents = s.agents;
+  stps = s.stps;
+  apart = of_two t.partners i j pi pj apart t.owners two s.apart;
+  answering = s.answering;
+  once = s.once;
 }
 
 pub sdp_sound : (t new : Network) (i j : ℕ) → IsSound t → i < length t.stps → j < length t.stps → with_sdp t i j ≡ Ok new → IsSound new
@@ -199,15 +243,24 @@ sdp_sound t new i j s li lj h =
     let n = neither (is_joined (slice_get t.partners i)) (is_joined (slice_get t.partners j)) (are_same (slice_get t.owners i) (slice_get t.owners j)) a.0 in
     let pi = alone (slice_get t.partners i) n.0 (there t.partners i (omega (arith, s.fit.partners))) in
     let pj = alone (slice_get t.partners j) n.1 (there t.partners j (omega (arith, s.fit.partners))) in
-    let apart : i ≢ j = λ e. there t.owners i (omega (arith, s.fit.owners)) (same_itself (slice_get t.owners i) (subst (λ k. are_same (slice_get t.owners i) (slice_get t.owners k) ≡ false) (sym e) n.2)) in
+    let two : slice_get t.owners i ≢ slice_get t.owners j = λ e. there t.owners i (omega (arith, s.fit.owners)) (same_itself (slice_get t.owners i) (subst (λ o. are_same (slice_get t.owners i) o ≡ false) (sym e) n.2)) in
+    let apart : i ≢ j = λ e. two (ap (slice_get t.owners) e) in
     let same : sdp_after t i j ≡ new = cc in
-    subst IsSound same (sdp_made t i j s pi pj apart)
+    subst IsSound same (sdp_made t i j s pi pj apart two)
 
-abbrev child_after : Network → ℕ → ℕ → Network
-child_after t i j = record t { children = t.children ++ (i, j) ∷ [] }
+-- a pair that wasn't there stands once
+once_still : (pairs : List (ℕ × ℕ)) (i j : ℕ) → has_pair pairs i j ≡ false → ((k l : ℕ) (e : ℕ × ℕ) → slice_get pairs k ≡ Some e → slice_get pairs l ≡ Some e → k ≡ l)
+    → (k l : ℕ) (e : ℕ × ℕ) → slice_get (pairs ++ (i, j) ∷ []) k ≡ Some e → slice_get (pairs ++ (i, j) ∷ []) l ≡ Some e → k ≡ l
+once_still pairs i j new old k l e h g = by_place (at_push pairs (i, j) e k h) (at_push pairs (i, j) e l g)
+  where
+    by_place : (slice_get pairs k ≡ Some e) ⊎ ((k ≡ length pairs) × ((i, j) ≡ e)) → (slice_get pairs l ≡ Some e) ⊎ ((l ≡ length pairs) × ((i, j) ≡ e)) → k ≡ l
+    by_place (inl a) (inl b) = old k l e a b
+    by_place (inl a) (inr b) = absurd (no_pair pairs i j k new (a ∙ ap (λ x. Some x) (sym b.1)))
+    by_place (inr a) (inl b) = absurd (no_pair pairs i j l new (b ∙ ap (λ x. Some x) (sym a.1)))
+    by_place (inr a) (inr b) = a.0 ∙ sym b.0
 
-child_made : (t : Network) (i j : ℕ) → IsSound t → IsAggregator t i → j < length t.agents → is_too_deep t.kinds (t.children ++ (i, j) ∷ []) ≡ false → IsSound (child_after t i j)
-child_made t i j s p l d = record {
+child_made : (t : Network) (i j : ℕ) → IsSound t → IsAggregator t i → TakesRequests t j → has_pair t.children i j ≡ false → j < length t.agents → is_too_deep t.kinds (t.children ++ (i, j) ∷ []) ≡ false → IsSound (child_after t i j)
+child_made t i j s p r new l d = record {
   fit = record {
     few_agents = s.fit.few_agents;
     few_stps = s.fit.few_stps;
@@ -222,16 +275,21 @@ child_made t i j s p l d = record {
   parents = λ k e h. elim (at_push t.children (i, j) e k h) [ inl q ↦ s.parents k e q | inr q ↦ subst (λ (x : ℕ × ℕ). IsAggregator t x.0) q.1 p ];
   children = λ k e h. elim (at_push t.children (i, j) e k h) [ inl q ↦ s.children k e q | inr q ↦ subst (λ (x : ℕ × ℕ). x.1 < length t.agents) q.1 l ];
   depth = d;
+  agents = s.agents;
+  stps = s.stps;
+  apart = s.apart;
+  answering = λ k e h. elim (at_push t.children (i, j) e k h) [ inl q ↦ s.answering k e q | inr q ↦ subst (λ (x : ℕ × ℕ). TakesRequests t x.1) q.1 r ];
+  once = once_still t.children i j new s.once;
 }
 
-pub child_sound : (t new : Network) (i j : ℕ) → IsSound t → IsAggregator t i → j < length t.agents → with_child t i j ≡ Ok new → IsSound new
+pub child_sound : (t new : Network) (i j : ℕ) → IsSound t → IsAggregator t i → TakesRequests t j → j < length t.agents → with_child t i j ≡ Ok new → IsSound new
 unfolding with_child
-child_sound t new i j s p l h =
+child_sound t new i j s p r l h =
     let a = passes (has_pair t.children i j) Twice _ new h in
     let b = passes (leads_down t.children 4 j i) Cycle _ new a.1 in
     let c = passes (is_too_deep t.kinds (t.children ++ (i, j) ∷ [])) TooDeep _ new b.1 in
     let same : child_after t i j ≡ new = cc in
-    subst IsSound same (child_made t i j s p l c.0)
+    subst IsSound same (child_made t i j s p r a.0 l c.0)
 
 -- an agent of a sort
 of_sort : (sort : Sort) (o : Option AgentKind) → is_of sort o ≡ true → (k : AgentKind) × (o ≡ Some k)
@@ -252,6 +310,12 @@ one_aggregator (Some (Provider hold)) h = cc
 one_aggregator (Some Aggregator) h = refl
 one_aggregator (Some (Requester p)) h = cc
 
+of_either : (o : Option AgentKind) → is_of sorts.Either o ≡ true → ((hold : ℕ) × (o ≡ Some (Provider hold))) ⊎ (o ≡ Some Aggregator)
+of_either None h = cc
+of_either (Some (Provider hold)) h = inl (hold, refl)
+of_either (Some Aggregator) h = inr refl
+of_either (Some (Requester p)) h = cc
+
 known_test : (b : Bool) (a i : ℕ) → cond {A = Result ℕ TopologyFault} b (Ok a) (Err Unknown) ≡ Ok i → (b ≡ true) × (a ≡ i)
 known_test true a i h = (refl, cc)
 known_test false a i h = cc
@@ -268,6 +332,9 @@ known_provider t name i h = one_provider (slice_get t.kinds i) (known_of t sorts
 
 pub known_aggregator : (t : Network) (name : List ℕ) (i : ℕ) → known_agent t sorts.OneAggregator name ≡ Ok i → IsAggregator t i
 known_aggregator t name i h = one_aggregator (slice_get t.kinds i) (known_of t sorts.OneAggregator name i h)
+
+pub known_takes : (t : Network) (name : List ℕ) (i : ℕ) → known_agent t sorts.Either name ≡ Ok i → TakesRequests t i
+known_takes t name i h = of_either (slice_get t.kinds i) (known_of t sorts.Either name i h)
 
 pub known_within : (t : Network) (sort : Sort) (name : List ℕ) (i : ℕ) → IsSound t → known_agent t sort name ≡ Ok i → i < length t.agents
 known_within t sort name i s h =

@@ -6,4 +6,5 @@ pub mod Network
 pub mod Sound
 pub mod Lines
 pub mod Rank
+pub mod Laws
 pub mod Text

@@ -5,6 +5,7 @@ mod child_lines;
 mod children;
 mod declare;
 pub mod fault;
+mod laws;
 mod names;
 mod network;
 mod partners;
@@ -15,6 +16,7 @@ pub mod words;
 
 pub use children::ChildLines;
 pub use fault::{LineRefusal, TopologyFault, TopologyRefusal};
+pub use laws::every_topology;
 pub use names::Names;
 pub use network::{AgentKind, Network};
 pub use partners::Partners;

@@ -1,7 +1,8 @@
 //! Each call once, and the limits.
 
 use crate::{
-    AgentKind, LineRefusal, Taken, Topology, TopologyFault, TopologyRefusal, read_topology,
+    AgentKind, LineRefusal, Taken, Topology, TopologyFault, TopologyRefusal, every_topology,
+    read_topology,
 };
 use nsi_base::{AgentNo, Flow, Mbps, StpNo};
 use std::alloc::{AllocError, Global};
@@ -69,6 +70,8 @@ fn tells_agents(rt: HostRuntime) {
 
 fn point_is_told(topology: &Topology) -> bool {
     topology.facts();
+    topology.laws();
+    every_topology();
     match topology.stp_of(b"C") {
         Some(s) => {
             topology.stp_name(s).bytes() == b"C".as_slice()
@@ -161,6 +164,61 @@ fn finds_a_fault(rt: HostRuntime) {
         }
         _ => assert!(rt; false),
     }
+}
+
+fn has_fault(alloc: Global, text: &[u8], line: u32, fault: TopologyFault) -> bool {
+    match read_topology(alloc, text) {
+        Err(
+            TopologyRefusal::Fault {
+                line: number,
+                fault: found,
+            },
+        ) => number == line && found == fault,
+        _ => false,
+    }
+}
+
+const TWO_IN_A_RING: &[u8] = b"agent a aggregator
+agent b aggregator
+child a b
+child b a
+";
+
+const THREE_IN_A_RING: &[u8] = b"agent a aggregator
+agent b aggregator
+agent c aggregator
+child a b
+child b c
+child c a
+";
+
+const FOUR_IN_A_RING: &[u8] = b"agent a aggregator
+agent b aggregator
+agent c aggregator
+agent d aggregator
+child c d
+child a b
+child b c
+child d a
+";
+
+const FIVE_IN_A_ROW: &[u8] = b"agent a aggregator
+agent b aggregator
+agent c aggregator
+agent d aggregator
+agent e aggregator
+child a b
+child c d
+child d e
+child b c
+";
+
+#[test]
+fn finds_rings_and_a_fifth_level(rt: HostRuntime) {
+    assert!(rt; has_fault(rt.alloc(), TWO_IN_A_RING, 4, TopologyFault::Cycle));
+    assert!(rt; has_fault(rt.alloc(), THREE_IN_A_RING, 6, TopologyFault::Cycle));
+    assert!(rt; has_fault(rt.alloc(), FOUR_IN_A_RING, 8, TopologyFault::Cycle));
+    assert!(rt; has_fault(rt.alloc(), FIVE_IN_A_ROW, 9, TopologyFault::TooDeep));
 }
 
 /// As many lines as there are numbers, each with a number of four digits, and no ends between them.
