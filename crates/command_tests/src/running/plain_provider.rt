@@ -1,7 +1,7 @@
 //! Random lines, and what another provider answers, which was written from the rules alone.
 
 use super::{in_full, run_whole};
-use crate::data::plain_provider::{SEED_8, SEED_240, SEED_370, SEED_539, SEED_959, SEED_1395};
+use crate::data::plain_provider::{FIRST_TWO, LAST_TWO, NEXT_TWO};
 use std::alloc::{AllocError, Global};
 use std::test::Fail;
 
@@ -20,49 +20,28 @@ fn is_answered_as(
 }
 
 #[test]
-fn seed_8(rt: HostRuntime) -> Result<(), Fail> {
-    let (most, input, status, written) = &SEED_8;
-    let is_right = is_answered_as(rt.alloc(), most, input, *status, written)?;
-    assert!(rt; is_right);
+fn first_seeds_are_answered(rt: HostRuntime) -> Result<(), Fail> {
+    for (what, most, input, status, written) in &FIRST_TWO {
+        let is_right = is_answered_as(rt.alloc(), most, input, *status, written)?;
+        assert!(rt; is_right, "{what}");
+    }
     Ok(())
 }
 
 #[test]
-fn seed_240(rt: HostRuntime) -> Result<(), Fail> {
-    let (most, input, status, written) = &SEED_240;
-    let is_right = is_answered_as(rt.alloc(), most, input, *status, written)?;
-    assert!(rt; is_right);
+fn next_seeds_are_answered(rt: HostRuntime) -> Result<(), Fail> {
+    for (what, most, input, status, written) in &NEXT_TWO {
+        let is_right = is_answered_as(rt.alloc(), most, input, *status, written)?;
+        assert!(rt; is_right, "{what}");
+    }
     Ok(())
 }
 
 #[test]
-fn seed_370(rt: HostRuntime) -> Result<(), Fail> {
-    let (most, input, status, written) = &SEED_370;
-    let is_right = is_answered_as(rt.alloc(), most, input, *status, written)?;
-    assert!(rt; is_right);
-    Ok(())
-}
-
-#[test]
-fn seed_539(rt: HostRuntime) -> Result<(), Fail> {
-    let (most, input, status, written) = &SEED_539;
-    let is_right = is_answered_as(rt.alloc(), most, input, *status, written)?;
-    assert!(rt; is_right);
-    Ok(())
-}
-
-#[test]
-fn seed_959(rt: HostRuntime) -> Result<(), Fail> {
-    let (most, input, status, written) = &SEED_959;
-    let is_right = is_answered_as(rt.alloc(), most, input, *status, written)?;
-    assert!(rt; is_right);
-    Ok(())
-}
-
-#[test]
-fn seed_1395(rt: HostRuntime) -> Result<(), Fail> {
-    let (most, input, status, written) = &SEED_1395;
-    let is_right = is_answered_as(rt.alloc(), most, input, *status, written)?;
-    assert!(rt; is_right);
+fn last_seeds_are_answered(rt: HostRuntime) -> Result<(), Fail> {
+    for (what, most, input, status, written) in &LAST_TWO {
+        let is_right = is_answered_as(rt.alloc(), most, input, *status, written)?;
+        assert!(rt; is_right, "{what}");
+    }
     Ok(())
 }
