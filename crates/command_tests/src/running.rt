@@ -8,6 +8,7 @@ mod kinds;
 mod modifications;
 mod outside;
 mod paths;
+mod plain_provider;
 mod provisioning;
 mod rows;
 mod terminating;

@@ -11,35 +11,188 @@ use stp_topology::{Topology, read_topology};
 const ROWS: [(&str, &str); 8] = [
     (
         "Two joins between two providers; the one that stands first joins the points that stand last.",
-        "agent p1 provider 60\nagent p2 provider 60\nagent a1 aggregator\nstp p1 A 1\nstp p1 B 1\nstp p1 E 1\nstp p2 F 1\nstp p2 C 1\nstp p2 D 1\nsdp E F\nsdp B C\nchild a1 p2\nchild a1 p1\n---\n",
+        r"agent p1 provider 60
+agent p2 provider 60
+agent a1 aggregator
+stp p1 A 1
+stp p1 B 1
+stp p1 E 1
+stp p2 F 1
+stp p2 C 1
+stp p2 D 1
+sdp E F
+sdp B C
+child a1 p2
+child a1 p1
+---
+",
     ),
     (
         "A ring of three providers, of which two are below another aggregator too.",
-        "agent p1 provider 60\nagent p2 provider 60\nagent p3 provider 60\nagent a1 aggregator\nagent a2 aggregator\nstp p1 A 1\nstp p1 B 1\nstp p1 G 1\nstp p2 C 1\nstp p2 D 1\nstp p3 E 1\nstp p3 F 1\nsdp B C\nsdp D E\nsdp F A\nchild a2 p3\nchild a2 p1\nchild a1 p3\nchild a1 p1\nchild a1 p2\nchild a1 a2\n---\n",
+        r"agent p1 provider 60
+agent p2 provider 60
+agent p3 provider 60
+agent a1 aggregator
+agent a2 aggregator
+stp p1 A 1
+stp p1 B 1
+stp p1 G 1
+stp p2 C 1
+stp p2 D 1
+stp p3 E 1
+stp p3 F 1
+sdp B C
+sdp D E
+sdp F A
+child a2 p3
+child a2 p1
+child a1 p3
+child a1 p1
+child a1 p2
+child a1 a2
+---
+",
     ),
     (
         "A ring of two providers below an aggregator, and a third provider beside it: a way round to the same point is no segment.",
-        "agent p1 provider 60\nagent p2 provider 60\nagent p3 provider 60\nagent a1 aggregator\nagent a2 aggregator\nstp p1 A 1\nstp p1 B 1\nstp p1 E 1\nstp p2 C 1\nstp p2 D 1\nstp p3 Y 1\nstp p3 Z 1\nsdp B C\nsdp D E\nsdp Z A\nchild a2 p1\nchild a2 p2\nchild a1 a2\nchild a1 p3\n---\n",
+        r"agent p1 provider 60
+agent p2 provider 60
+agent p3 provider 60
+agent a1 aggregator
+agent a2 aggregator
+stp p1 A 1
+stp p1 B 1
+stp p1 E 1
+stp p2 C 1
+stp p2 D 1
+stp p3 Y 1
+stp p3 Z 1
+sdp B C
+sdp D E
+sdp Z A
+child a2 p1
+child a2 p2
+child a1 a2
+child a1 p3
+---
+",
     ),
     (
         "Three providers in a row, of which two aggregators have two each.",
-        "agent p1 provider 60\nagent p2 provider 60\nagent p3 provider 60\nagent a1 aggregator\nagent a2 aggregator\nagent a3 aggregator\nstp p1 A 1\nstp p1 B 1\nstp p2 C 1\nstp p2 D 1\nstp p3 E 1\nstp p3 F 1\nsdp B C\nsdp D E\nchild a2 p1\nchild a2 p2\nchild a3 p2\nchild a3 p3\nchild a1 a3\nchild a1 a2\n---\n",
+        r"agent p1 provider 60
+agent p2 provider 60
+agent p3 provider 60
+agent a1 aggregator
+agent a2 aggregator
+agent a3 aggregator
+stp p1 A 1
+stp p1 B 1
+stp p2 C 1
+stp p2 D 1
+stp p3 E 1
+stp p3 F 1
+sdp B C
+sdp D E
+child a2 p1
+child a2 p2
+child a3 p2
+child a3 p3
+child a1 a3
+child a1 a2
+---
+",
     ),
     (
         "The same row below three ranks of aggregators.",
-        "agent p1 provider 60\nagent p2 provider 60\nagent p3 provider 60\nagent a1 aggregator\nagent a2 aggregator\nagent a3 aggregator\nstp p3 E 1\nstp p1 A 1\nstp p1 B 1\nstp p2 C 1\nstp p2 D 1\nstp p3 F 1\nsdp B C\nsdp D E\nchild a3 p1\nchild a3 p2\nchild a2 a3\nchild a2 p3\nchild a1 p2\nchild a1 a2\nchild a1 p1\n---\n",
+        r"agent p1 provider 60
+agent p2 provider 60
+agent p3 provider 60
+agent a1 aggregator
+agent a2 aggregator
+agent a3 aggregator
+stp p3 E 1
+stp p1 A 1
+stp p1 B 1
+stp p2 C 1
+stp p2 D 1
+stp p3 F 1
+sdp B C
+sdp D E
+child a3 p1
+child a3 p2
+child a2 a3
+child a2 p3
+child a1 p2
+child a1 a2
+child a1 p1
+---
+",
     ),
     (
         "An aggregator whose two providers are joined by a third alone is entered twice.",
-        "agent p1 provider 60\nagent p2 provider 60\nagent p3 provider 60\nagent a1 aggregator\nagent a2 aggregator\nstp p1 A 1\nstp p1 B 1\nstp p2 C 1\nstp p2 D 1\nstp p3 E 1\nstp p3 F 1\nsdp B C\nsdp D E\nchild a2 p3\nchild a2 p1\nchild a1 a2\nchild a1 p2\n---\n",
+        r"agent p1 provider 60
+agent p2 provider 60
+agent p3 provider 60
+agent a1 aggregator
+agent a2 aggregator
+stp p1 A 1
+stp p1 B 1
+stp p2 C 1
+stp p2 D 1
+stp p3 E 1
+stp p3 F 1
+sdp B C
+sdp D E
+child a2 p3
+child a2 p1
+child a1 a2
+child a1 p2
+---
+",
     ),
     (
         "Nothing is joined.",
-        "agent p1 provider 60\nagent p2 provider 60\nagent a1 aggregator\nagent a2 aggregator\nstp p1 A 1\nstp p2 C 1\nstp p1 B 1\nstp p2 D 1\nchild a1 p1\nchild a1 p2\nchild a2 a1\n---\n",
+        r"agent p1 provider 60
+agent p2 provider 60
+agent a1 aggregator
+agent a2 aggregator
+stp p1 A 1
+stp p2 C 1
+stp p1 B 1
+stp p2 D 1
+child a1 p1
+child a1 p2
+child a2 a1
+---
+",
     ),
     (
         "Two ways of one length between opposite corners of a square.",
-        "agent p1 provider 60\nagent p2 provider 60\nagent p3 provider 60\nagent p4 provider 60\nagent a1 aggregator\nstp p1 A 1\nstp p1 B 1\nstp p1 C 1\nstp p2 D 1\nstp p2 E 1\nstp p3 F 1\nstp p3 G 1\nstp p4 H 1\nstp p4 I 1\nstp p4 Z 1\nsdp B F\nsdp C D\nsdp G H\nsdp E I\nchild a1 p1\nchild a1 p2\nchild a1 p3\nchild a1 p4\n---\n",
+        r"agent p1 provider 60
+agent p2 provider 60
+agent p3 provider 60
+agent p4 provider 60
+agent a1 aggregator
+stp p1 A 1
+stp p1 B 1
+stp p1 C 1
+stp p2 D 1
+stp p2 E 1
+stp p3 F 1
+stp p3 G 1
+stp p4 H 1
+stp p4 I 1
+stp p4 Z 1
+sdp B F
+sdp C D
+sdp G H
+sdp E I
+child a1 p1
+child a1 p2
+child a1 p3
+child a1 p4
+---
+",
     ),
 ];
 

@@ -5,8 +5,19 @@ use std::alloc::{AllocError, Global};
 use std::test::Fail;
 
 /// Two joined providers below an aggregator.
-const JOINED: &str =
-    "agent p1 provider 60\nagent p2 provider 60\nagent a1 aggregator\nagent r1 requester a1\nstp p1 A 1000\nstp p1 B 1000\nstp p2 C 1000\nstp p2 D 1000\nsdp B C\nchild a1 p1\nchild a1 p2\n---\n";
+const JOINED: &str = r"agent p1 provider 60
+agent p2 provider 60
+agent a1 aggregator
+agent r1 requester a1
+stp p1 A 1000
+stp p1 B 1000
+stp p2 C 1000
+stp p2 D 1000
+sdp B C
+child a1 p1
+child a1 p2
+---
+";
 
 /// What is tried, the input, and what is written.
 const ROWS: [(&str, &str, &str); 13] = [
@@ -70,32 +81,117 @@ const ROWS: [(&str, &str, &str); 13] = [
 ];
 
 /// Two providers that are joined twice; B stands before E.
-const TWICE_JOINED: &str =
-    "agent p1 provider 60\nagent p2 provider 60\nagent a1 aggregator\nstp p1 A 1000\nstp p1 B 1000\nstp p1 E 1000\nstp p2 F 1000\nstp p2 C 1000\nstp p2 D 1000\nsdp E F\nsdp B C\nchild a1 p2\nchild a1 p1\n---\n";
+const TWICE_JOINED: &str = r"agent p1 provider 60
+agent p2 provider 60
+agent a1 aggregator
+stp p1 A 1000
+stp p1 B 1000
+stp p1 E 1000
+stp p2 F 1000
+stp p2 C 1000
+stp p2 D 1000
+sdp E F
+sdp B C
+child a1 p2
+child a1 p1
+---
+";
 
 /// The same, but E stands before B.
-const OTHER_WAY_ROUND: &str =
-    "agent p1 provider 60\nagent p2 provider 60\nagent a1 aggregator\nstp p1 A 1000\nstp p1 E 1000\nstp p1 B 1000\nstp p2 C 1000\nstp p2 F 1000\nstp p2 D 1000\nsdp B C\nsdp E F\nchild a1 p1\nchild a1 p2\n---\n";
+const OTHER_WAY_ROUND: &str = r"agent p1 provider 60
+agent p2 provider 60
+agent a1 aggregator
+stp p1 A 1000
+stp p1 E 1000
+stp p1 B 1000
+stp p2 C 1000
+stp p2 F 1000
+stp p2 D 1000
+sdp B C
+sdp E F
+child a1 p1
+child a1 p2
+---
+";
 
 /// A provider that isn't below the aggregator, though it is joined with one that is.
-const BESIDE: &str =
-    "agent p1 provider 60\nagent p2 provider 60\nagent a1 aggregator\nstp p1 A 1000\nstp p1 B 1000\nstp p2 C 1000\nstp p2 Z 1000\nsdp B C\nchild a1 p1\n---\n";
+const BESIDE: &str = r"agent p1 provider 60
+agent p2 provider 60
+agent a1 aggregator
+stp p1 A 1000
+stp p1 B 1000
+stp p2 C 1000
+stp p2 Z 1000
+sdp B C
+child a1 p1
+---
+";
 
 /// An aggregator over two providers that are joined through a third one, which isn't below it.
-const THROUGH_ANOTHER: &str =
-    "agent p1 provider 60\nagent p2 provider 60\nagent p3 provider 60\nagent a2 aggregator\nagent a1 aggregator\nstp p1 A 1000\nstp p1 B 1000\nstp p3 C 1000\nstp p3 D 1000\nstp p2 E 1000\nstp p2 F 1000\nsdp B C\nsdp D E\nchild a2 p1\nchild a2 p2\nchild a1 a2\nchild a1 p3\n---\n";
+const THROUGH_ANOTHER: &str = r"agent p1 provider 60
+agent p2 provider 60
+agent p3 provider 60
+agent a2 aggregator
+agent a1 aggregator
+stp p1 A 1000
+stp p1 B 1000
+stp p3 C 1000
+stp p3 D 1000
+stp p2 E 1000
+stp p2 F 1000
+sdp B C
+sdp D E
+child a2 p1
+child a2 p2
+child a1 a2
+child a1 p3
+---
+";
 
 /// A provider below two aggregators, of which the later one is the first child.
-const NESTED: &str =
-    "agent p1 provider 60\nagent a1 aggregator\nagent a2 aggregator\nagent a3 aggregator\nstp p1 A 1000\nstp p1 B 1000\nchild a2 p1\nchild a3 p1\nchild a1 a3\nchild a1 a2\n---\n";
+const NESTED: &str = r"agent p1 provider 60
+agent a1 aggregator
+agent a2 aggregator
+agent a3 aggregator
+stp p1 A 1000
+stp p1 B 1000
+child a2 p1
+child a3 p1
+child a1 a3
+child a1 a2
+---
+";
 
 /// Two providers that are joined in a ring, with A beside it.
-const RING: &str =
-    "agent p1 provider 60\nagent p2 provider 60\nagent a1 aggregator\nstp p1 A 1000\nstp p1 B 1000\nstp p1 E 1000\nstp p2 C 1000\nstp p2 D 1000\nsdp B C\nsdp D E\nchild a1 p1\nchild a1 p2\n---\n";
+const RING: &str = r"agent p1 provider 60
+agent p2 provider 60
+agent a1 aggregator
+stp p1 A 1000
+stp p1 B 1000
+stp p1 E 1000
+stp p2 C 1000
+stp p2 D 1000
+sdp B C
+sdp D E
+child a1 p1
+child a1 p2
+---
+";
 
 /// Four aggregators one over the other, above a provider.
-const FOUR_RANKS: &str =
-    "agent p1 provider 60\nagent a1 aggregator\nagent a2 aggregator\nagent a3 aggregator\nagent a4 aggregator\nstp p1 A 1000\nstp p1 B 1000\nchild a1 p1\nchild a2 a1\nchild a3 a2\nchild a4 a3\n---\n";
+const FOUR_RANKS: &str = r"agent p1 provider 60
+agent a1 aggregator
+agent a2 aggregator
+agent a3 aggregator
+agent a4 aggregator
+stp p1 A 1000
+stp p1 B 1000
+child a1 p1
+child a2 a1
+child a3 a2
+child a4 a3
+---
+";
 
 /// What is tried, the topology, the lines, and what is written.
 const TOPOLOGIES: [(&str, &str, &str, &str); 10] = [
@@ -217,7 +313,19 @@ const FAULTS: [(&str, &str); 28] = [
         "fault topology 4 Cycle\n",
     ),
     (
-        "agent p1 provider 60\nagent a1 aggregator\nagent a2 aggregator\nagent a3 aggregator\nagent a4 aggregator\nagent a5 aggregator\nchild a1 p1\nchild a2 a1\nchild a3 a2\nchild a4 a3\nchild a5 a4\n---\n",
+        r"agent p1 provider 60
+agent a1 aggregator
+agent a2 aggregator
+agent a3 aggregator
+agent a4 aggregator
+agent a5 aggregator
+child a1 p1
+child a2 a1
+child a3 a2
+child a4 a3
+child a5 a4
+---
+",
         "fault topology 11 TooDeep\n",
     ),
     // Word before Unknown, Unknown before Twice, Word before Twice.

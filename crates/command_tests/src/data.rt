@@ -1,0 +1,12 @@
+//! What is given to the commands, and what they have to write, told by the rules.
+
+pub(crate) mod clock;
+pub(crate) mod counting;
+pub(crate) mod holds;
+pub(crate) mod hostile;
+pub(crate) mod kinds;
+pub(crate) mod modifications;
+pub(crate) mod plain_provider;
+pub(crate) mod provisioning;
+pub(crate) mod rows;
+pub(crate) mod terminating;
