@@ -1,6 +1,6 @@
 -- Words between single blanks.
-use Rattle.std.specs.Prelude.{ℕ, List, [], ◌∷◌, ◌++◌, Bool, ◌||◌, not, ◌==◌, if◌then◌else◌}
-use Rattle.std.specs.List.{list_all}
+use Rattle.std.specs.Prelude.{◌≡◌, ℕ, List, [], ◌∷◌, ◌++◌, Bool, true, ◌||◌, not, ◌==◌, if◌then◌else◌}
+use Rattle.std.specs.List.{list_all, AllByRecursion}
 use Rattle.nsi_base.specs.declared.words.Blanks.{Blanks}
 use Rattle.nsi_base.specs.declared.words.Blanks.TheVariants.{Space, SpaceOrTab}
 
@@ -26,3 +26,9 @@ behind (word ∷ words) = 32 ∷ (word ++ behind words)
 -- a word has no blank in it
 abbrev pub is_word : Blanks → List ℕ → Bool
 is_word blanks bytes = list_all (λ b. not (is_blank blanks b)) bytes
+
+-- words that are written with a space between them are read again
+abbrev pub AreReadAgain : Blanks → Type 0
+AreReadAgain blanks =
+    (word : List ℕ) (others : List (List ℕ)) → is_word blanks word ≡ true → AllByRecursion (λ w. is_word blanks w ≡ true) others
+    → words_of blanks (word ++ behind others) ≡ word ∷ others

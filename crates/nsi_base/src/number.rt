@@ -13,12 +13,13 @@ pub struct Second {
 
 impl Model for Second {
     ghost use Rattle.std.specs.Prelude.{ℕ, ◌≤◌};
+    ghost use Rattle.nsi_base.specs.Range.{greatest_second};
 
     ghost Value = { ℕ };
 
     ghost view = { λ n. n.value };
 
-    ghost invariant = { λ n. n.value ≤ 253370764799 };
+    ghost invariant = { λ n. n.value ≤ greatest_second };
 
     ghost inverse = { λ n. record { value = n } };
 }
@@ -60,12 +61,13 @@ pub struct Mbps {
 
 impl Model for Mbps {
     ghost use Rattle.std.specs.Prelude.{ℕ, ◌≤◌};
+    ghost use Rattle.nsi_base.specs.Range.{least_mbps, greatest_mbps};
 
     ghost Value = { ℕ };
 
     ghost view = { λ n. n.value };
 
-    ghost invariant = { λ n. (1 ≤ n.value) × (n.value ≤ 1099511627776) };
+    ghost invariant = { λ n. (least_mbps ≤ n.value) × (n.value ≤ greatest_mbps) };
 
     ghost inverse = { λ n. record { value = n } };
 }
@@ -101,12 +103,13 @@ pub struct Version {
 
 impl Model for Version {
     ghost use Rattle.std.specs.Prelude.{ℕ, ◌≤◌};
+    ghost use Rattle.nsi_base.specs.Range.{greatest_version};
 
     ghost Value = { ℕ };
 
     ghost view = { λ n. n.value };
 
-    ghost invariant = { λ n. n.value ≤ 2147483647 };
+    ghost invariant = { λ n. n.value ≤ greatest_version };
 
     ghost inverse = { λ n. record { value = n } };
 }
@@ -148,12 +151,13 @@ pub struct AgentNo {
 
 impl Model for AgentNo {
     ghost use Rattle.std.specs.Prelude.{ℕ, ◌≤◌};
+    ghost use Rattle.nsi_base.specs.Range.{greatest_agent};
 
     ghost Value = { ℕ };
 
     ghost view = { λ n. n.value };
 
-    ghost invariant = { λ n. n.value ≤ 63 };
+    ghost invariant = { λ n. n.value ≤ greatest_agent };
 
     ghost inverse = { λ n. record { value = n } };
 }
@@ -188,12 +192,13 @@ pub struct StpNo {
 
 impl Model for StpNo {
     ghost use Rattle.std.specs.Prelude.{ℕ, ◌≤◌};
+    ghost use Rattle.nsi_base.specs.Range.{greatest_stp};
 
     ghost Value = { ℕ };
 
     ghost view = { λ n. n.value };
 
-    ghost invariant = { λ n. n.value ≤ 4095 };
+    ghost invariant = { λ n. n.value ≤ greatest_stp };
 
     ghost inverse = { λ n. record { value = n } };
 }
@@ -228,12 +233,13 @@ pub struct RecordNo {
 
 impl Model for RecordNo {
     ghost use Rattle.std.specs.Prelude.{ℕ, ◌≤◌};
+    ghost use Rattle.nsi_base.specs.Range.{greatest_record};
 
     ghost Value = { ℕ };
 
     ghost view = { λ n. n.value };
 
-    ghost invariant = { λ n. n.value ≤ 4194303 };
+    ghost invariant = { λ n. n.value ≤ greatest_record };
 
     ghost inverse = { λ n. record { value = n } };
 }
@@ -268,12 +274,13 @@ pub struct HoldTime {
 
 impl Model for HoldTime {
     ghost use Rattle.std.specs.Prelude.{ℕ, ◌≤◌};
+    ghost use Rattle.nsi_base.specs.Range.{least_hold, greatest_hold};
 
     ghost Value = { ℕ };
 
     ghost view = { λ n. n.value };
 
-    ghost invariant = { λ n. (1 ≤ n.value) × (n.value ≤ 86400) };
+    ghost invariant = { λ n. (least_hold ≤ n.value) × (n.value ≤ greatest_hold) };
 
     ghost inverse = { λ n. record { value = n } };
 }

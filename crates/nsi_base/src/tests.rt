@@ -147,7 +147,7 @@ fn copies_and_lists_are_made(rt: HostRuntime) -> Result<(), Fail> {
     let mut list = List::new(rt.alloc());
     list.push(7u64)?;
     list.push(8u64)?;
-    assert_eq!(rt; list.items(), &[7, 8]);
+    assert_eq!(rt; list.items(), [7, 8].as_slice());
     Ok(())
 }
 

@@ -1,8 +1,7 @@
 //! The words of a text between single blanks.
 
-ghost use Rattle.std.specs.Prelude.{◌≡◌, ℕ, ◌<◌, List, ◌∷◌, ◌++◌, length, map, IfOk, IfSome, IfNone, slice_index, true, false};
-ghost use Rattle.std.specs.List.{AllByRecursion};
-ghost use Rattle.nsi_base.specs.Words.{is_blank, is_word, words_of, behind};
+ghost use Rattle.std.specs.Prelude.{◌≡◌, ℕ, ◌<◌, length, map, IfOk, IfSome, IfNone, slice_index, true, false};
+ghost use Rattle.nsi_base.specs.Words.{is_blank, words_of, AreReadAgain};
 
 use std::alloc::{AllocError, Global};
 
@@ -55,5 +54,5 @@ pub fn words(alloc: Global, blanks: Blanks, text: &[u8]) -> Result<Vec<&[u8]>, A
 
 /// Words that are written with a space between them are read again.
 pub fn words_again(blanks: Blanks)
-    ensures { (word : List ℕ) (others : List (List ℕ)) → is_word blanks word ≡ true → AllByRecursion (λ w. is_word blanks w ≡ true) others → words_of blanks (word ++ behind others) ≡ word ∷ others }
+    ensures { AreReadAgain blanks }
 {}
