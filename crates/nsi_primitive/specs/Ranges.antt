@@ -3,6 +3,7 @@ use Rattle.std.specs.Prelude.{◌≡◌, ◌≤◌, ◌<◌, ◌^◌, ℕ, List,
 use Rattle.std.specs.List.{AllByRecursion}
 use Rattle.std.specs.Str.{IsUtf8}
 use Rattle.nsi_base.specs.Bytes.{is_name}
+use Rattle.nsi_base.specs.Range.{greatest_second, least_mbps, greatest_mbps, greatest_version, greatest_agent, greatest_record, least_hold, greatest_hold}
 use Rattle.nsi_primitive.specs.Printable.{IsPrintable, IsPrintableParcel, IsPrintableAsk, IsPrintableEntry, IsPrintableEvent}
 use Rattle.nsi_primitive.specs.declared.ask.Ask.{Ask}
 use Rattle.nsi_primitive.specs.declared.ask.AskAnswer.{AskAnswer}
@@ -41,16 +42,16 @@ abbrev pub IsCount : ℕ → Type 0
 IsCount n = n < 2 ^ 64
 
 abbrev pub IsSecond : ℕ → Type 0
-IsSecond n = n ≤ 253370764799
+IsSecond n = n ≤ greatest_second
 
 abbrev pub IsMbps : ℕ → Type 0
-IsMbps n = (1 ≤ n) × (n ≤ 1099511627776)
+IsMbps n = (least_mbps ≤ n) × (n ≤ greatest_mbps)
 
 abbrev pub IsVersion : ℕ → Type 0
-IsVersion n = n ≤ 2147483647
+IsVersion n = n ≤ greatest_version
 
 abbrev pub IsHoldTime : ℕ → Type 0
-IsHoldTime n = (1 ≤ n) × (n ≤ 86400)
+IsHoldTime n = (least_hold ≤ n) × (n ≤ greatest_hold)
 
 abbrev pub IsName : List ℕ → Type 0
 IsName name = is_name name ≡ true
@@ -223,9 +224,9 @@ pub record IsRangedAsk (a : Ask) : Type 0 where
 abbrev pub IsRangedInput : Input → Type 0
 IsRangedInput (Input.Ask number ask) = (number < 2 ^ 32) × IsRangedAsk ask
 IsRangedInput (Input.Got m) = IsRanged m
-IsRangedInput (Input.Work number machine) = number ≤ 4194303
+IsRangedInput (Input.Work number machine) = number ≤ greatest_record
 IsRangedInput Input.Tick = Unit {0}
-IsRangedInput (Input.Force number) = number ≤ 4194303
+IsRangedInput (Input.Force number) = number ≤ greatest_record
 IsRangedInput (Input.Acked identity) = IsRangedIdentity identity
 
 pub record IsRangedEntry (e : Entry) : Type 0 where
@@ -242,7 +243,7 @@ IsRangedHappening (Happening.Sync count) = IsCount count
 IsRangedHappening (Happening.Restart count) = IsCount count
 
 pub record IsRangedEvent (e : Event) : Type 0 where
-  pub agent : e.agent ≤ 63
+  pub agent : e.agent ≤ greatest_agent
   pub what : IsRangedHappening e.what
 
 ---- What has a spelling that reads again, whatever type holds it

@@ -451,7 +451,7 @@ impl Message {
     pub fn addressee(&self) -> &Name
         ensures { result.now ≡ addressee (identity self.now) }
     {
-        if self.is_request() {
+        if self.kind().is_request() {
             &self.header.provider
         } else {
             &self.header.requester
