@@ -1,9 +1,9 @@
 -- Chains of `child` lines: however long, four steps tell whether there is one.
-use Rattle.std.proofs.Common.{◌≡◌, ◌≢◌, ℕ, zero, suc, ◌+◌, ◌<◌, ◌==◌, ◌&&◌, ◌||◌, List, [], ◌∷◌, ◌++◌, Bool, true, false, Some, slice_get, sym, ◌∙◌, refl, ap, arith, ◌⊎◌, inl, inr, subst}
+use Rattle.std.proofs.Common.{◌≡◌, ℕ, zero, suc, ◌==◌, ◌&&◌, List, [], ◌∷◌, ◌++◌, true, sym, ◌∙◌, refl, ap, ◌⊎◌, inl, inr, subst}
 use Rattle.std.specs.List.{list_any}
 use Rattle.stp_topology.specs.Network.{AgentKind}
 use Rattle.stp_topology.specs.Lines.{leads_down, is_aggregator, stands_over}
-use Rattle.stp_topology.specs.Laws.{IsChild, LeadsDown, IsBelow, IsCyclic}
+use Rattle.stp_topology.specs.Laws.{IsChild, LeadsDown, IsCyclic}
 use Rattle.stp_topology.proofs.PairLemmas.{both_are, first_is_so, second_is_so, is_equal, equal_is, one_of, found_child, child_found}
 use Rattle.stp_topology.proofs.NameLemmas.{at_push}
 use Rattle.stp_topology.proofs.SoundLemmas.{stays_at}

@@ -1,20 +1,18 @@
 -- Every sound topology is well formed.
-use Rattle.std.proofs.Common.{◌≡◌, ◌≢◌, ◌↔◌, ℕ, zero, suc, ◌+◌, ◌<◌, ◌==◌, List, [], ◌∷◌, ◌++◌, Bool, true, false, cond, Option, Some, None, Result, Ok, Err, length, get_or, slice_get, sym, ◌∙◌, refl, ap, arith, ◌⊎◌, inl, inr, subst}
-use Rattle.std.specs.List.{filter, list_any}
+use Rattle.std.proofs.Common.{◌≡◌, ◌≢◌, ℕ, zero, suc, ◌==◌, List, [], ◌∷◌, ◌++◌, Bool, true, false, cond, Option, Some, None, Result, Ok, Err, get_or, slice_get, sym, ◌∙◌, refl, ap, arith, inl, inr, subst}
 use Rattle.std.proofs.lemmas.Bool.{cases_eq}
-use Rattle.std.proofs.lemmas.Bool.Decides.{nat_tests}
 use Rattle.std.proofs.lemmas.Option.{slice_get_within, slice_get-get_or}
 use Rattle.stp_topology.specs.Children.{children_in}
 use Rattle.stp_topology.specs.declared.fault.TopologyFault.{TopologyFault}
 use Rattle.stp_topology.specs.declared.fault.TopologyFault.TheVariants.{Twice, Cycle, TooDeep}
 use Rattle.stp_topology.specs.declared.declare.Sort.TheVariants as sorts
 use Rattle.stp_topology.specs.Network.{Network}
-use Rattle.stp_topology.specs.Sound.{IsSound, IsAggregator, TakesRequests}
+use Rattle.stp_topology.specs.Sound.{IsSound, IsAggregator}
 use Rattle.stp_topology.specs.Lines.{is_of, is_aggregator, has_pair, leads_down, stands_over, is_too_deep, with_child}
 use Rattle.stp_topology.specs.Rank.{rank_of}
-use Rattle.stp_topology.specs.Laws.{IsChild, LeadsDown, IsBelow, IsCyclic, IsDeep, child_after, IsToldWhy, IsWellFormed}
+use Rattle.stp_topology.specs.Laws.{IsChild, LeadsDown, IsCyclic, child_after, IsToldWhy, IsWellFormed}
 use Rattle.stp_topology.proofs.RankLemmas.{none_over_four}
-use Rattle.stp_topology.proofs.PairLemmas.{both_are, found_pair, pair_found}
+use Rattle.stp_topology.proofs.PairLemmas.{found_pair, pair_found}
 use Rattle.stp_topology.proofs.ChainLemmas.{child_before, closes, closed, down_is_chain, found_within}
 use Rattle.stp_topology.proofs.RankLaws.{levels_same, rank_is, child_lower, chain_lower, deep_passes, passes_deep}
 

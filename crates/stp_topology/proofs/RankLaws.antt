@@ -1,13 +1,13 @@
 -- The rank of an agent, however many levels are seen.
-use Rattle.std.proofs.Common.{◌≡◌, ℕ, zero, suc, ◌+◌, ◌<◌, ◌≤◌, ◌==◌, ◌&&◌, List, [], ◌∷◌, Bool, true, false, cond, slice_get, Some, sym, ◌∙◌, refl, ap, arith, map, fold, max, ◌⊎◌, inl, inr}
+use Rattle.std.proofs.Common.{◌≡◌, ℕ, zero, suc, ◌+◌, ◌<◌, ◌≤◌, ◌==◌, ◌&&◌, List, [], ◌∷◌, Bool, true, false, cond, slice_get, Some, sym, ◌∙◌, refl, ap, arith, map, fold, max}
 use Rattle.std.specs.List.{list_any, filter}
 use Rattle.stp_topology.specs.Children.{children_in}
-use Rattle.stp_topology.specs.Network.{Network, AgentKind, children_of}
+use Rattle.stp_topology.specs.Network.{Network, children_of}
 use Rattle.stp_topology.specs.Lines.{is_aggregator, stands_over, is_too_deep}
 use Rattle.stp_topology.specs.Rank.{greatest, rank_to, rank_of}
-use Rattle.stp_topology.specs.Laws.{IsChild, LeadsDown, IsBelow, IsDeep}
+use Rattle.stp_topology.specs.Laws.{IsChild, LeadsDown, IsDeep}
 use Rattle.stp_topology.proofs.RankLemmas.{neither_of, no_both, rank_within, none_four}
-use Rattle.stp_topology.proofs.PairLemmas.{both_of, is_equal, equal_is, found_any, found_child}
+use Rattle.stp_topology.proofs.PairLemmas.{both_of, equal_is, found_any, found_child}
 
 -- two functions that agree on the children whose test is not met
 same_ranks : (r s : ℕ → ℕ) (q : ℕ → Bool) (a : ℕ) → ((c : ℕ) → q c ≡ false → r c ≡ s c) → (pairs : List (ℕ × ℕ)) → list_any (λ (e : ℕ × ℕ). (e.0 == a) && q e.1) pairs ≡ false → map r (children_in pairs a) ≡ map s (children_in pairs a)

@@ -2,6 +2,8 @@
 use Rattle.std.proofs.Common.{◌≡◌, ℕ, ◌+◌, List, [], ◌∷◌, Bool, true, false, cond, Result, Ok, Err, length, ◌==◌, codes, ap, refl, subst}
 use Rattle.std.specs.Str.{bytes_eq}
 use Rattle.nsi_base.specs.Lines.{lines_of}
+use Rattle.nsi_base.specs.declared.words.Blanks.TheVariants.{SpaceOrTab}
+use Rattle.nsi_base.specs.Words.{words_of}
 use Rattle.stp_topology.specs.declared.fault.TopologyFault.{TopologyFault}
 use Rattle.stp_topology.specs.declared.fault.TopologyFault.TheVariants.{Empty}
 use Rattle.stp_topology.specs.declared.topology.Taken.{Taken}
@@ -10,7 +12,6 @@ use Rattle.stp_topology.specs.Faults.{◌>>=◌}
 use Rattle.stp_topology.specs.Network.{Network, nothing}
 use Rattle.stp_topology.specs.Sound.{IsSound}
 use Rattle.stp_topology.specs.Lines.{line_of}
-use Rattle.stp_topology.specs.Words.{words_of}
 use Rattle.stp_topology.specs.Text.{is_skipped, of_line, onward, read_lines, placed, place_behind, topology_of}
 use Rattle.stp_topology.proofs.SoundLemmas.{nothing_sound}
 use Rattle.stp_topology.proofs.LineSound.{line_sound}
@@ -22,14 +23,14 @@ IsSoundTaken (Err e) = Unit {0}
 
 taken_sound : (t : Network) (line : List ℕ) → IsSound t → IsSoundTaken (of_line t line)
 unfolding of_line
-taken_sound t line s = by_tests (is_skipped line) (bytes_eq line (codes "---")) (length t.agents == 0) (by_words (line_of t (words_of line)) (λ new h. line_sound t new (words_of line) s h))
+taken_sound t line s = by_tests (is_skipped line) (bytes_eq line (codes "---")) (length t.agents == 0) (by_words (line_of t (words_of SpaceOrTab line)) (λ new h. line_sound t new (words_of SpaceOrTab line) s h))
   where
     by_words : (read : Result Network TopologyFault) → ((new : Network) → read ≡ Ok new → IsSound new) → IsSoundTaken (read >>= λ new. Ok (More new))
     by_words (Ok new) f = f new refl
     by_words (Err e) f = tt
 
-    by_tests : (skipped last empty : Bool) → IsSoundTaken (line_of t (words_of line) >>= λ new. Ok (More new))
-        → IsSoundTaken (cond skipped (Ok (More t)) (cond last (cond empty (Err Empty) (Ok (Whole t))) (line_of t (words_of line) >>= λ new. Ok (More new))))
+    by_tests : (skipped last empty : Bool) → IsSoundTaken (line_of t (words_of SpaceOrTab line) >>= λ new. Ok (More new))
+        → IsSoundTaken (cond skipped (Ok (More t)) (cond last (cond empty (Err Empty) (Ok (Whole t))) (line_of t (words_of SpaceOrTab line) >>= λ new. Ok (More new))))
     by_tests true last empty f = s
     by_tests false true true f = tt
     by_tests false true false f = s

@@ -1,5 +1,5 @@
 -- Laws of every topology, in the words of its questions.
-use Rattle.std.specs.Prelude.{◌≡◌, ◌≢◌, ◌↔◌, ℕ, zero, suc, ◌+◌, ◌<◌, ◌≤◌, List, [], ◌∷◌, ◌++◌, true, if◌then◌else◌, map, Some, Ok, Err, length, slice_get}
+use Rattle.std.specs.Prelude.{◌≡◌, ◌≢◌, ◌↔◌, ℕ, zero, suc, ◌+◌, ◌<◌, ◌≤◌, List, [], ◌∷◌, ◌++◌, true, if◌then◌else◌, map, Some, Err, length, slice_get}
 use Rattle.stp_topology.specs.declared.fault.TopologyFault.TheVariants.{Twice, Cycle, TooDeep}
 use Rattle.stp_topology.specs.declared.network.AgentKind.TheVariants.{Requester}
 use Rattle.stp_topology.specs.Network.{Network, agent_of, stp_of, name_of, stp_name_of, kind_of, owner_of, partner_of, children_of}
