@@ -2,6 +2,6 @@
 #![tactic(auto)]
 
 #[cfg(test)]
-mod data;
-#[cfg(test)]
 mod running;
+#[cfg(test)]
+mod tables;

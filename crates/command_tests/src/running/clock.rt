@@ -1,7 +1,7 @@
 //! Lines of the clock, and how many events there may be.
 
 use super::{is_answered, is_limited_by};
-use crate::data::clock::{EVENTS, TICKS};
+use crate::tables::clock::{EVENTS, TICKS};
 use std::alloc::{AllocError, Global};
 use std::test::Fail;
 

@@ -1,7 +1,7 @@
 //! How many events the life of a connection makes.
 
 use super::is_limited_by;
-use crate::data::counting::{ENDS, TRAFFIC};
+use crate::tables::counting::{ENDS, TRAFFIC};
 use std::test::Fail;
 
 #[test]

@@ -1,7 +1,7 @@
 //! What is held, and then committed, given back or let go.
 
 use super::{in_full, is_answered, provide};
-use crate::data::holds::{HOLDS, LATER, OTHERS, SMALL_ROWS};
+use crate::tables::holds::{HOLDS, LATER, OTHERS, SMALL_ROWS};
 use std::alloc::{AllocError, Global};
 use std::test::Fail;
 

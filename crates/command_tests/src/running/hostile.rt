@@ -1,7 +1,7 @@
 //! Lines that try to break the reading.
 
 use super::{behind_topology, in_full, is_answered, provide};
-use crate::data::hostile::{ANSWER, REFUSED, RESERVE, SAME};
+use crate::tables::hostile::{ANSWER, REFUSED, RESERVE, SAME};
 use std::alloc::{AllocError, Global};
 use std::test::Fail;
 

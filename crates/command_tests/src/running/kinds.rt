@@ -1,7 +1,7 @@
 //! Lines of every kind: what isn't a request, acknowledgements, queries, and keys that are wanting.
 
 use super::is_answered;
-use crate::data::kinds::{ANSWERS, BETWEEN, QUERIES};
+use crate::tables::kinds::{ANSWERS, BETWEEN, QUERIES};
 use std::test::Fail;
 
 #[test]

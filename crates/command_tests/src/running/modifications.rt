@@ -1,7 +1,7 @@
 //! Reserves that modify a connection, and their versions.
 
 use super::is_answered;
-use crate::data::modifications::{BANDWIDTH, HELD, KEPT, VERSIONS};
+use crate::tables::modifications::{BANDWIDTH, HELD, KEPT, VERSIONS};
 use std::test::Fail;
 
 #[test]

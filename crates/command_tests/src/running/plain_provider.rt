@@ -1,7 +1,7 @@
 //! Random lines, and what another provider answers, which was written from the rules alone.
 
 use super::{in_full, run_whole};
-use crate::data::plain_provider::{FIRST_TWO, LAST_TWO, NEXT_TWO};
+use crate::tables::plain_provider::{FIRST_TWO, LAST_TWO, NEXT_TWO};
 use std::alloc::{AllocError, Global};
 use std::test::Fail;
 

@@ -1,7 +1,7 @@
 //! What is provisioned and released, and when traffic flows.
 
 use super::is_answered;
-use crate::data::provisioning::{
+use crate::tables::provisioning::{
     ASKED, COMMITTED, ENDED, PLANES, REFUSED, TOGETHER, UNCHANGED, VOID,
 };
 use std::test::Fail;

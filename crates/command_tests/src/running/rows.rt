@@ -1,7 +1,7 @@
 //! Lines behind the topology, and what is written for them.
 
 use super::{TOPOLOGY, behind_topology, in_full, is_answered, provide};
-use crate::data::rows::{ANSWER, RESERVE, ROWS};
+use crate::tables::rows::{ANSWER, RESERVE, ROWS};
 use std::alloc::{AllocError, Global};
 use std::test::Fail;
 

@@ -1,7 +1,7 @@
 //! Connections that their requesters end.
 
 use super::is_answered;
-use crate::data::terminating::{BESIDE, FREE, PLANES, STATES, VOID};
+use crate::tables::terminating::{BESIDE, FREE, PLANES, STATES, VOID};
 use std::test::Fail;
 
 #[test]
