@@ -64,7 +64,7 @@ build() {
     require_rt "$(state)"
     make_room
     touch -- "$room/begun"
-    mapfile -t names < <(sed -n '/^nsi:/ { s/:.*//p; q }; /^[a-z]/ s/:.*//p' "$root/crates.txt")
+    mapfile -t names < <(crates_below)
     for name in "${names[@]}"; do
         number=$((number + 1))
         build_crate "$name"
@@ -74,6 +74,19 @@ build() {
     done
     touch -r "$room/begun" -- "$program"
     say "proved and built in $(duration $((SECONDS - begun))): $program"
+}
+
+# The program's crate and all that it stands on, lowest first, as crates.txt has them.
+crates_below() {
+    awk -F: '
+        /^[a-z]/ { name[++count] = $1; below[count] = $2 }
+        END {
+            wanted["nsi"]
+            for (i = count; i; i--)
+                if (name[i] in wanted) { split(below[i], parts, " "); for (k in parts) wanted[parts[k]] }
+            for (i = 1; i <= count; i++)
+                if (name[i] in wanted) print name[i]
+        }' "$root/crates.txt"
 }
 
 build_crate() {
