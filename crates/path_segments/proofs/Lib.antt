@@ -13,3 +13,4 @@ pub mod ReadItems
 pub mod First
 pub mod Sound
 pub mod Named
+pub mod OneLeast

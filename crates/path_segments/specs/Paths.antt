@@ -78,3 +78,8 @@ IsPath t a source dest xs = IsPlacedPath t greatest_rank a source dest (placed (
 -- the one path of the aggregator comes before the other
 abbrev pub IsLess : Network → ℕ → List Segment → List Segment → Type 0
 IsLess t a xs ys = Less (placed (children_of t a) xs) (placed (children_of t a) ys)
+
+-- a path of the aggregator before which no other comes
+pub record IsLeastPath (t : Network) (a source dest : ℕ) (xs : List Segment) : Type 0 where
+  pub path : IsPath t a source dest xs
+  pub least : (other : List Segment) → IsPath t a source dest other → IsLess t a other xs → ⊥

@@ -1,6 +1,6 @@
 //! Paths over small networks. Agents and STPs are written by their places in the order of declaration.
 
-use crate::{Path, PathFault, find};
+use crate::{Path, PathFault, find, one_least};
 use std::alloc::Global;
 use stp_topology::{Topology, read_topology};
 
@@ -117,6 +117,7 @@ fn tells_that_no_path_leads(rt: HostRuntime) {
 
 #[test]
 fn takes_the_first_stps(rt: HostRuntime) {
+    one_least();
     assert!(rt;
         leads(
             rt.alloc(),
