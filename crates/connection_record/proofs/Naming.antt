@@ -1,5 +1,6 @@
 -- What a record says names its own connection.
 use Rattle.std.proofs.Common.{ℕ, ◌≡◌, Bool, true, false, List, Option, Some, None, ◌==◌, refl, ap, ◌∙◌, arith, if◌then◌else◌}
+use Rattle.nsi_primitive.specs.Messages.{named_connection}
 use Rattle.nsi_primitive.specs.declared.state.Rsm.{Rsm}
 use Rattle.nsi_primitive.specs.declared.state.Psm.{Psm}
 use Rattle.nsi_primitive.specs.declared.state.Lsm.{Lsm}
@@ -19,7 +20,7 @@ use Rattle.connection_record.specs.Demand.{last}
 use Rattle.connection_record.specs.Moves.{reserves, reserves_if, hold_end, is_due}
 use Rattle.connection_record.specs.Lives.{provisions, provisions_if, lives, lives_if}
 use Rattle.connection_record.specs.Turns.{closes, closes_reservation, closes_provision, reservation_closing, provision_closing, moves, moves_if, ticks, schedule_end, end_of, tells_plane, tells, is_told, status_of}
-use Rattle.connection_record.specs.Speaking.{tally, named_connection, misnames, Names}
+use Rattle.connection_record.specs.Speaking.{tally, misnames, Names}
 use Rattle.connection_record.proofs.Saying.{tally_append}
 
 pub then_names : (r : Record) (x : Moved) (next : Record → Moved) → Names r x → Names x.rec (next x.rec) → Names r (then_moves x next)

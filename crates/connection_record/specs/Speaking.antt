@@ -1,7 +1,7 @@
 -- What a record says against what it owes: the measure by which nothing is said twice.
 use Rattle.std.specs.Prelude.{ℕ, ◌≡◌, ◌≤◌, ◌+◌, Bool, true, false, not, List, [], ◌∷◌, Option, Some, None, ◌==◌, ◌&&◌, ◌||◌}
 use Rattle.nsi_primitive.specs.Kinds.{is_request_kind}
-use Rattle.nsi_primitive.specs.Messages.{kind_of}
+use Rattle.nsi_primitive.specs.Messages.{kind_of, named_connection}
 use Rattle.nsi_primitive.specs.declared.kind.Kind.{Kind}
 use Rattle.nsi_primitive.specs.declared.state.Rsm.{Rsm}
 use Rattle.nsi_primitive.specs.declared.state.Psm.{Psm}
@@ -98,23 +98,6 @@ notes_as c x = is_noting x.body && (c == x.correlation)
 
 abbrev pub asks_for : Reply → Bool
 asks_for x = is_asking x.body
-
--- the connection that is named by what a record says
-unfoldable pub named_connection : Body → Option ℕ
-named_connection (Body.ReserveResponse connection) = Some connection
-named_connection (Body.ReserveConfirmed confirmation) = Some confirmation.connection
-named_connection (Body.ReserveFailed connection exception) = Some connection
-named_connection (Body.ReserveCommitConfirmed connection) = Some connection
-named_connection (Body.ReserveCommitFailed connection exception) = Some connection
-named_connection (Body.ReserveAbortConfirmed connection) = Some connection
-named_connection (Body.ProvisionConfirmed connection) = Some connection
-named_connection (Body.ReleaseConfirmed connection) = Some connection
-named_connection (Body.TerminateConfirmed connection) = Some connection
-named_connection (Body.Error connection exception) = connection
-named_connection (Body.ReserveTimeout timeout) = Some timeout.connection
-named_connection (Body.ErrorEvent fault) = Some fault.connection
-named_connection (Body.DataPlaneStateChange plane) = Some plane.connection
-named_connection _ = None
 
 -- what doesn't name this connection
 abbrev pub misnames : ℕ → Reply → Bool

@@ -1,6 +1,7 @@
 //! What an agent keeps of a connection, and what its machines do to it.
 #![tactic(auto)]
 
+mod copies;
 pub mod laws;
 pub mod life;
 pub mod moves;

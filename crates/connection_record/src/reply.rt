@@ -3,7 +3,7 @@
 ghost use Rattle.std.specs.Prelude.{◌≡◌, IfOk};
 ghost use Rattle.connection_record.specs.Replies.{confirmation, id_or};
 
-use nsi_base::Text;
+use nsi_base::copy_text;
 use nsi_primitive::{Criteria, Id, ReserveConfirmation, Service};
 use std::alloc::AllocError;
 
@@ -11,15 +11,6 @@ pub fn id_or(request: Option<Id>) -> Id
     ensures { result ≡ id_or request }
 {
     request.unwrap_or(Id::nil())
-}
-
-fn copy_text(text: &Option<Text>) -> Result<Option<Text>, AllocError>
-    ensures { IfOk result (λ copy. copy ≡ text.now) }
-{
-    match text {
-        None => Ok(None),
-        Some(text) => Ok(Some(text.copy()?)),
-    }
 }
 
 /// What is confirmed of a connection: what is held, and its service.
