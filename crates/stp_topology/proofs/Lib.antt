@@ -1,4 +1,4 @@
-pub mod WordLemmas
+pub mod NameLemmas
 pub mod RankLemmas
 pub mod SoundLemmas
 pub mod LineSound
