@@ -1,4 +1,4 @@
-pub mod NameLemmas
+pub mod NamePlaces
 pub mod RankLemmas
 pub mod SoundLemmas
 pub mod LineSound
