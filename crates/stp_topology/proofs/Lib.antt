@@ -1,4 +1,4 @@
-pub mod WordLemmas
+pub mod NamePlaces
 pub mod RankLemmas
 pub mod NameLemmas
 pub mod PairLemmas

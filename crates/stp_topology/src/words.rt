@@ -1,6 +1,6 @@
 //! Names and numbers of a line.
 
-ghost use Rattle.std.specs.Prelude.{◌≡◌, ◌≤◌, IfOk, IsTrue};
+ghost use Rattle.std.specs.Prelude.{◌≤◌, IfOk, IsTrue};
 ghost use Rattle.nsi_base.specs.Bytes.{is_name};
 ghost use Rattle.nsi_base.specs.Range.{least_hold, greatest_hold, least_mbps, greatest_mbps};
 ghost use Rattle.stp_topology.specs.Faults.{Gives};

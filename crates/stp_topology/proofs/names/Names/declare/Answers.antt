@@ -1,6 +1,6 @@
 use Rattle.std.proofs.Common.{◌∷◌, [], ◌++◌, ◌∙◌, sym, ap}
 use Rattle.stp_topology.specs.Names.{place_of, texts}
-use Rattle.stp_topology.proofs.WordLemmas.{insert_new}
+use Rattle.stp_topology.proofs.NamePlaces.{insert_new}
 use Rattle.stp_topology.proofs.names.Names.declare.Goals as goal
 
 pub invariant_of-self-in-Ok-insert : goal.invariant_of-self-in-Ok-insert

@@ -1,6 +1,6 @@
 use Rattle.std.proofs.Common.{◌∙◌, ap}
 use Rattle.stp_topology.specs.Names.{place_of}
-use Rattle.stp_topology.proofs.WordLemmas.{place_texts}
+use Rattle.stp_topology.proofs.NamePlaces.{place_texts}
 use Rattle.stp_topology.proofs.names.Names.place.Goals as goal
 
 pub returns-clause-place : goal.returns-clause-place
