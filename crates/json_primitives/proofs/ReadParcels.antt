@@ -8,7 +8,7 @@ use Rattle.serde_json.specs.Find.{get, as_str, as_object, as_array}
 use Rattle.std.specs.Str.{bytes_eq}
 use Rattle.std.specs.Prelude.{codes}
 use Rattle.nsi_primitive.specs.Kinds.{kind_named}
-use Rattle.nsi_primitive.specs.Printable.{AreApart, IsShort, IsPrintableCause, IsPrintableBody, IsPrintable, has_further_keys}
+use Rattle.nsi_primitive.specs.Printable.{IsPrintableParcel, AreApart, IsShort, IsPrintableCause, IsPrintableBody, IsPrintable, has_further_keys}
 use Rattle.nsi_primitive.specs.declared.kind.Kind.{Kind}
 use Rattle.nsi_primitive.specs.declared.kind.ErrorName.{ErrorName}
 use Rattle.nsi_primitive.specs.declared.message.SummaryRow.{SummaryRow}
@@ -27,7 +27,7 @@ use Rattle.json_primitives.specs.Queries.{summary_from, ranged_from, notificatio
 use Rattle.json_primitives.specs.Answers.{confirmation_from, connection_from, plain_from, lack_from, child_from, error_in, refused_by, refused_from, named, failed_from, commit_failed_from, error_message_from}
 use Rattle.json_primitives.specs.Notifications.{timeout_from, fault_from, plane_from, delivery_from}
 use Rattle.json_primitives.specs.RowLines.{summary_row_from, recursive_row_from, notice_from, outcome_from, summary_rows_from, recursive_rows_from, notice_rows_from, outcome_rows_from}
-use Rattle.json_primitives.specs.Lines.{of_kind, ack_from, as_parcel, of_named, of_text, with_kind, parcel_from, parcel_of_json, object_of, line_of, IsPrintableParcel}
+use Rattle.json_primitives.specs.Lines.{of_kind, ack_from, as_parcel, of_named, of_text, with_kind, parcel_from, parcel_of_json, object_of, line_of}
 use Rattle.json_primitives.specs.declared.reading.answers.Refusal.{Refusal}
 
 ---- One step after another
