@@ -54,6 +54,10 @@ capacity_from d = number_from 1 1099511627776 d
 abbrev pub second_from : Data → Option ℕ
 second_from d = number_from 0 253370764799 d
 
+-- when a schedule starts or ends
+unfoldable pub time_from : Data → Option ℕ
+time_from d = second_from d
+
 abbrev pub version_from : Data → Option ℕ
 version_from d = number_from 0 2147483647 d
 

@@ -23,6 +23,10 @@ scalar_data (flag b) = boolean b
 abbrev pub id_scalar : ℕ → Scalar
 id_scalar id = words (id_text id)
 
+-- when a schedule starts or ends, as it is written
+unfoldable pub time_value : ℕ → Scalar
+time_value second = digits second
+
 abbrev pub directionality_scalar : Directionality → Scalar
 directionality_scalar d = words (direction_text d)
 

@@ -8,7 +8,7 @@ ghost use Rattle.nsi_primitive.specs.Ids.{id_from_text};
 ghost use Rattle.nsi_primitive.specs.Printable.{has_further_keys};
 ghost use Rattle.json_fields.specs.Keys.{name_of};
 ghost use Rattle.json_fields.specs.Faults.{Gives};
-ghost use Rattle.json_fields.specs.Fields.{json_of, formed, required, optional, id_from, name_from, text_from, capacity_from, second_from, version_from, hold_from, count_from, flag_from, kind_from, error_from, plain_error_from, event_from, flow_named, flow_from, directionality_from, empty_list_from};
+ghost use Rattle.json_fields.specs.Fields.{json_of, formed, required, optional, id_from, name_from, text_from, capacity_from, second_from, time_from, version_from, hold_from, count_from, flag_from, kind_from, error_from, plain_error_from, event_from, flow_named, flow_from, directionality_from, empty_list_from};
 
 use crate::fault::LineFault;
 use crate::key::Key;
@@ -63,10 +63,17 @@ pub(crate) fn capacity_from(value: &Value) -> Option<Mbps>
     Mbps::new(value.as_u64()?)
 }
 
-pub(crate) fn second_from(value: &Value) -> Option<Second>
+fn second_from(value: &Value) -> Option<Second>
     ensures { result ≡ second_from (view value.now) }
 {
     Second::new(value.as_u64()?)
+}
+
+#[tactic(auto, unfolding(crate::specs::Fields::time_from))]
+pub(crate) fn time_from(value: &Value) -> Option<Second>
+    ensures { result ≡ time_from (view value.now) }
+{
+    second_from(value)
 }
 
 fn version_from(value: &Value) -> Option<Version>
@@ -219,6 +226,17 @@ pub fn required_second(value: &Value, key: Key) -> Result<Second, LineFault>
         return Err(LineFault::Missing(key));
     };
     second_from(found).ok_or(LineFault::Bad(key))
+}
+
+/// When a schedule starts or ends.
+#[tactic(auto, unfolding(crate::specs::Fields::required))]
+pub fn required_time(value: &Value, key: Key) -> Result<Second, LineFault>
+    ensures { Gives result (required time_from key (view value.now)) }
+{
+    let Some(found) = at(value, key) else {
+        return Err(LineFault::Missing(key));
+    };
+    time_from(found).ok_or(LineFault::Bad(key))
 }
 
 #[tactic(auto, unfolding(crate::specs::Fields::required))]

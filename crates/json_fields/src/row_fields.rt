@@ -4,12 +4,12 @@ ghost use Rattle.std.specs.Prelude.{◌≡◌, Ok, IfOk, IfErr};
 ghost use Rattle.serde_json.specs.Find.{as_array};
 ghost use Rattle.serde_json.specs.View.{view, items_view};
 ghost use Rattle.json_fields.specs.Faults.{Fails, Gives};
-ghost use Rattle.json_fields.specs.Fields.{required, optional, capacity_from, second_from};
+ghost use Rattle.json_fields.specs.Fields.{required, optional, capacity_from, time_from};
 ghost use Rattle.json_fields.specs.RowFields.{rsm_from, psm_from, lsm_from, depth_from, list_fault};
 
 use crate::fault::LineFault;
 use crate::key::Key;
-use crate::reading::{at, capacity_from, second_from};
+use crate::reading::{at, capacity_from, time_from};
 use nsi_base::{Mbps, Second};
 use nsi_primitive::{Lsm, Psm, Rsm};
 use serde_json::Value;
@@ -125,14 +125,15 @@ pub fn optional_capacity(value: &Value, key: Key) -> Result<Option<Mbps>, LineFa
     }
 }
 
+/// When a schedule starts or ends.
 #[tactic(auto, unfolding(crate::specs::Fields::optional))]
-pub fn optional_second(value: &Value, key: Key) -> Result<Option<Second>, LineFault>
-    ensures { Gives result (optional second_from key (view value.now)) }
+pub fn optional_time(value: &Value, key: Key) -> Result<Option<Second>, LineFault>
+    ensures { Gives result (optional time_from key (view value.now)) }
 {
     match at(value, key) {
         None => Ok(None),
-        Some(found) => match second_from(found) {
-            Some(second) => Ok(Some(second)),
+        Some(found) => match time_from(found) {
+            Some(time) => Ok(Some(time)),
             None => Err(LineFault::Bad(key)),
         },
     }

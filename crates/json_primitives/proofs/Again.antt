@@ -14,8 +14,8 @@ use Rattle.nsi_primitive.specs.declared.message.Identity.{Identity}
 use Rattle.nsi_primitive.specs.declared.message.Message.{Message}
 use Rattle.nsi_primitive.specs.declared.message.Parcel.{Parcel}
 use Rattle.json_fields.specs.Keys.{name_of}
-use Rattle.json_fields.specs.Fields.{wrapped, id_from, name_from, text_from, capacity_from, second_from, version_from, count_from, flag_from, directionality_from, empty_list_from, kind_from}
-use Rattle.json_fields.specs.Objects.{Field, digits, words, flag, id_scalar, directionality_scalar, scalar_data, with_fields, IsReadBack}
+use Rattle.json_fields.specs.Fields.{wrapped, id_from, name_from, text_from, capacity_from, time_from, version_from, count_from, flag_from, directionality_from, empty_list_from, kind_from}
+use Rattle.json_fields.specs.Objects.{Field, digits, words, flag, id_scalar, time_value, directionality_scalar, scalar_data, with_fields, IsReadBack}
 use Rattle.json_fields.specs.declared.key.Key.{Key}
 use Rattle.json_fields.proofs.Members.{field_at, is_absent, are_apart, get_member-with_fields}
 use Rattle.json_fields.proofs.Again.{required_again, optional_again, absent_again, text_again, count_again, flag_again, directionality_again, kind_again}
@@ -71,13 +71,13 @@ reserve_again h r vh v p =
     let description = optional_again (text_from 256) Key.Description d words r.description (at h r Key.Description) (text_again 256 r.description p.description) in
     let dest = point_again r.connection Key.DestStp d r.dest (at h r Key.DestStp) v.dest (dest_given r.connection r.source r.dest p.complete) in
     let directionality = optional_again directionality_from Key.Directionality d directionality_scalar r.directionality (at h r Key.Directionality) (directionality_again r.directionality) in
-    let end = required_again second_from Key.EndTime d (digits r.end) r.end (at h r Key.EndTime) v.end in
+    let end = required_again time_from Key.EndTime d (time_value r.end) r.end (at h r Key.EndTime) v.end in
     let ero = absent_again empty_list_from Key.Ero d (at h r Key.Ero) in
     let global = optional_again (text_from 128) Key.GlobalReservationId d words r.global (at h r Key.GlobalReservationId) (text_again 128 r.global p.global) in
     let provider = required_again name_from Key.ProviderNsa d (words h.provider) h.provider (at h r Key.ProviderNsa) vh.provider in
     let requester = required_again name_from Key.RequesterNsa d (words h.requester) h.requester (at h r Key.RequesterNsa) vh.requester in
     let source = point_again r.connection Key.SourceStp d r.source (at h r Key.SourceStp) v.source (source_given r.connection r.source r.dest p.complete) in
-    let start = required_again second_from Key.StartTime d (digits r.start) r.start (at h r Key.StartTime) v.start in
+    let start = required_again time_from Key.StartTime d (time_value r.start) r.start (at h r Key.StartTime) v.start in
     let symmetric = optional_again flag_from Key.SymmetricPath d flag r.symmetric (at h r Key.SymmetricPath) (flag_again r.symmetric) in
     let version = optional_again version_from Key.Version d digits r.version (at h r Key.Version) v.version in
     let apart = apart_again r.source r.dest p.apart in

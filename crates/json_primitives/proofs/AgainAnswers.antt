@@ -15,8 +15,8 @@ use Rattle.nsi_primitive.specs.declared.message.ReserveConfirmation.{ReserveConf
 use Rattle.nsi_primitive.specs.declared.message.Body.{Body}
 use Rattle.nsi_primitive.specs.declared.message.Message.{Message}
 use Rattle.json_fields.specs.Keys.{name_of}
-use Rattle.json_fields.specs.Fields.{wrapped, optional, id_from, name_from, text_from, capacity_from, second_from, version_from, count_from, flag_from, directionality_from, error_from, plain_error_from, flow_from}
-use Rattle.json_fields.specs.Objects.{Field, digits, words, flag, id_scalar, directionality_scalar, scalar_data, IsReadBack}
+use Rattle.json_fields.specs.Fields.{wrapped, optional, id_from, name_from, text_from, capacity_from, second_from, time_from, version_from, count_from, flag_from, directionality_from, error_from, plain_error_from, flow_from}
+use Rattle.json_fields.specs.Objects.{Field, digits, words, flag, id_scalar, time_value, directionality_scalar, scalar_data, IsReadBack}
 use Rattle.json_fields.specs.declared.key.Key.{Key}
 use Rattle.json_fields.proofs.Members.{field_at, is_absent, are_apart}
 use Rattle.json_fields.proofs.Again.{required_again, optional_again, absent_again, text_again, flag_again, one_direction_again, error_again, plain_error_again}
@@ -44,12 +44,12 @@ confirmation_again h r vh v description_short global_short =
     let description = optional_again (text_from 256) Key.Description d words r.description (confirmation_at h r Key.Description) (text_again 256 r.description description_short) in
     let dest = required_again name_from Key.DestStp d (words r.dest) r.dest (confirmation_at h r Key.DestStp) (v.dest) in
     let directionality = required_again directionality_from Key.Directionality d (directionality_scalar r.directionality) r.directionality (confirmation_at h r Key.Directionality) (one_direction_again r.directionality) in
-    let end = required_again second_from Key.EndTime d (digits r.end) r.end (confirmation_at h r Key.EndTime) (v.end) in
+    let end = required_again time_from Key.EndTime d (time_value r.end) r.end (confirmation_at h r Key.EndTime) (v.end) in
     let global = optional_again (text_from 128) Key.GlobalReservationId d words r.global (confirmation_at h r Key.GlobalReservationId) (text_again 128 r.global global_short) in
     let provider = required_again name_from Key.ProviderNsa d (words h.provider) h.provider (confirmation_at h r Key.ProviderNsa) (vh.provider) in
     let requester = required_again name_from Key.RequesterNsa d (words h.requester) h.requester (confirmation_at h r Key.RequesterNsa) (vh.requester) in
     let source = required_again name_from Key.SourceStp d (words r.source) r.source (confirmation_at h r Key.SourceStp) (v.source) in
-    let start = required_again second_from Key.StartTime d (digits r.start) r.start (confirmation_at h r Key.StartTime) (v.start) in
+    let start = required_again time_from Key.StartTime d (time_value r.start) r.start (confirmation_at h r Key.StartTime) (v.start) in
     let symmetric = optional_again flag_from Key.SymmetricPath d flag r.symmetric (confirmation_at h r Key.SymmetricPath) (flag_again r.symmetric) in
     let version = required_again version_from Key.Version d (digits r.version) r.version (confirmation_at h r Key.Version) (v.version) in
     rw (capacity, connection, correlation, description, dest, directionality, end, global, provider, requester, source, start, symmetric, version) refl

@@ -17,9 +17,9 @@ use Rattle.nsi_primitive.specs.declared.message.RecursiveRow.{RecursiveRow}
 use Rattle.nsi_primitive.specs.declared.message.Body.{Body}
 use Rattle.nsi_primitive.specs.declared.message.Message.{Message}
 use Rattle.json_fields.specs.Keys.{name_of}
-use Rattle.json_fields.specs.Fields.{needed, required, id_from, name_from, text_from, capacity_from, second_from, version_from, count_from, flag_from, kind_from, directionality_from}
+use Rattle.json_fields.specs.Fields.{needed, required, id_from, name_from, text_from, capacity_from, second_from, time_from, version_from, count_from, flag_from, kind_from, directionality_from}
 use Rattle.json_fields.specs.RowFields.{rsm_from, psm_from, lsm_from, depth_from, row_of, each_from}
-use Rattle.json_fields.specs.Objects.{Field, digits, words, flag, id_scalar, directionality_scalar, scalar_data, with_fields, IsReadBack}
+use Rattle.json_fields.specs.Objects.{Field, digits, words, flag, id_scalar, time_value, directionality_scalar, scalar_data, with_fields, IsReadBack}
 use Rattle.json_fields.specs.Written.{with_rows}
 use Rattle.json_fields.specs.declared.key.Key.{Key}
 use Rattle.json_fields.specs.declared.fault.LineFault.{LineFault}
@@ -55,13 +55,13 @@ summary_row_again r w =
     let description = optional_again (text_from 256) Key.Description d words r.description (summary_at r Key.Description) (text_again 256 r.description w.short.0) in
     let dest = required_again name_from Key.DestStp d (words r.dest) r.dest (summary_at r Key.DestStp) v.dest in
     let directionality = required_again directionality_from Key.Directionality d (directionality_scalar r.directionality) r.directionality (summary_at r Key.Directionality) (one_direction_again r.directionality) in
-    let end = optional_again second_from Key.EndTime d digits r.end (summary_at r Key.EndTime) v.end in
+    let end = optional_again time_from Key.EndTime d time_value r.end (summary_at r Key.EndTime) v.end in
     let global = optional_again (text_from 128) Key.GlobalReservationId d words r.global (summary_at r Key.GlobalReservationId) (text_again 128 r.global w.short.1) in
     let lifecycle = required_again lsm_from Key.LifecycleState d (words (lsm_text r.lifecycle)) r.lifecycle (summary_at r Key.LifecycleState) (lsm_again r.lifecycle) in
     let provision = required_again psm_from Key.ProvisionState d (words (psm_text r.provision)) r.provision (summary_at r Key.ProvisionState) (psm_again r.provision) in
     let reservation = required_again rsm_from Key.ReservationState d (words (rsm_text r.reservation)) r.reservation (summary_at r Key.ReservationState) (rsm_again r.reservation) in
     let source = required_again name_from Key.SourceStp d (words r.source) r.source (summary_at r Key.SourceStp) v.source in
-    let start = optional_again second_from Key.StartTime d digits r.start (summary_at r Key.StartTime) v.start in
+    let start = optional_again time_from Key.StartTime d time_value r.start (summary_at r Key.StartTime) v.start in
     let version = optional_again version_from Key.Version d digits r.version (summary_at r Key.Version) v.version in
     rw (active, capacity, connection, description, dest, directionality, end, global, lifecycle, provision, reservation, source, start, version) refl
 

@@ -8,7 +8,7 @@ use Rattle.serde_json.specs.Find.{get, as_str, as_object, as_array}
 use Rattle.std.specs.Str.{bytes_eq}
 use Rattle.std.specs.Prelude.{codes}
 use Rattle.nsi_primitive.specs.Kinds.{kind_named}
-use Rattle.nsi_primitive.specs.Printable.{AreApart, IsShort, IsPrintableCause, IsPrintableBody, IsPrintable, has_further_keys}
+use Rattle.nsi_primitive.specs.Printable.{IsPrintableParcel, AreApart, IsShort, IsPrintableCause, IsPrintableBody, IsPrintable, has_further_keys}
 use Rattle.nsi_primitive.specs.declared.kind.Kind.{Kind}
 use Rattle.nsi_primitive.specs.declared.kind.ErrorName.{ErrorName}
 use Rattle.nsi_primitive.specs.declared.message.SummaryRow.{SummaryRow}
@@ -17,7 +17,7 @@ use Rattle.nsi_primitive.specs.declared.message.Message.{Message}
 use Rattle.nsi_primitive.specs.declared.message.Parcel.{Parcel}
 use Rattle.json_fields.specs.Keys.{name_of}
 use Rattle.json_fields.specs.Faults.{◌>>=◌}
-use Rattle.json_fields.specs.Fields.{json_of, required, optional, needed, allowed, wrapped, formed, kept_if, kept_if_plain, id_from, name_from, text_from, capacity_from, second_from, version_from, hold_from, count_from, flag_from, kind_from, error_from, plain_error_from, event_from, flow_from, directionality_from, empty_list_from}
+use Rattle.json_fields.specs.Fields.{json_of, required, optional, needed, allowed, wrapped, formed, kept_if, kept_if_plain, id_from, name_from, text_from, capacity_from, second_from, time_from, version_from, hold_from, count_from, flag_from, kind_from, error_from, plain_error_from, event_from, flow_from, directionality_from, empty_list_from}
 use Rattle.json_fields.specs.RowFields.{rsm_from, psm_from, lsm_from, row_of, each_from}
 use Rattle.json_fields.specs.declared.key.Key.{Key}
 use Rattle.json_fields.specs.declared.fault.LineFault.{LineFault}
@@ -27,7 +27,7 @@ use Rattle.json_primitives.specs.Queries.{summary_from, ranged_from, notificatio
 use Rattle.json_primitives.specs.Answers.{confirmation_from, connection_from, plain_from, lack_from, child_from, error_in, refused_by, refused_from, named, failed_from, commit_failed_from, error_message_from}
 use Rattle.json_primitives.specs.Notifications.{timeout_from, fault_from, plane_from, delivery_from}
 use Rattle.json_primitives.specs.RowLines.{summary_row_from, recursive_row_from, notice_from, outcome_from, summary_rows_from, recursive_rows_from, notice_rows_from, outcome_rows_from}
-use Rattle.json_primitives.specs.Lines.{of_kind, ack_from, as_parcel, of_named, of_text, with_kind, parcel_from, parcel_of_json, object_of, line_of, IsPrintableParcel}
+use Rattle.json_primitives.specs.Lines.{of_kind, ack_from, as_parcel, of_named, of_text, with_kind, parcel_from, parcel_of_json, object_of, line_of}
 use Rattle.json_primitives.specs.declared.reading.answers.Refusal.{Refusal}
 
 ---- One step after another
@@ -124,13 +124,13 @@ reserve_read d =
     then_with IsPrintable (IsShort 256) (optional (text_from 256) Key.Description d) _ (text_short 256 Key.Description d) (λ description short.
     then_with IsPrintable (λ o. IfNone connection (IsSome o)) (point_from connection Key.DestStp d) _ (point_given connection Key.DestStp d) (λ dest dest_given.
     then_any IsPrintable (optional directionality_from Key.Directionality d) _ (λ directionality.
-    then_any IsPrintable (required second_from Key.EndTime d) _ (λ end.
+    then_any IsPrintable (required time_from Key.EndTime d) _ (λ end.
     then_any IsPrintable (optional empty_list_from Key.Ero d) _ (λ ero.
     then_with IsPrintable (IsShort 128) (optional (text_from 128) Key.GlobalReservationId d) _ (text_short 128 Key.GlobalReservationId d) (λ global global_short.
     then_any IsPrintable (required name_from Key.ProviderNsa d) _ (λ provider.
     then_any IsPrintable (required name_from Key.RequesterNsa d) _ (λ requester.
     then_with IsPrintable (λ o. IfNone connection (IsSome o)) (point_from connection Key.SourceStp d) _ (point_given connection Key.SourceStp d) (λ source source_given.
-    then_any IsPrintable (required second_from Key.StartTime d) _ (λ start.
+    then_any IsPrintable (required time_from Key.StartTime d) _ (λ start.
     then_any IsPrintable (optional flag_from Key.SymmetricPath d) _ (λ symmetric.
     then_any IsPrintable (optional version_from Key.Version d) _ (λ version.
     or_fault IsPrintable (is_one_point source dest) (LineFault.Bad Key.DestStp) _ (λ e.
@@ -158,12 +158,12 @@ confirmation_read d =
     then_with IsPrintable (IsShort 256) (optional (text_from 256) Key.Description d) _ (text_short 256 Key.Description d) (λ description short.
     then_any IsPrintable (required name_from Key.DestStp d) _ (λ dest.
     then_any IsPrintable (required directionality_from Key.Directionality d) _ (λ directionality.
-    then_any IsPrintable (required second_from Key.EndTime d) _ (λ end.
+    then_any IsPrintable (required time_from Key.EndTime d) _ (λ end.
     then_with IsPrintable (IsShort 128) (optional (text_from 128) Key.GlobalReservationId d) _ (text_short 128 Key.GlobalReservationId d) (λ global global_short.
     then_any IsPrintable (required name_from Key.ProviderNsa d) _ (λ provider.
     then_any IsPrintable (required name_from Key.RequesterNsa d) _ (λ requester.
     then_any IsPrintable (required name_from Key.SourceStp d) _ (λ source.
-    then_any IsPrintable (required second_from Key.StartTime d) _ (λ start.
+    then_any IsPrintable (required time_from Key.StartTime d) _ (λ start.
     then_any IsPrintable (optional flag_from Key.SymmetricPath d) _ (λ symmetric.
     then_any IsPrintable (required version_from Key.Version d) _ (λ version.
     (short, global_short)))))))))))))))
@@ -314,13 +314,13 @@ row_read d =
     then_with IsShortRow (IsShort 256) (optional (text_from 256) Key.Description d) _ (text_short 256 Key.Description d) (λ description short.
     then_any IsShortRow (required name_from Key.DestStp d) _ (λ dest.
     then_any IsShortRow (required directionality_from Key.Directionality d) _ (λ directionality.
-    then_any IsShortRow (optional second_from Key.EndTime d) _ (λ end.
+    then_any IsShortRow (optional time_from Key.EndTime d) _ (λ end.
     then_with IsShortRow (IsShort 128) (optional (text_from 128) Key.GlobalReservationId d) _ (text_short 128 Key.GlobalReservationId d) (λ global global_short.
     then_any IsShortRow (required lsm_from Key.LifecycleState d) _ (λ lifecycle.
     then_any IsShortRow (required psm_from Key.ProvisionState d) _ (λ provision.
     then_any IsShortRow (required rsm_from Key.ReservationState d) _ (λ reservation.
     then_any IsShortRow (required name_from Key.SourceStp d) _ (λ source.
-    then_any IsShortRow (optional second_from Key.StartTime d) _ (λ start.
+    then_any IsShortRow (optional time_from Key.StartTime d) _ (λ start.
     then_any IsShortRow (optional version_from Key.Version d) _ (λ version.
     (short, global_short)))))))))))))))
 

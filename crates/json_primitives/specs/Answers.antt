@@ -9,7 +9,7 @@ use Rattle.nsi_primitive.specs.declared.message.Body.{Body}
 use Rattle.nsi_primitive.specs.declared.message.Message.{Message}
 use Rattle.json_fields.specs.Faults.{◌>>=◌}
 use Rattle.json_fields.specs.Keys.{name_of}
-use Rattle.json_fields.specs.Fields.{required, optional, wrapped, id_from, name_from, text_from, capacity_from, second_from, version_from, count_from, flag_from, directionality_from, error_from, plain_error_from, flow_from}
+use Rattle.json_fields.specs.Fields.{required, optional, wrapped, id_from, name_from, text_from, capacity_from, second_from, time_from, version_from, count_from, flag_from, directionality_from, error_from, plain_error_from, flow_from}
 use Rattle.json_fields.specs.declared.key.Key.{Key}
 use Rattle.json_fields.specs.declared.fault.LineFault.{LineFault}
 use Rattle.json_primitives.specs.declared.reading.answers.Refusal.{Refusal}
@@ -22,12 +22,12 @@ confirmation_from d = do
   description ← optional (text_from 256) Key.Description d
   dest ← required name_from Key.DestStp d
   directionality ← required directionality_from Key.Directionality d
-  end ← required second_from Key.EndTime d
+  end ← required time_from Key.EndTime d
   global ← optional (text_from 128) Key.GlobalReservationId d
   provider ← required name_from Key.ProviderNsa d
   requester ← required name_from Key.RequesterNsa d
   source ← required name_from Key.SourceStp d
-  start ← required second_from Key.StartTime d
+  start ← required time_from Key.StartTime d
   symmetric ← optional flag_from Key.SymmetricPath d
   version ← required version_from Key.Version d
   Ok (record {

@@ -4,7 +4,6 @@ use Rattle.std.specs.Str.{bytes_eq}
 use Rattle.serde_json.specs.Data.{Data}
 use Rattle.serde_json.specs.Find.{get, as_str, as_object}
 use Rattle.nsi_primitive.specs.Kinds.{kind_named}
-use Rattle.nsi_primitive.specs.Printable.{IsPrintable}
 use Rattle.nsi_primitive.specs.declared.kind.Kind.{Kind}
 use Rattle.nsi_primitive.specs.declared.message.Body.{Body}
 use Rattle.nsi_primitive.specs.declared.message.Message.{Message}
@@ -98,8 +97,3 @@ object_of bytes = parcel_of_json (json_of bytes)
 -- the same within the limit of a line
 abbrev pub line_of : List ℕ → Result Parcel LineFault
 line_of bytes = if nat_lt 65536 (length bytes) then Err LineFault.TooLong else object_of bytes
-
--- a parcel that has a spelling
-abbrev pub IsPrintableParcel : Parcel → Type 0
-IsPrintableParcel (Parcel.Message m) = IsPrintable m
-IsPrintableParcel (Parcel.Ack identity) = Unit {0}

@@ -5,7 +5,7 @@ use Rattle.serde_json.specs.Data.{Data}
 use Rattle.nsi_primitive.specs.declared.message.Body.{Body}
 use Rattle.nsi_primitive.specs.declared.message.Message.{Message}
 use Rattle.json_fields.specs.Faults.{◌>>=◌}
-use Rattle.json_fields.specs.Fields.{required, optional, wrapped, id_from, name_from, text_from, capacity_from, second_from, version_from, flag_from, directionality_from, empty_list_from}
+use Rattle.json_fields.specs.Fields.{required, optional, wrapped, id_from, name_from, text_from, capacity_from, time_from, version_from, flag_from, directionality_from, empty_list_from}
 use Rattle.json_fields.specs.declared.key.Key.{Key}
 use Rattle.json_fields.specs.declared.fault.LineFault.{LineFault}
 
@@ -33,13 +33,13 @@ reserve_from d = do
   description ← optional (text_from 256) Key.Description d
   dest ← point_from connection Key.DestStp d
   directionality ← optional directionality_from Key.Directionality d
-  end ← required second_from Key.EndTime d
+  end ← required time_from Key.EndTime d
   ero ← optional empty_list_from Key.Ero d
   global ← optional (text_from 128) Key.GlobalReservationId d
   provider ← required name_from Key.ProviderNsa d
   requester ← required name_from Key.RequesterNsa d
   source ← point_from connection Key.SourceStp d
-  start ← required second_from Key.StartTime d
+  start ← required time_from Key.StartTime d
   symmetric ← optional flag_from Key.SymmetricPath d
   version ← optional version_from Key.Version d
   between source dest (record {

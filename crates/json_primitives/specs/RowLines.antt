@@ -9,7 +9,7 @@ use Rattle.nsi_primitive.specs.declared.message.RecursiveRow.{RecursiveRow}
 use Rattle.nsi_primitive.specs.declared.message.Body.{Body}
 use Rattle.nsi_primitive.specs.declared.message.Message.{Message}
 use Rattle.json_fields.specs.Faults.{◌>>=◌}
-use Rattle.json_fields.specs.Fields.{formed, required, optional, id_from, name_from, text_from, capacity_from, second_from, version_from, count_from, flag_from, kind_from, directionality_from}
+use Rattle.json_fields.specs.Fields.{formed, required, optional, id_from, name_from, text_from, capacity_from, second_from, time_from, version_from, count_from, flag_from, kind_from, directionality_from}
 use Rattle.json_fields.specs.RowFields.{rsm_from, psm_from, lsm_from, depth_from, each_from}
 use Rattle.json_fields.specs.declared.key.Key.{Key}
 use Rattle.json_fields.specs.declared.fault.LineFault.{LineFault}
@@ -25,13 +25,13 @@ summary_row_from d = do
   description ← optional (text_from 256) Key.Description d
   dest ← required name_from Key.DestStp d
   directionality ← required directionality_from Key.Directionality d
-  end ← optional second_from Key.EndTime d
+  end ← optional time_from Key.EndTime d
   global ← optional (text_from 128) Key.GlobalReservationId d
   lifecycle ← required lsm_from Key.LifecycleState d
   provision ← required psm_from Key.ProvisionState d
   reservation ← required rsm_from Key.ReservationState d
   source ← required name_from Key.SourceStp d
-  start ← optional second_from Key.StartTime d
+  start ← optional time_from Key.StartTime d
   version ← optional version_from Key.Version d
   Ok (record { active = active; capacity = capacity; connection = connection; description = description; dest = dest; directionality = directionality; end = end; global = global; lifecycle = lifecycle; provision = provision; reservation = reservation; source = source; start = start; version = version })
 

@@ -8,7 +8,7 @@ use Rattle.nsi_primitive.specs.declared.message.Notice.{Notice}
 use Rattle.nsi_primitive.specs.declared.message.Outcome.{Outcome}
 use Rattle.nsi_primitive.specs.declared.message.SummaryRow.{SummaryRow}
 use Rattle.nsi_primitive.specs.declared.message.RecursiveRow.{RecursiveRow}
-use Rattle.json_fields.specs.Objects.{Field, digits, words, flag, id_scalar, directionality_scalar, with_fields}
+use Rattle.json_fields.specs.Objects.{Field, digits, words, flag, id_scalar, time_value, directionality_scalar, with_fields}
 use Rattle.json_fields.specs.declared.key.Key.{Key}
 
 -- a connection in the answer to a querySummary
@@ -20,13 +20,13 @@ summary_fields r =
     ∷ (Key.Description, option_map words r.description)
     ∷ (Key.DestStp, Some (words r.dest))
     ∷ (Key.Directionality, Some (directionality_scalar r.directionality))
-    ∷ (Key.EndTime, option_map digits r.end)
+    ∷ (Key.EndTime, option_map time_value r.end)
     ∷ (Key.GlobalReservationId, option_map words r.global)
     ∷ (Key.LifecycleState, Some (words (lsm_text r.lifecycle)))
     ∷ (Key.ProvisionState, Some (words (psm_text r.provision)))
     ∷ (Key.ReservationState, Some (words (rsm_text r.reservation)))
     ∷ (Key.SourceStp, Some (words r.source))
-    ∷ (Key.StartTime, option_map digits r.start)
+    ∷ (Key.StartTime, option_map time_value r.start)
     ∷ (Key.Version, option_map digits r.version)
     ∷ []
 

@@ -21,7 +21,7 @@ use Rattle.nsi_primitive.specs.declared.message.Body.{Body}
 use Rattle.nsi_primitive.specs.declared.message.Identity.{Identity}
 use Rattle.nsi_primitive.specs.declared.message.Message.{Message}
 use Rattle.nsi_primitive.specs.declared.message.Parcel.{Parcel}
-use Rattle.json_fields.specs.Objects.{Field, digits, words, flag, id_scalar, directionality_scalar, with_fields}
+use Rattle.json_fields.specs.Objects.{Field, digits, words, flag, id_scalar, time_value, directionality_scalar, with_fields}
 use Rattle.json_fields.specs.Written.{with_rows}
 use Rattle.json_fields.specs.declared.key.Key.{Key}
 use Rattle.json_primitives.specs.Rows.{rows_in}
@@ -43,10 +43,10 @@ reserve_fields r =
     ∷ (Key.Description, option_map words r.description)
     ∷ (Key.DestStp, option_map words r.dest)
     ∷ (Key.Directionality, option_map directionality_scalar r.directionality)
-    ∷ (Key.EndTime, Some (digits r.end))
+    ∷ (Key.EndTime, Some (time_value r.end))
     ∷ (Key.GlobalReservationId, option_map words r.global)
     ∷ (Key.SourceStp, option_map words r.source)
-    ∷ (Key.StartTime, Some (digits r.start))
+    ∷ (Key.StartTime, Some (time_value r.start))
     ∷ (Key.SymmetricPath, option_map flag r.symmetric)
     ∷ (Key.Version, option_map digits r.version)
     ∷ []
@@ -62,10 +62,10 @@ confirmation_fields r =
     ∷ (Key.Description, option_map words r.description)
     ∷ (Key.DestStp, Some (words r.dest))
     ∷ (Key.Directionality, Some (directionality_scalar r.directionality))
-    ∷ (Key.EndTime, Some (digits r.end))
+    ∷ (Key.EndTime, Some (time_value r.end))
     ∷ (Key.GlobalReservationId, option_map words r.global)
     ∷ (Key.SourceStp, Some (words r.source))
-    ∷ (Key.StartTime, Some (digits r.start))
+    ∷ (Key.StartTime, Some (time_value r.start))
     ∷ (Key.SymmetricPath, option_map flag r.symmetric)
     ∷ (Key.Version, Some (digits r.version))
     ∷ []

@@ -1,6 +1,7 @@
 //! Messages and acknowledgements as lines of JSON: one object a line, its keys in byte order.
 #![tactic(auto)]
 
+pub mod laws;
 pub mod payload;
 pub mod printing;
 pub mod reading;

@@ -2,11 +2,11 @@
 
 ghost use Rattle.std.specs.Prelude.{◌≡◌, OnOk, IfOk, Ok};
 ghost use Rattle.serde_json.specs.Data.{no_members};
-ghost use Rattle.nsi_primitive.specs.Printable.{IsPrintable};
+ghost use Rattle.nsi_primitive.specs.Printable.{IsPrintable, IsPrintableParcel};
 ghost use Rattle.nsi_primitive.specs.declared.message.Parcel.{Parcel};
 ghost use Rattle.json_fields.specs.Objects.{with_fields};
 ghost use Rattle.json_fields.specs.Written.{members_of};
-ghost use Rattle.json_primitives.specs.Lines.{object_of, IsPrintableParcel};
+ghost use Rattle.json_primitives.specs.Lines.{object_of};
 ghost use Rattle.json_primitives.specs.Spelling.{spelling, parcel_spelling, fields_of, body_fields, told_fields, header_fields, ack_fields};
 ghost use Rattle.json_primitives.specs.Valid.{IsValidHeader, IsValidIdentity, IsValidTold, IsValidBody, IsValid};
 

@@ -2,9 +2,9 @@
 
 ghost use Rattle.std.specs.Prelude.{◌≡◌, IfOk, Some};
 ghost use Rattle.serde_json.specs.View.{view};
-ghost use Rattle.nsi_primitive.specs.Printable.{IsPrintable};
+ghost use Rattle.nsi_primitive.specs.Printable.{IsPrintable, IsPrintableParcel};
 ghost use Rattle.json_fields.specs.Faults.{Gives};
-ghost use Rattle.json_primitives.specs.Lines.{line_of, object_of, parcel_from, of_text, of_kind, as_parcel, ack_from, IsPrintableParcel};
+ghost use Rattle.json_primitives.specs.Lines.{line_of, object_of, parcel_from, of_text, of_kind, as_parcel, ack_from};
 
 mod answers;
 mod connected;

@@ -1,7 +1,10 @@
 //! Ids in their text forms, and names of kinds.
 
+mod copies;
+
 use crate::{
-    Directionality, ErrorName, FaultEvent, IdFault, Kind, agent_and_n, id_of, print_id, read_id,
+    Directionality, ErrorName, FaultEvent, IdFault, Kind, Machine, agent_and_n, id_of, print_id,
+    read_id,
 };
 use nsi_base::AgentNo;
 use std::test::Fail;
@@ -65,5 +68,8 @@ fn kinds_are_named(rt: HostRuntime) {
     assert_eq!(rt; FaultEvent::ForcedEnd.text(), "forcedEnd");
     assert!(rt; FaultEvent::named(b"forcedEnd") == Some(FaultEvent::ForcedEnd));
     assert!(rt; FaultEvent::named(b"ForcedEnd").is_none());
+    assert_eq!(rt; Machine::Lifecycle.text(), "lifecycle");
+    assert!(rt; Machine::named(b"provision") == Some(Machine::Provision));
+    assert!(rt; Machine::named(b"Provision").is_none());
     assert!(rt; Directionality::named(b"Bidirectional") == Some(Directionality::Bidirectional));
 }

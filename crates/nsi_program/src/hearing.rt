@@ -2,9 +2,8 @@
 
 ghost use Rattle.std.specs.Prelude.{◌≡◌, false, IfOk};
 ghost use Rattle.nsi_primitive.specs.Messages.{is_query};
-ghost use Rattle.nsi_primitive.specs.Printable.{IsPrintable};
+ghost use Rattle.nsi_primitive.specs.Printable.{IsPrintable, IsPrintableParcel};
 ghost use Rattle.provider_agent.specs.State.{State};
-ghost use Rattle.json_primitives.specs.Lines.{IsPrintableParcel};
 ghost use Rattle.nsi_program.specs.Hearing.{unserved, requested, message_heard, parcel_heard, second_in, ticked, heard, IsTimely};
 
 use json_primitives::{Key, LineFault, PayloadFault, read_line};

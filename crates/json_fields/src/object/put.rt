@@ -4,8 +4,8 @@ ghost use Rattle.std.specs.Prelude.{◌≡◌, OnOk, OnErr, IfOk, IfSome, Some, 
 ghost use Rattle.serde_json.specs.Data.{no_members, object, put, string, number, unsigned};
 ghost use Rattle.serde_json.specs.View.{view};
 ghost use Rattle.serde_json.specs.Written.{compact_text};
-ghost use Rattle.json_fields.specs.Fields.{json_of, id_from, name_from, capacity_from, second_from, version_from, hold_from, flag_from, directionality_from};
-ghost use Rattle.json_fields.specs.Objects.{with_value, digits, words, flag, id_scalar, directionality_scalar, IsReadBack, IsFlatRow};
+ghost use Rattle.json_fields.specs.Fields.{json_of, id_from, name_from, capacity_from, second_from, time_from, version_from, hold_from, flag_from, directionality_from};
+ghost use Rattle.json_fields.specs.Objects.{with_value, digits, words, flag, id_scalar, time_value, directionality_scalar, IsReadBack, IsFlatRow};
 ghost use Rattle.json_fields.specs.Written.{members_of, rows_of, with_rows};
 
 use crate::key::Key;
@@ -130,6 +130,16 @@ impl JsonObject {
         self.put_number(alloc, key, second.get())
     }
 
+    /// Puts when a schedule starts or ends.
+    #[tactic(auto, unfolding(crate::specs::Fields::time_from, crate::specs::Objects::time_value))]
+    pub fn put_time(&mut self, alloc: Global, key: Key, time: Second) -> Result<(), AllocError>
+        ensures put { OnOk result (members_of self.new ≡ with_value key (Some (time_value time)) (members_of self.old)) }
+        ensures again { OnOk result (IsReadBack time_from (time_value time) time) }
+        ensures err { OnErr result (members_of self.new ≡ members_of self.old) }
+    {
+        self.put_second(alloc, key, time)
+    }
+
     pub fn put_version(
         &mut self,
         alloc: Global,
@@ -198,19 +208,19 @@ impl JsonObject {
         }
     }
 
-    pub fn put_optional_second(
+    pub fn put_optional_time(
         &mut self,
         alloc: Global,
         key: Key,
-        second: Option<Second>,
+        time: Option<Second>,
     ) -> Result<(), AllocError>
-        ensures put { OnOk result (members_of self.new ≡ with_value key (option_map digits second) (members_of self.old)) }
-        ensures again { OnOk result (IfSome second (λ n. IsReadBack second_from (digits n) n)) }
+        ensures put { OnOk result (members_of self.new ≡ with_value key (option_map time_value time) (members_of self.old)) }
+        ensures again { OnOk result (IfSome time (λ n. IsReadBack time_from (time_value n) n)) }
         ensures err { OnErr result (members_of self.new ≡ members_of self.old) }
     {
-        match second {
+        match time {
             None => Ok(()),
-            Some(second) => self.put_second(alloc, key, second),
+            Some(time) => self.put_time(alloc, key, time),
         }
     }
 

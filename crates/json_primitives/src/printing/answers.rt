@@ -30,10 +30,10 @@ pub fn put_confirmation(
         Key::Directionality,
         confirmation.directionality.text(),
     )?;
-    object.put_second(alloc, Key::EndTime, confirmation.end)?;
+    object.put_time(alloc, Key::EndTime, confirmation.end)?;
     object.put_optional_text(alloc, Key::GlobalReservationId, &confirmation.global)?;
     object.put_name(alloc, Key::SourceStp, &confirmation.source)?;
-    object.put_second(alloc, Key::StartTime, confirmation.start)?;
+    object.put_time(alloc, Key::StartTime, confirmation.start)?;
     object.put_optional_flag(alloc, Key::SymmetricPath, confirmation.symmetric)?;
     object.put_version(alloc, Key::Version, confirmation.version)
 }

@@ -25,10 +25,10 @@ pub fn put_reserve(
     object.put_optional_text(alloc, Key::Description, &reserve.description)?;
     object.put_optional_name(alloc, Key::DestStp, &reserve.dest)?;
     object.put_optional_directionality(alloc, Key::Directionality, reserve.directionality)?;
-    object.put_second(alloc, Key::EndTime, reserve.end)?;
+    object.put_time(alloc, Key::EndTime, reserve.end)?;
     object.put_optional_text(alloc, Key::GlobalReservationId, &reserve.global)?;
     object.put_optional_name(alloc, Key::SourceStp, &reserve.source)?;
-    object.put_second(alloc, Key::StartTime, reserve.start)?;
+    object.put_time(alloc, Key::StartTime, reserve.start)?;
     object.put_optional_flag(alloc, Key::SymmetricPath, reserve.symmetric)?;
     object.put_optional_version(alloc, Key::Version, reserve.version)
 }

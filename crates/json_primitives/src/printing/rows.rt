@@ -23,13 +23,13 @@ fn summary_row(alloc: Global, row: &SummaryRow) -> Result<JsonObject, AllocError
     object.put_optional_text(alloc, Key::Description, &row.description)?;
     object.put_name(alloc, Key::DestStp, &row.dest)?;
     object.put_text(alloc, Key::Directionality, row.directionality.text())?;
-    object.put_optional_second(alloc, Key::EndTime, row.end)?;
+    object.put_optional_time(alloc, Key::EndTime, row.end)?;
     object.put_optional_text(alloc, Key::GlobalReservationId, &row.global)?;
     object.put_text(alloc, Key::LifecycleState, row.lifecycle.text())?;
     object.put_text(alloc, Key::ProvisionState, row.provision.text())?;
     object.put_text(alloc, Key::ReservationState, row.reservation.text())?;
     object.put_name(alloc, Key::SourceStp, &row.source)?;
-    object.put_optional_second(alloc, Key::StartTime, row.start)?;
+    object.put_optional_time(alloc, Key::StartTime, row.start)?;
     object.put_optional_version(alloc, Key::Version, row.version)?;
     Ok(object)
 }

@@ -9,7 +9,7 @@ ghost use Rattle.json_primitives.specs.Answers.{confirmation_from, connection_fr
 use json_fields::reading::{
     at, error_from, optional_flag, optional_flow, optional_id, optional_text, required_capacity,
     required_count, required_directionality, required_error, required_id, required_name,
-    required_plain_error, required_second, required_version,
+    required_plain_error, required_second, required_time, required_version,
 };
 use json_fields::{Key, LineFault};
 use nsi_base::Flow;
@@ -36,12 +36,12 @@ pub fn confirmation_from(alloc: Global, value: &Value) -> Result<Message, LineFa
     let description = optional_text(alloc, value, Key::Description, 256)?;
     let dest = required_name(alloc, value, Key::DestStp)?;
     let directionality = required_directionality(value, Key::Directionality)?;
-    let end = required_second(value, Key::EndTime)?;
+    let end = required_time(value, Key::EndTime)?;
     let global = optional_text(alloc, value, Key::GlobalReservationId, 128)?;
     let provider = required_name(alloc, value, Key::ProviderNsa)?;
     let requester = required_name(alloc, value, Key::RequesterNsa)?;
     let source = required_name(alloc, value, Key::SourceStp)?;
-    let start = required_second(value, Key::StartTime)?;
+    let start = required_time(value, Key::StartTime)?;
     let symmetric = optional_flag(value, Key::SymmetricPath)?;
     let version = required_version(value, Key::Version)?;
     let header = Header {

@@ -8,8 +8,7 @@ ghost use Rattle.json_primitives.specs.Requests.{reserve_from, point_from, is_on
 
 use json_fields::reading::{
     optional_directionality, optional_empty_list, optional_flag, optional_id, optional_name,
-    optional_text, optional_version, required_capacity, required_id, required_name,
-    required_second,
+    optional_text, optional_version, required_capacity, required_id, required_name, required_time,
 };
 use json_fields::{Key, LineFault};
 use nsi_base::Name;
@@ -29,13 +28,13 @@ pub fn reserve_from(alloc: Global, value: &Value) -> Result<Message, LineFault>
     let description = optional_text(alloc, value, Key::Description, 256)?;
     let dest = point_from(alloc, value, Key::DestStp, &connection)?;
     let directionality = optional_directionality(value, Key::Directionality)?;
-    let end = required_second(value, Key::EndTime)?;
+    let end = required_time(value, Key::EndTime)?;
     let _ero = optional_empty_list(value, Key::Ero)?;
     let global = optional_text(alloc, value, Key::GlobalReservationId, 128)?;
     let provider = required_name(alloc, value, Key::ProviderNsa)?;
     let requester = required_name(alloc, value, Key::RequesterNsa)?;
     let source = point_from(alloc, value, Key::SourceStp, &connection)?;
-    let start = required_second(value, Key::StartTime)?;
+    let start = required_time(value, Key::StartTime)?;
     let symmetric = optional_flag(value, Key::SymmetricPath)?;
     let version = optional_version(value, Key::Version)?;
     if is_one_point(&source, &dest) {

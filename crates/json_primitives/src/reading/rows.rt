@@ -14,7 +14,7 @@ use json_fields::reading::{
     required_id, required_kind, required_name, required_second,
 };
 use json_fields::row_fields::{
-    list_fault, optional_capacity, optional_second, required_depth, required_items, required_lsm,
+    list_fault, optional_capacity, optional_time, required_depth, required_items, required_lsm,
     required_psm, required_rsm,
 };
 use json_fields::{Key, LineFault};
@@ -205,13 +205,13 @@ fn summary_row_from(alloc: Global, value: &Value) -> Result<SummaryRow, LineFaul
     let description = optional_text(alloc, value, Key::Description, 256)?;
     let dest = required_name(alloc, value, Key::DestStp)?;
     let directionality = required_directionality(value, Key::Directionality)?;
-    let end = optional_second(value, Key::EndTime)?;
+    let end = optional_time(value, Key::EndTime)?;
     let global = optional_text(alloc, value, Key::GlobalReservationId, 128)?;
     let lifecycle = required_lsm(value, Key::LifecycleState)?;
     let provision = required_psm(value, Key::ProvisionState)?;
     let reservation = required_rsm(value, Key::ReservationState)?;
     let source = required_name(alloc, value, Key::SourceStp)?;
-    let start = optional_second(value, Key::StartTime)?;
+    let start = optional_time(value, Key::StartTime)?;
     let version = optional_version(value, Key::Version)?;
     Ok(SummaryRow {
         active,
