@@ -10,7 +10,7 @@ use Rattle.connection_record.specs.Rising.{AreRising, IsAboveLast}
 use Rattle.connection_record.specs.Moves.{reserves_if}
 use Rattle.connection_record.specs.Later.{IsLater}
 use Rattle.connection_record.specs.Order.{IsInOrder}
-use Rattle.connection_record.specs.Speaking.{tally, is_answering, answers_as, misnames, owed, owed_provision, owed_life, reservation_begins, provision_begins, Speaks, Names}
+use Rattle.connection_record.specs.Speaking.{tally, is_id, is_answering, answers_as, misnames, owed, owed_provision, owed_life, reservation_begins, provision_begins, Speaks, Names}
 
 -- a move that an agent makes by itself begins no request
 abbrev pub IsOwn : Option ReservationMove → Type 0
@@ -47,6 +47,19 @@ pub record Acts (r : Record) (y : Moved) : Type 0 where
   pub same : IsReservationSame (reserves_if move now r).rec y.rec
   pub says : (c : ℕ) → IsAlone c r → answering c y.out ≡ answering c (reserves_if move now r).out
   pub alone : (c : ℕ) → IsAlone c r → IsAlone c y.rec
+
+-- what the reservation machine takes
+unfoldable pub is_reservation_request : Body → Bool
+is_reservation_request (Body.Reserve _) = true
+is_reservation_request (Body.ReserveCommit _) = true
+is_reservation_request (Body.ReserveAbort _) = true
+is_reservation_request _ = false
+
+-- what another machine takes under a correlation: the reservation stays, and nothing is said or owed under another correlation that wasn't owed
+pub record IsBeside (c : ℕ) (r : Record) (y : Moved) : Type 0 where
+  pub same : IsReservationSame r y.rec
+  pub says : (b : ℕ) → is_id (Some c) b ≡ false → IsAlone b r → answering b y.out ≡ []
+  pub alone : (b : ℕ) → is_id (Some c) b ≡ false → IsAlone b r → IsAlone b y.rec
 
 -- one thing that a record does by itself: it begins no request
 pub record IsAct (r : Record) (y : Moved) : Type 0 where

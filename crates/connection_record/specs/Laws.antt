@@ -1,5 +1,5 @@
 -- The laws of a record.
-use Rattle.std.specs.Prelude.{ℕ, ◌≡◌, ◌≤◌, ◌+◌, Bool, true, List, [], Option, Some, None, ◌⊎◌}
+use Rattle.std.specs.Prelude.{ℕ, ◌≡◌, ◌≤◌, ◌+◌, Bool, true, false, List, [], Option, Some, None, ◌⊎◌}
 use Rattle.nsi_primitive.specs.Messages.{connection_of}
 use Rattle.nsi_primitive.specs.declared.plane.Plane.{Plane}
 use Rattle.nsi_primitive.specs.declared.state.Machine.{Machine}
@@ -19,13 +19,13 @@ use Rattle.connection_record.specs.declared.moves.Reply.{Reply}
 use Rattle.connection_record.specs.declared.moves.ReservationMove.{ReservationMove}
 use Rattle.connection_record.specs.declared.provisioning.ProvisionMove.{ProvisionMove}
 use Rattle.connection_record.specs.declared.turn.Move.{Move}
-use Rattle.connection_record.specs.Courses.{IsAct, Course, IsAfter}
+use Rattle.connection_record.specs.Courses.{answering, is_reservation_request, IsBeside, IsAct, Course, IsAfter}
 use Rattle.connection_record.specs.Lives.{provision_event, provisions, lifecycle_event, lives}
 use Rattle.connection_record.specs.Moves.{event_of, reserves, fresh, asked_criteria}
 use Rattle.connection_record.specs.Order.{IsInOrder, HasPoints}
 use Rattle.connection_record.specs.Refusal.{refusal, record_refusal, modification_refusal, first_refusal}
 use Rattle.connection_record.specs.Replies.{Moved}
-use Rattle.connection_record.specs.Speaking.{owed, begun_of, drawn_of, no_ids, drawn_if, Speaks, Names}
+use Rattle.connection_record.specs.Speaking.{is_id, owed, begun_of, drawn_of, no_ids, drawn_if, Speaks, Names}
 use Rattle.connection_record.specs.Tabled.{FollowsRow}
 use Rattle.connection_record.specs.Turns.{moves, moves_if, requested, work_of, closes, ticks, ticked, is_told, tells}
 use Rattle.connection_record.specs.Unrefused.{IsFitFor, IsTakenAt}
@@ -108,6 +108,17 @@ TicksAct = (origin : Origin) (now : ℕ) (r : Record) → IsAct r (ticked origin
 
 abbrev pub TellingActs : Type 0
 TellingActs = (before : Plane) (c now : ℕ) (r : Record) (x : Moved) → IsAct r x → IsAct r (tells before c now x)
+
+-- a request to another machine leaves the reservation alone
+abbrev pub RequestsLeave : Type 0
+RequestsLeave =
+    (side : Side) (body : Body) (c now : ℕ) (r : Record) → is_reservation_request body ≡ false → IsBeside c r (moves_if side (requested body c r) now r)
+
+-- what owes nothing under a correlation, and begins nothing there, answers nothing under it
+abbrev pub OwingIsSaying : Type 0
+OwingIsSaying =
+    (begun : Option ℕ) (drawn : ℕ → ℕ) (r : Record) (x : Moved) (c : ℕ) → Speaks begun drawn r x → is_id begun c ≡ false → ((n : ℕ) → owed c n r ≡ 0) →
+    answering c x.out ≡ []
 
 abbrev pub CoursesKeep : Type 0
 CoursesKeep = (r q : Record) (out : List Reply) → Course r q out → IsAfter r q out

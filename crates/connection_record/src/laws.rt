@@ -1,6 +1,6 @@
 //! The laws of a record. Each function is its contract.
 
-ghost use Rattle.connection_record.specs.Laws.{FreshIsInOrder, TurnsKeepOrder, TicksKeepOrder, OwedIsKept, TurnsKeepPoints, TicksKeepPoints, MovesSpeak, RequestsSpeak, WorksSpeak, TicksSpeak, TellingSpeaks, MovesName, TicksName, TellingNames, WorksAct, ForcesAct, ClosesAct, TicksAct, TellingActs, CoursesKeep, UnrefusedFits, ModificationAsks, FirstAsks, UnrefusedNamesAgent, UnrefusedIsTaken, ReservesByTable, ProvisionsByTable, LivesByTable};
+ghost use Rattle.connection_record.specs.Laws.{FreshIsInOrder, TurnsKeepOrder, TicksKeepOrder, OwedIsKept, TurnsKeepPoints, TicksKeepPoints, MovesSpeak, RequestsSpeak, WorksSpeak, TicksSpeak, TellingSpeaks, MovesName, TicksName, TellingNames, WorksAct, ForcesAct, ClosesAct, TicksAct, TellingActs, CoursesKeep, RequestsLeave, OwingIsSaying, UnrefusedFits, ModificationAsks, FirstAsks, UnrefusedNamesAgent, UnrefusedIsTaken, ReservesByTable, ProvisionsByTable, LivesByTable};
 
 /// A record is in order as it is made, and whatever is done to it leaves it so. What it still has to answer is under a
 /// correlation that it has, so no answer is ever under the nil id.
@@ -24,6 +24,7 @@ pub fn speaks()
     ensures works { WorksSpeak }
     ensures ticks { TicksSpeak }
     ensures telling { TellingSpeaks }
+    ensures silent { OwingIsSaying }
 {}
 
 /// All that a record says names its own connection.
@@ -45,6 +46,11 @@ pub fn acts()
 /// What is true of a record behind any number of such acts, whatever order their messages have.
 pub fn courses()
     ensures { CoursesKeep }
+{}
+
+/// A request to another machine leaves the reservation alone.
+pub fn requests()
+    ensures { RequestsLeave }
 {}
 
 /// What is known of a request that isn't refused.
