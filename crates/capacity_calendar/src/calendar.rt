@@ -70,14 +70,14 @@ impl Calendar {
         self.bookings.of(number)
     }
 
-    /// The Mbps that are booked of a flow at a second.
+    /// The Mbps that are booked of a flow at a second, where the point has the flow.
     pub fn load_at(&self, stp: StpNo, flow: Flow, t: Second) -> u64
-        requires { IsSome (capacity_at self.now.capacities stp flow) }
-        ensures sum { result ≡ load flow stp t self.now.bookings }
+        ensures sum { IfSome (capacity_at self.now.capacities stp flow) (λ _. result ≡ load flow stp t self.now.bookings) }
+        ensures none { IfNone (capacity_at self.now.capacities stp flow) (result ≡ 0) }
         ensures within { IfSome (capacity_at self.now.capacities stp flow) (λ c. result ≤ c) }
     {
         let Some(capacity) = capacity_of(self.capacities.items(), stp, flow) else {
-            unreachable!()
+            return 0;
         };
         let place = Place {
             stp,

@@ -36,6 +36,7 @@ use Rattle.connection_record.specs.Refusal.{is_created}
 use Rattle.connection_record.specs.Replies.{Moved}
 use Rattle.connection_record.specs.Turns.{moves, moves_if, requested, waits, is_provisioning, is_terminating, work_of, status_of, is_told, tells}
 use Rattle.connection_record.proofs.Growing.{reserves_later}
+use Rattle.connection_record.proofs.InOrder.{fresh_in_order}
 use Rattle.provider_agent.specs.declared.agent.Agent.{Agent}
 use Rattle.provider_agent.specs.Home.{Home}
 use Rattle.provider_agent.specs.Others.{others, first_lack, cause_of, lack_of, lacking}
@@ -105,7 +106,14 @@ unfolding demand
 fresh_demand id owner q a b source dest flow stp t = grind arith
 
 fresh_good : (id : ℕ) (owner : List ℕ) (q : ReserveRequest) (a b : List ℕ) (source dest : ℕ) → IsPrintableReserve q → IsGoodRecord (fresh id owner (service_of q a b) source dest)
-fresh_good id owner q a b source dest p = record { rising = tt; above = tt; asking = λ e. absurd (cc); description = p.description; global = p.global }
+fresh_good id owner q a b source dest p = record {
+  rising = tt;
+  above = tt;
+  asking = λ e. absurd (cc);
+  description = p.description;
+  global = p.global;
+  in_order = fresh_in_order id owner (service_of q a b) source dest;
+}
 
 sound_new : (home : Home) (s : State) (m : Message) (q : ReserveRequest) (points : ℕ × ℕ) → AreSound home s.next s.records → IsPrintableReserve q → AreSound home (with_new home s m q points).next (with_new home s m q points).records
 sound_new home s m q points sound p =
@@ -126,7 +134,7 @@ sound_heard home stp_of s m sound p = heard_by home stp_of s m (LeavesSound home
   ignored = sound;
   unopened = sound;
   refused = λ error r. sound;
-  opened = λ q points e. sound_opened home (seen_with s m) m q points sound (subst IsPrintableBody e p);
+  opened = λ q points e are. sound_opened home (seen_with s m) m q points sound (subst IsPrintableBody e p);
   moved = λ n lt fine. sound_taken home (seen_with s m) n m sound lt (requested_fitting m.body m.header.correlation (record_at n s.records) fine);
 })
 
@@ -290,7 +298,7 @@ grows_heard home stp_of s m = heard_by home stp_of s m (GrowsByOne s) (record {
   ignored = still;
   unopened = still;
   refused = λ error r. record { records = omega arith; works = omega arith; next = omega arith; taken = refl };
-  opened = λ q points e. taken (with_new home (seen_with s m) m q points) (length s.records) (omega (arith, length-append s.records (new_record home s m q points ∷ []))) (push_length s.records (new_record home s m q points))
+  opened = λ q points e are. taken (with_new home (seen_with s m) m q points) (length s.records) (omega (arith, length-append s.records (new_record home s m q points ∷ []))) (push_length s.records (new_record home s m q points))
       (works_push home s m q points) (omega arith) refl;
   moved = λ n lt fine. taken (seen_with s m) n lt (omega arith) refl (omega arith) refl;
 })

@@ -20,11 +20,13 @@ use Rattle.connection_record.specs.Demand.{last}
 use Rattle.connection_record.specs.Lives.{provisions, provisions_if, lives, lives_if}
 use Rattle.connection_record.specs.Moves.{reserves, reserves_if, committed_with, hold_end, is_live}
 use Rattle.connection_record.specs.Replies.{Moved, plain}
-use Rattle.connection_record.specs.Rising.{AreRising}
+use Rattle.connection_record.specs.Order.{IsInOrder}
+use Rattle.connection_record.specs.Rising.{AreRising, IsAboveLast}
 use Rattle.connection_record.specs.Turns.{closes_reservation, closes_provision, reservation_closing, provision_closing, closes, moves, moves_if, schedule_end, ticks, ticked, tells}
 use Rattle.connection_record.proofs.Growing.{reserves_later}
+use Rattle.connection_record.proofs.InOrder.{reserves_in_order, provisions_in_order, lives_in_order}
 use Rattle.connection_record.proofs.Rising.{rising_more}
-use Rattle.provider_agent.specs.Good.{is_asking, IsAboveLast, IsGoodRecord}
+use Rattle.provider_agent.specs.Good.{is_asking, IsGoodRecord}
 use Rattle.provider_agent.proofs.Turning.{told_keeps}
 
 ---- The reservation machine
@@ -59,6 +61,7 @@ reserves_good k move now r e g f =
       asking = reserves_asking k move now r e g;
       description = subst (λ (x : Service). IsShort 256 x.description) (sym same) g.description;
       global = subst (λ (x : Service). IsShort 128 x.global) (sym same) g.global;
+      in_order = reserves_in_order k move now r e g.in_order;
     }
 
 reserves_if_good : (o : Option ReservationMove) (now : ℕ) (r : Record) → IsGoodRecord r → IfSome o (λ m. IsFittingReservation m r) → IsGoodRecord (reserves_if o now r).rec
@@ -74,13 +77,14 @@ pub record IsSameReservation (a b : Record) : Type 0 where
   pub pending : a.pending ≡ b.pending
   pub rsm : a.rsm ≡ b.rsm
 
-good_same : (a b : Record) → IsSameReservation a b → IsGoodRecord b → IsGoodRecord a
-good_same a b same g = record {
+good_same : (a b : Record) → IsSameReservation a b → IsInOrder a → IsGoodRecord b → IsGoodRecord a
+good_same a b same order g = record {
   rising = subst AreRising (sym same.committed) g.rising;
   above = subst (λ p. IsAboveLast p a.committed) (sym same.pending) (subst (IsAboveLast b.pending) (sym same.committed) g.above);
   asking = λ h. subst (λ (p : Option Criteria). IsSome p) (sym same.pending) (g.asking (sym (ap is_asking same.rsm) ∙ h));
   description = subst (λ (x : Service). IsShort 256 x.description) (sym same.service) g.description;
   global = subst (λ (x : Service). IsShort 128 x.global) (sym same.service) g.global;
+  in_order = order;
 }
 
 pub provisions_same : (side : Side) (k : Psm) (move : ProvisionMove) (now : ℕ) (r : Record) → IsSameReservation (provisions side k move now r).rec r
@@ -93,11 +97,11 @@ lives_same k move now r = grind arith
 
 provisions_if_good : (side : Side) (o : Option ProvisionMove) (now : ℕ) (r : Record) → IsGoodRecord r → IsGoodRecord (provisions_if side o now r).rec
 provisions_if_good side None now r g = g
-provisions_if_good side (Some move) now r g = good_same (provisions side r.psm move now r).rec r (provisions_same side r.psm move now r) g
+provisions_if_good side (Some move) now r g = good_same (provisions side r.psm move now r).rec r (provisions_same side r.psm move now r) (provisions_in_order side r.psm move now r refl g.in_order) g
 
 lives_if_good : (o : Option LifecycleMove) (now : ℕ) (r : Record) → IsGoodRecord r → IsGoodRecord (lives_if o now r).rec
 lives_if_good None now r g = g
-lives_if_good (Some move) now r g = good_same (lives r.lsm move now r).rec r (lives_same r.lsm move now r) g
+lives_if_good (Some move) now r g = good_same (lives r.lsm move now r).rec r (lives_same r.lsm move now r) (lives_in_order r.lsm move now r refl g.in_order) g
 
 ---- All of them
 
@@ -148,4 +152,17 @@ ticked_good origin now r g = by_life (is_live r.lsm)
 
 -- and telling the change of the data plane.
 pub told_good : (p : Plane) (c now : ℕ) (x : Moved) → IsGoodRecord x.rec → IsGoodRecord (tells p c now x).rec
-told_good p c now x g = told_keeps IsGoodRecord p c now x (λ notices. record { rising = g.rising; above = g.above; asking = g.asking; description = g.description; global = g.global })
+told_good p c now x g = told_keeps IsGoodRecord p c now x (λ notices. record {
+  rising = g.rising;
+  above = g.above;
+  asking = g.asking;
+  description = g.description;
+  global = g.global;
+  in_order = record {
+    reserve_request = g.in_order.reserve_request;
+    provision_request = g.in_order.provision_request;
+    lifecycle_request = g.in_order.lifecycle_request;
+    pending = g.in_order.pending;
+    attempt = g.in_order.attempt;
+  };
+})

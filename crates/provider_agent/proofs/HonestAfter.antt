@@ -187,7 +187,7 @@ heard_quiet home stp_of s m = heard_by home stp_of s m (λ x. EachMessage IsNoRe
   ignored = nothing_said IsNoRefusal;
   unopened = nothing_said IsNoRefusal;
   refused = λ error r. one_said IsNoRefusal (error_reply home.name m error) refl;
-  opened = λ q points e. taken (with_new home (seen_with s m) m q points) (length s.records);
+  opened = λ q points e are. taken (with_new home (seen_with s m) m q points) (length s.records);
   moved = λ n lt fine. taken (seen_with s m) n;
 })
   where

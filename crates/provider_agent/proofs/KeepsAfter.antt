@@ -61,6 +61,9 @@ keep_set records n r x h later k y g = elim (cases_eq k n) [
 keep_push : (records : List Record) (x : Record) → KeepRecords records (records ++ x ∷ [])
 keep_push records x n r h = (r, push_elsewhere records n x r h, take-length r.committed)
 
+pub keeps_same : (s : State) → Keeps s s
+keeps_same s = keep_same s.records
+
 ---- Entries
 
 -- a move of the record at a place, with what is told of its data plane
@@ -86,7 +89,7 @@ keep_heard home stp_of s m = heard_by home stp_of s m (λ x. KeepRecords s.recor
   ignored = keep_same s.records;
   unopened = keep_same s.records;
   refused = λ error r. keep_same s.records;
-  opened = λ q points e. keep_opened home (seen_with s m) m q points;
+  opened = λ q points e are. keep_opened home (seen_with s m) m q points;
   moved = λ n lt fine. keep_taken home (seen_with s m) n m lt;
 })
 

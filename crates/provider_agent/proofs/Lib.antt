@@ -21,6 +21,7 @@ pub mod GoodAfter
 pub mod EachSays
 pub mod PrintableAfter
 pub mod KeepsAfter
+pub mod PointsAfter
 pub mod FirstIsOne
 pub mod HonestAfter
 pub mod RunsSafe

@@ -1,5 +1,6 @@
 -- The calendar's loads are those of the records.
-use Rattle.std.proofs.Common.{◌≡◌, ◌<◌, ℕ, List, length, sym, ap, ◌∙◌, arith}
+use Rattle.std.proofs.Common.{◌≡◌, ◌<◌, ℕ, List, Option, IfSome, length, sym, ap, subst, ◌∙◌, arith}
+use Rattle.std.specs.Prelude.{Some, None}
 use Rattle.std.specs.Option.{option_map_or}
 use Rattle.std.proofs.lemmas.Option.{slice_get-get_or}
 use Rattle.nsi_base.specs.declared.flow.Flow.{Flow}
@@ -53,3 +54,11 @@ same_lack plan records n c kept one l =
     first_lack_by_number plan n r.source r.dest (is_both_ways r.service.directionality) c.interval c.capacity (length records) one kept.none
     ∙ first_lack_by-same _ _ (places plan.capacities r.source r.dest (is_both_ways r.service.directionality)) c.interval c.capacity
     (λ flow stp t. sum_but-same n (length records) _ _ (λ k m d. claim_is_demand records plan.bookings kept flow stp t k m) ∙ sym (others_at_places flow stp t n records l))
+
+-- what is answered is that sum too, where there is such a flow
+pub sums_by : (capacity other : Option ℕ) (n a b : ℕ) → capacity ≡ other → a ≡ b → IfSome capacity (λ _. n ≡ a) → IfSome other (λ _. n ≡ b)
+sums_by capacity other n a b same e sum = subst (λ o. IfSome o (λ _. n ≡ b)) same (by_capacity capacity sum)
+  where
+    by_capacity : (o : Option ℕ) → IfSome o (λ _. n ≡ a) → IfSome o (λ _. n ≡ b)
+    by_capacity (Some c) is = is ∙ e
+    by_capacity None is = tt

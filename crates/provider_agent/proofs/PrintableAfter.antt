@@ -165,7 +165,7 @@ printable_heard home stp_of s m = heard_by home stp_of s m SaysPrintable (record
   ignored = nothing_said IsPrintableBody;
   unopened = nothing_said IsPrintableBody;
   refused = λ error r. one_said IsPrintableBody (error_reply home.name m error) (error_plain (refusal home.name stp_of s.records m) error (refusal_plain home.name stp_of s.records m) r);
-  opened = λ q points e. taken (with_new home (seen_with s m) m q points) (length s.records);
+  opened = λ q points e are. taken (with_new home (seen_with s m) m q points) (length s.records);
   moved = λ n lt fine. taken (seen_with s m) n;
 })
   where

@@ -63,19 +63,19 @@ pub record IsInEachCase (home : Home) (stp_of : List ℕ → Option ℕ) (s : St
   pub ignored : P (unchanged s)
   pub unopened : P (unchanged (seen_with s m))
   pub refused : (error : ErrorName) → refusal home.name stp_of s.records m ≡ Some error → P (says (seen_with s m) (error_reply home.name m error ∷ []))
-  pub opened : (q : ReserveRequest) (points : ℕ × ℕ) → m.body ≡ Body.Reserve q → P (taken_at home (with_new home (seen_with s m) m q points) (length s.records) m)
+  pub opened : (q : ReserveRequest) (points : ℕ × ℕ) → m.body ≡ Body.Reserve q → points_of stp_of q ≡ Some points → P (taken_at home (with_new home (seen_with s m) m q points) (length s.records) m)
   pub moved : (n : ℕ) → n < length s.records → modification_refusal m.body (record_at n s.records) ≡ None → P (taken_at home (seen_with s m) n m)
 
 pub heard_by : (home : Home) (stp_of : List ℕ → Option ℕ) (s : State) (m : Message) (P : Stepped → Type 0) → IsInEachCase home stp_of s m P → P (hears (is_request m.body) (is_taken m.header s.seen) home stp_of s m)
 unfolding hears
 heard_by home stp_of s m P each = by_seen (is_request m.body) (is_taken m.header s.seen)
   where
-    between : (o : Option (ℕ × ℕ)) (q : ReserveRequest) → m.body ≡ Body.Reserve q → P (opens_between o home (seen_with s m) m q)
-    between None q e = each.unopened
-    between (Some points) q e = each.opened q points e
+    between : (o : Option (ℕ × ℕ)) (q : ReserveRequest) → m.body ≡ Body.Reserve q → points_of stp_of q ≡ o → P (opens_between o home (seen_with s m) m q)
+    between None q e are = each.unopened
+    between (Some points) q e are = each.opened q points e are
 
     opening : (body : Body) → m.body ≡ body → P (opens body home stp_of (seen_with s m) m)
-    opening (Body.Reserve q) e = between (points_of stp_of q) q e
+    opening (Body.Reserve q) e = between (points_of stp_of q) q e refl
     opening _ e = each.unopened
 
     accepting : (o : Option ℕ) → connection_of m.body ≡ o → refusal home.name stp_of s.records m ≡ None → P (accepts o home stp_of (seen_with s m) m)

@@ -8,13 +8,14 @@ use Rattle.std.specs.declared.alloc.AllocError.{AllocError}
 use Rattle.provider_agent.specs.State.{State, Standing, Stepped, counts}
 use Rattle.provider_agent.specs.Steps.{step, after, may_take}
 use Rattle.provider_agent.specs.Good.{IsGood}
-use Rattle.provider_agent.specs.Safety.{IsPrintableInput}
+use Rattle.provider_agent.specs.Safety.{IsPrintableInput, Keeps}
 use Rattle.provider_agent.specs.Kept.{AreKept}
 use Rattle.provider_agent.specs.Indexed.{AreIndexed}
 use Rattle.provider_agent.specs.Desk.{home_at, state_at, standing_at, IsReady, IsSteady}
 use Rattle.provider_agent.specs.declared.desk.Desk.{Desk}
 use Rattle.provider_agent.proofs.Counting.{step_taken, taken_is}
 use Rattle.provider_agent.proofs.GoodAfter.{few_taken, good_after}
+use Rattle.provider_agent.proofs.KeepsAfter.{keeps_after, keeps_same}
 
 -- what is good has a place and a number for one record more
 pub ready_where_steady : (d : Desk) → IsSteady d → d.taken < 4194304 → IsReady d
@@ -53,6 +54,13 @@ module _ {R : Type 0} (result : Result R AllocError) (d new : Desk) (stp_of : Li
 
   pub standing_after : OnOk result (standing_at new ≡ record (standing_at d) { state = (after (home_at d) stp_of (state_at d) e).state })
   standing_after = standing_by result ok
+
+  keeps_by : (r : Result R AllocError) → OnOk r (state_at new ≡ (counts (step e.input e.second (home_at d) stp_of (state_at d))).state) → OnErr r (state_at new ≡ state_at d) → Keeps (state_at d) (state_at new)
+  keeps_by (Ok x) is _ = subst (Keeps (state_at d)) (sym (is ∙ after_is)) (keeps_after (home_at d) stp_of (state_at d) e)
+  keeps_by (Err x) _ is = subst (Keeps (state_at d)) (sym is) (keeps_same (state_at d))
+
+  pub keeps_steady : Keeps (state_at d) (state_at new)
+  keeps_steady = keeps_by result ok err
 
 ---- By the answer
 

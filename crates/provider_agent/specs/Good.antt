@@ -1,13 +1,12 @@
 -- What is true of a provider in every state of every run.
-use Rattle.std.specs.Prelude.{◌≡◌, ◌≤◌, ◌<◌, ◌+◌, ◌*◌, ℕ, Bool, true, false, if◌then◌else◌, sum_by, List, slice_get, length, Option, Some, IfSome, IsSome}
+use Rattle.std.specs.Prelude.{◌≡◌, ◌≤◌, ◌<◌, ◌+◌, ◌*◌, ℕ, Bool, true, false, if◌then◌else◌, sum_by, List, slice_get, length, Some, IsSome}
 use Rattle.nsi_primitive.specs.Ids.{id_of}
 use Rattle.nsi_primitive.specs.Printable.{IsShort}
 use Rattle.nsi_primitive.specs.declared.state.Machine.{Machine}
 use Rattle.nsi_primitive.specs.declared.state.Rsm.{Rsm}
-use Rattle.nsi_primitive.specs.declared.message.Criteria.{Criteria}
 use Rattle.connection_record.specs.declared.record.Record.{Record}
-use Rattle.connection_record.specs.Demand.{last}
-use Rattle.connection_record.specs.Rising.{AreRising}
+use Rattle.connection_record.specs.Order.{IsInOrder}
+use Rattle.connection_record.specs.Rising.{AreRising, IsAboveLast}
 use Rattle.connection_record.specs.Turns.{waits}
 use Rattle.provider_agent.specs.Home.{Home}
 use Rattle.provider_agent.specs.State.{State}
@@ -20,16 +19,14 @@ is_asking Rsm.ReserveHeld = true
 is_asking Rsm.ReserveCommitting = true
 is_asking _ = false
 
-abbrev pub IsAboveLast : Option Criteria → List Criteria → Type 0
-IsAboveLast pending committed = IfSome pending (λ c. IfSome (last committed) (λ l. l.version < c.version))
-
--- versions rise, the pending one above the last; what is asked is there; texts are short
+-- versions rise, the pending one above the last; what is asked is there; texts are short; unanswered requests are those that are worked on
 pub record IsGoodRecord (r : Record) : Type 0 where
   pub rising : AreRising r.committed
   pub above : IsAboveLast r.pending r.committed
   pub asking : is_asking r.rsm ≡ true → IsSome r.pending
   pub description : IsShort 256 r.service.description
   pub global : IsShort 128 r.service.global
+  pub in_order : IsInOrder r
 
 -- ids rise with the records, and are below the next
 pub record AreOrdered (agent next : ℕ) (records : List Record) : Type 0 where

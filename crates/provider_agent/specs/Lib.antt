@@ -3,6 +3,7 @@ pub mod State
 pub mod Others
 pub mod Steps
 pub mod Runs
+pub mod Points
 pub mod Safety
 pub mod Kept
 pub mod Indexed

@@ -7,6 +7,7 @@ mod find;
 mod force;
 mod hear;
 mod home;
+pub mod laws;
 pub mod provider;
 mod records;
 mod tick;

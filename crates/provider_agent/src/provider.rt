@@ -1,6 +1,6 @@
 //! A provider.
 
-ghost use Rattle.std.specs.Prelude.{◌≡◌, ◌<◌, ◌≤◌, length, All, IfOk, OnOk, OnErr, IfSome, IsSome, true};
+ghost use Rattle.std.specs.Prelude.{◌≡◌, ◌<◌, ◌≤◌, length, All, IfOk, OnOk, OnErr, IfSome, IfNone, true};
 ghost use Rattle.stp_topology.specs.Sound.{IsProvider};
 ghost use Rattle.nsi_primitive.specs.Printable.{IsPrintable};
 ghost use Rattle.capacity_calendar.specs.Plan.{capacity_at};
@@ -9,7 +9,7 @@ ghost use Rattle.provider_agent.specs.Home.{home_of, own_stp};
 ghost use Rattle.provider_agent.specs.State.{blank};
 ghost use Rattle.provider_agent.specs.Steps.{after, may_take, is_seen, waiting_work};
 ghost use Rattle.provider_agent.specs.Good.{IsGood};
-ghost use Rattle.provider_agent.specs.Safety.{IsCapped, IsRising, IsHonest, IsPrintableInput};
+ghost use Rattle.provider_agent.specs.Safety.{IsCapped, IsRising, Keeps, IsHonest, IsPrintableInput};
 
 use crate::desk::Desk;
 use crate::work::waiting_work;
@@ -65,9 +65,10 @@ impl Provider {
         ensures err { OnErr result (self.new ≡ self.old) }
         ensures printable { IfOk result (λ out. All IsPrintable out.items) }
 
-        // No load passes a capacity, versions rise, and a refusal for bandwidth names the first lack.
+        // No load passes a capacity, versions rise, what was committed stays, and a refusal for bandwidth names the first lack.
         ensures capped { IsCapped self.new.home self.new.state }
         ensures rising { IsRising self.new.state }
+        ensures keeps { Keeps self.old.state self.new.state }
         ensures honest { IsHonest self.old.home (own_stp topology.now self.old.home.number) self.old.state entry.now }
     {
         self.desk.take(alloc, topology, entry)
@@ -115,10 +116,10 @@ impl Provider {
         &self.desk.records
     }
 
-    /// The Mbps that its records claim of a flow of a service termination point at a second.
+    /// The Mbps that its records claim of a flow of one of its service termination points at a second.
     pub fn load_at(&self, stp: StpNo, flow: Flow, t: Second) -> u64
-        requires { IsSome (capacity_at self.now.home.capacities stp flow) }
-        ensures sum { result ≡ load flow stp t self.now.state.records }
+        ensures sum { IfSome (capacity_at self.now.home.capacities stp flow) (λ _. result ≡ load flow stp t self.now.state.records) }
+        ensures none { IfNone (capacity_at self.now.home.capacities stp flow) (result ≡ 0) }
         ensures within { IfSome (capacity_at self.now.home.capacities stp flow) (λ capacity. result ≤ capacity) }
     {
         self.desk.calendar.facts();

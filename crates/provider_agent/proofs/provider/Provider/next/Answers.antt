@@ -7,7 +7,8 @@ use Rattle.provider_agent.specs.Desk.{home_at, state_at, standing_at}
 use Rattle.provider_agent.proofs.PrintableAfter.{printable_after}
 use Rattle.provider_agent.proofs.HonestAfter.{honest_after}
 use Rattle.provider_agent.proofs.Counting.{rising_where_good, taken_is}
-use Rattle.provider_agent.proofs.Steady.{steady_after, standing_after, stands_by, says_by, prints_by}
+use Rattle.provider_agent.specs.Safety.{Keeps}
+use Rattle.provider_agent.proofs.Steady.{steady_after, keeps_steady, standing_after, stands_by, says_by, prints_by}
 use Rattle.provider_agent.proofs.provider.Provider.next.Goals as goal
 
 pub invariant_of-self : goal.invariant_of-self
@@ -61,3 +62,11 @@ returns-clause-honest c =
     let now = c.args.self.now in
     let good : IsGood now.home now.state = subst (λ (x : Standing). IsGood x.home x.state) c.self.view_is c.self.invariant.good in
     honest_after now.home (own_stp c.args.topology.now now.home.number) now.state c.args.entry.now good c.requires.may_take
+
+pub returns-clause-keeps : goal.returns-clause-keeps
+returns-clause-keeps c =
+    let d = c.self.inside.desk in
+    let e = c.args.entry.now in
+    let may : may_take (state_at d) e ≡ _ = ap (λ (x : Standing). may_take x.state e) c.self.view_is ∙ c.requires.may_take in
+    subst (λ (x : Standing). Keeps x.state (state_at c.take.new.self)) c.self.view_is
+    (keeps_steady c.take.result d c.take.new.self (own_stp c.args.topology.now d.agent.number) e c.self.invariant may c.requires.printable c.take.ensures.state c.take.ensures.err c.take.ensures.home c.take.ensures.kept c.take.ensures.indexed)
