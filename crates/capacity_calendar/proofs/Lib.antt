@@ -11,6 +11,7 @@ pub mod SlotsByNumber
 pub mod Sums
 pub mod LoadByNumber
 pub mod Kept
+pub mod ByPoint
 pub mod Indexed
 pub mod Listed
 pub mod Rows

@@ -3,7 +3,9 @@ use Rattle.std.specs.Prelude.{◌≡◌, ◌≤◌, ◌<◌, ℕ, ◌&&◌, List
 use Rattle.nsi_base.specs.Range.{Span, is_covered}
 use Rattle.capacity_calendar.specs.declared.booking.Booking.{Booking}
 use Rattle.capacity_calendar.specs.declared.booking.Lack.{Lack}
+use Rattle.capacity_calendar.specs.declared.booking.Listed.{Listed}
 use Rattle.capacity_calendar.specs.declared.booking.Slot.{Slot}
+use Rattle.capacity_calendar.specs.Kept.{meets}
 use Rattle.capacity_calendar.specs.Plan.{booking_of}
 
 -- a second that lacks, and none before it in the span does
@@ -36,9 +38,13 @@ abbrev pub record_start : (ℕ → Bool) → Span → Option Booking → Option 
 record_start lacks span None = None
 record_start lacks span (Some b) = booking_start lacks span b
 
+-- the same of a listed record, where its span meets this one
+abbrev pub listed_start : (ℕ → Bool) → Span → List Booking → Listed → Option ℕ
+listed_start lacks span bookings l = if meets l.span span then record_start lacks span (booking_of l.number bookings) else None
+
 -- the first start that lacks, of the bookings of these records
-unfoldable pub first_start : (ℕ → Bool) → Span → List Booking → List ℕ → Option ℕ
-first_start lacks span bookings numbers = fold (λ o n. earlier o (record_start lacks span (booking_of n bookings))) None numbers
+unfoldable pub first_start : (ℕ → Bool) → Span → List Booking → List Listed → Option ℕ
+first_start lacks span bookings ls = fold (λ o l. earlier o (listed_start lacks span bookings l)) None ls
 
 -- the lack at the lesser second, of two that may be there; the first where they are at the same
 abbrev pub sooner : Option Lack → Option Lack → Option Lack

@@ -46,6 +46,21 @@ pub struct Place {
     pub capacity: Mbps,
 }
 
+/// The capacities of a point by flow, where it has the flow.
+#[derive(Clone, Copy, Debug, PartialEq, Eq)]
+pub(crate) struct PointCapacities {
+    pub(crate) both: Option<Mbps>,
+    pub(crate) inward: Option<Mbps>,
+    pub(crate) outward: Option<Mbps>,
+}
+
+/// A record that books at a point, and an interval within which all its slots there lie.
+#[derive(Clone, Copy, Debug, PartialEq, Eq)]
+pub(crate) struct Listed {
+    pub(crate) number: RecordNo,
+    pub(crate) span: Interval,
+}
+
 /// What a record asks for.
 #[derive(Clone, Copy, Debug, PartialEq, Eq)]
 pub(crate) struct Wish {

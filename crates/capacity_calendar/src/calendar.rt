@@ -4,10 +4,11 @@ ghost use Rattle.std.specs.Prelude.{◌≡◌, ℕ, ◌≤◌, ◌<◌, IfSome, 
 ghost use Rattle.std.specs.Option.{option_copied};
 ghost use Rattle.capacity_calendar.specs.Load.{load, others};
 ghost use Rattle.capacity_calendar.specs.Lack.{first_lack_among};
-ghost use Rattle.capacity_calendar.specs.Plan.{capacity_at, is_same_flow, booked_place, places_at, booking_of, committed_of, pending_of, pending_set, with_pending, settled};
+ghost use Rattle.capacity_calendar.specs.Plan.{capacity_at, booked_place, places_at, booking_of, committed_of, pending_of, pending_set, with_pending, settled};
 
 use crate::booking::{Booking, Capacity, Demand, Lack, Place, Slot, Wish};
 use crate::bookings::Bookings;
+use crate::capacities::Capacities;
 use crate::lack::{first_second, sooner};
 use crate::load::{books, load, load_of_others};
 use crate::points::{Points, forget};
@@ -18,7 +19,7 @@ use std::marker::Model;
 /// The capacities of service termination points, and bookings within them.
 #[derive(Debug, Drop)]
 pub struct Calendar {
-    capacities: List<Capacity>,
+    capacities: Capacities,
     bookings: Bookings,
     points: Points,
 }
@@ -43,7 +44,7 @@ impl Calendar {
         ensures sound { IfOk result IsSound }
     {
         Ok(Calendar {
-            capacities,
+            capacities: Capacities::new(alloc, capacities)?,
             bookings: Bookings::new(alloc),
             points: Points::new(alloc)?,
         })
@@ -60,7 +61,7 @@ impl Calendar {
     pub fn capacity(&self, stp: StpNo, flow: Flow) -> Option<Mbps>
         ensures { result ≡ capacity_at self.now.capacities stp flow }
     {
-        capacity_of(self.capacities.items(), stp, flow)
+        self.capacities.of(stp, flow)
     }
 
     /// What a record has booked.
@@ -76,7 +77,7 @@ impl Calendar {
         ensures none { IfNone (capacity_at self.now.capacities stp flow) (result ≡ 0) }
         ensures within { IfSome (capacity_at self.now.capacities stp flow) (λ c. result ≤ c) }
     {
-        let Some(capacity) = capacity_of(self.capacities.items(), stp, flow) else {
+        let Some(capacity) = self.capacities.of(stp, flow) else {
             return 0;
         };
         let place = Place {
@@ -101,7 +102,7 @@ impl Calendar {
         ensures first { IfSome result (IsFirstLack self.now number stp flow interval mbps) }
         ensures function { result ≡ first_lack_at self.now number stp flow interval mbps }
     {
-        let capacity = capacity_of(self.capacities.items(), stp, flow)?;
+        let capacity = self.capacities.of(stp, flow)?;
         let place = Place {
             stp,
             flow,
@@ -113,9 +114,9 @@ impl Calendar {
             interval,
             mbps,
         };
-        let numbers = self.points.at(stp);
-        let second = first_second(&self.bookings, numbers, &demand)?;
-        let load = load_of_others(&self.bookings, numbers, &demand, second);
+        let listed = self.points.at(stp);
+        let second = first_second(&self.bookings, listed, &demand)?;
+        let load = load_of_others(&self.bookings, listed, &demand, second);
         Some(Lack {
             stp,
             flow,
@@ -172,7 +173,7 @@ impl Calendar {
         if !books(&wish.slot, flow, stp) {
             return None;
         }
-        capacity_of(self.capacities.items(), stp, flow)?;
+        self.capacities.of(stp, flow)?;
         self.check(stp, flow, wish.slot.interval, wish.slot.mbps, wish.number)
     }
 
@@ -206,8 +207,8 @@ impl Calendar {
             interval,
             mbps,
         };
-        self.points.add(source, number)?;
-        self.points.add(dest, number)?;
+        self.points.add(source, number, interval)?;
+        self.points.add(dest, number, interval)?;
         let wish = Wish { number, slot };
         let booking = booking_with(&self.bookings, &wish);
         self.bookings.put(&booking)?;
@@ -258,21 +259,4 @@ fn booking_with(bookings: &Bookings, wish: &Wish) -> Booking
         committed: bookings.committed_of(wish.number),
         pending: Some(wish.slot),
     }
-}
-
-fn is_same_flow(flow: Flow, other: Flow) -> bool
-    ensures { result ≡ is_same_flow flow other }
-{
-    flow == other
-}
-
-fn capacity_of(capacities: &[Capacity], stp: StpNo, flow: Flow) -> Option<Mbps>
-    ensures { result ≡ capacity_at capacities.now stp flow }
-{
-    for c in capacities {
-        if c.stp == stp && is_same_flow(c.flow, flow) {
-            return Some(c.mbps);
-        }
-    }
-    None
 }

@@ -4,6 +4,7 @@
 pub mod booking;
 mod bookings;
 mod calendar;
+mod capacities;
 mod lack;
 mod load;
 mod points;

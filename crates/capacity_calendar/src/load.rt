@@ -2,11 +2,12 @@
 
 ghost use Rattle.std.specs.Prelude.{◌≡◌, ◌≤◌, ◌<◌, ◌^◌, sum_by};
 ghost use Rattle.std.specs.Option.{option_copied};
-ghost use Rattle.capacity_calendar.specs.Kept.{IsListed};
+ghost use Rattle.nsi_base.specs.Range.{is_covered};
+ghost use Rattle.capacity_calendar.specs.Kept.{IsListed, counted_if};
 ghost use Rattle.capacity_calendar.specs.Load.{books_slot, taken, claim, load, others};
 ghost use Rattle.capacity_calendar.specs.Plan.{booking_of, counted};
 
-use crate::booking::{Booking, Demand, Place, Slot};
+use crate::booking::{Booking, Demand, Listed, Place, Slot};
 use crate::bookings::Bookings;
 use nsi_base::{Flow, RecordNo, Second, StpNo};
 
@@ -44,25 +45,39 @@ fn claim_of(bookings: &Bookings, number: RecordNo, place: &Place, t: Second) -> 
     }
 }
 
+/// What a listed record claims at a second, which is nothing where its span doesn't cover it.
+fn claim_listed(bookings: &Bookings, listed: &Listed, place: &Place, t: Second) -> u64
+    ensures { let p = place.now in
+        result ≡ counted_if (λ s. is_covered s t) (claim p.flow p.stp t) bookings.now listed.now }
+{
+    if listed.span.covers(t) {
+        claim_of(bookings, listed.number, place, t)
+    } else {
+        0
+    }
+}
+
 /// The Mbps that are booked at a place, where these records book.
-pub(crate) fn load(bookings: &Bookings, numbers: &[RecordNo], place: &Place, t: Second) -> u64
-    requires { IsListed place.now bookings.now numbers.now }
+pub(crate) fn load(bookings: &Bookings, listed: &[Listed], place: &Place, t: Second) -> u64
+    requires { IsListed place.now bookings.now listed.now }
     ensures { result ≡ load place.now.flow place.now.stp t bookings.now }
 {
     // what the capacity is at most, the sum is too
     let _most = place.capacity.get();
-    sum(bookings, numbers, place, t)
+    sum(bookings, listed, place, t)
 }
 
-fn sum(bookings: &Bookings, numbers: &[RecordNo], place: &Place, t: Second) -> u64
-    requires { let claims = counted (claim place.now.flow place.now.stp t) bookings.now in
-        sum_by claims numbers.now < 2 ^ 62 }
-    ensures { let claims = counted (claim place.now.flow place.now.stp t) bookings.now in
-        result ≡ sum_by claims numbers.now }
+fn sum(bookings: &Bookings, listed: &[Listed], place: &Place, t: Second) -> u64
+    requires { let p = place.now in
+        let claims = counted_if (λ s. is_covered s t) (claim p.flow p.stp t) bookings.now in
+        sum_by claims listed.now < 2 ^ 62 }
+    ensures { let p = place.now in
+        let claims = counted_if (λ s. is_covered s t) (claim p.flow p.stp t) bookings.now in
+        result ≡ sum_by claims listed.now }
 {
-    numbers
+    listed
         .iter()
-        .map(|n| claim_of(bookings, *n, place, t))
+        .map(|l| claim_listed(bookings, l, place, t))
         .sum()
 }
 
@@ -86,32 +101,44 @@ fn claim_of_other(bookings: &Bookings, demand: &Demand, n: RecordNo, t: Second) 
     }
 }
 
+fn claim_of_other_listed(bookings: &Bookings, demand: &Demand, listed: &Listed, t: Second) -> u64
+    ensures { let p = demand.now.place in
+        let rest = others demand.now.number bookings.now in
+        result ≡ counted_if (λ s. is_covered s t) (claim p.flow p.stp t) rest listed.now }
+{
+    if listed.span.covers(t) {
+        claim_of_other(bookings, demand, listed.number, t)
+    } else {
+        0
+    }
+}
+
 /// The Mbps that the other records have booked at a place, where these records book.
 pub(crate) fn load_of_others(
     bookings: &Bookings,
-    numbers: &[RecordNo],
+    listed: &[Listed],
     demand: &Demand,
     t: Second,
 ) -> u64
-    requires { IsListed demand.now.place bookings.now numbers.now }
+    requires { IsListed demand.now.place bookings.now listed.now }
     ensures sum { let p = demand.now.place in
         result ≡ load p.flow p.stp t (others demand.now.number bookings.now) }
     ensures within { result ≤ demand.now.place.capacity }
 {
     let _most = demand.place.capacity.get();
-    sum_of_others(bookings, numbers, demand, t)
+    sum_of_others(bookings, listed, demand, t)
 }
 
-fn sum_of_others(bookings: &Bookings, numbers: &[RecordNo], demand: &Demand, t: Second) -> u64
+fn sum_of_others(bookings: &Bookings, listed: &[Listed], demand: &Demand, t: Second) -> u64
     requires { let p = demand.now.place in
         let rest = others demand.now.number bookings.now in
-        sum_by (counted (claim p.flow p.stp t) rest) numbers.now < 2 ^ 62 }
+        sum_by (counted_if (λ s. is_covered s t) (claim p.flow p.stp t) rest) listed.now < 2 ^ 62 }
     ensures { let p = demand.now.place in
         let rest = others demand.now.number bookings.now in
-        result ≡ sum_by (counted (claim p.flow p.stp t) rest) numbers.now }
+        result ≡ sum_by (counted_if (λ s. is_covered s t) (claim p.flow p.stp t) rest) listed.now }
 {
-    numbers
+    listed
         .iter()
-        .map(|n| claim_of_other(bookings, demand, *n, t))
+        .map(|l| claim_of_other_listed(bookings, demand, l, t))
         .sum()
 }

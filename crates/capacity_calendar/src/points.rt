@@ -1,77 +1,119 @@
-//! Which records book at which point.
+//! Which records book at which point, and when.
 
-ghost use Rattle.std.specs.Prelude.{◌≡◌, ◌≤◌, ◌<◌, ℕ, IfOk, OnOk, OnErr, get_or, length, []};
-ghost use Rattle.capacity_calendar.specs.Kept.{slot_touches, is_at, is_in, added, without, added_at, without_at, IsIndexed};
+ghost use Rattle.std.specs.Prelude.{◌≡◌, ◌≤◌, ◌<◌, ◌==◌, ℕ, IfOk, IfSome, IfNone, OnOk, List, get_or, slice_set, length, [], true, false};
+ghost use Rattle.std.specs.List.{list_any};
+ghost use Rattle.nsi_base.specs.Range.{Span};
+ghost use Rattle.capacity_calendar.specs.declared.booking.Booking.{Booking};
+ghost use Rattle.capacity_calendar.specs.declared.booking.Listed.{Listed as Entry};
+ghost use Rattle.capacity_calendar.specs.Kept.{slot_touches, is_at, numbers_of, joined, is_spanned, without, IsDistinct, IsIndexed};
 
-use crate::booking::Slot;
+use crate::booking::{Listed, Slot};
 use crate::bookings::Bookings;
-use nsi_base::{RecordNo, StpNo};
+use nsi_base::{Interval, RecordNo, StpNo};
 use std::alloc::{AllocError, Global};
 use std::marker::Model;
 
-/// Numbers of records.
+/// The records that are listed at a point.
 #[derive(Debug, Drop)]
-struct Numbers {
-    items: Vec<RecordNo>,
+struct Listing {
+    items: Vec<Listed>,
 }
 
-impl Model for Numbers {
-    ghost use Rattle.std.specs.Prelude.{List, ℕ};
+impl Model for Listing {
+    ghost use Rattle.std.specs.Prelude.{List};
+    ghost use Rattle.capacity_calendar.specs.declared.booking.Listed.{Listed};
 
-    ghost Value = { List ℕ };
+    ghost Value = { List Listed };
 
-    ghost view = { λ n. n.items.items };
+    ghost view = { λ l. l.items.items };
 }
 
-impl Numbers {
+impl Listing {
     fn new(alloc: Global) -> Self
         ensures { result ≡ [] }
     {
-        Numbers {
+        Listing {
             items: Vec::new(alloc),
         }
     }
 
-    fn items(&self) -> &[RecordNo]
+    fn items(&self) -> &[Listed]
         ensures { result.now ≡ self.now }
     {
         &self.items
     }
 
-    fn add(&mut self, number: RecordNo) -> Result<(), AllocError>
-        ensures ok { OnOk result (self.new ≡ added number self.old) }
-        ensures err { OnErr result (self.new ≡ self.old) }
+    /// Lists a record, or widens the span that it is listed with.
+    fn add(&mut self, number: RecordNo, span: Interval) -> Result<(), AllocError>
+        ensures distinct { IsDistinct (numbers_of self.old) → IsDistinct (numbers_of self.new) }
+        ensures more { (k : ℕ) (s : Span) → is_spanned k s self.old ≡ true → is_spanned k s self.new ≡ true }
+        ensures listed { OnOk result (is_spanned number span self.new ≡ true) }
     {
-        if is_in(&self.items, number) {
-            return Ok(());
+        match place_of(&self.items, number) {
+            Some(place) => {
+                widen(&mut self.items, place, span);
+                Ok(())
+            }
+            None => {
+                self.items.push(Listed { number, span })?;
+                Ok(())
+            }
         }
-        self.items.push(number)?;
-        Ok(())
     }
 
     fn remove(&mut self, number: RecordNo)
         ensures { self.new ≡ without number self.old }
     {
-        self.items.retain(|n| *n != number);
+        self.items.retain(|l| l.number != number);
     }
 }
 
-fn is_in(numbers: &[RecordNo], number: RecordNo) -> bool
-    ensures { result ≡ is_in number numbers.now }
+/// Where a record stands, if it is listed.
+fn place_of(listed: &[Listed], number: RecordNo) -> Option<usize>
+    ensures within { IfSome result (λ i. i < length listed.now) }
+    ensures found { IfSome result (λ i. (d : Entry) → (get_or listed.now i d).number ≡ number) }
+    ensures none { IfNone result (list_any (λ l. l.number == number) listed.now ≡ false) }
 {
-    numbers.iter().any(|n| *n == number)
+    for (i, l) in listed.iter().enumerate() {
+        if l.number == number {
+            return Some(i);
+        }
+    }
+    None
+}
+
+fn widen(listed: &mut Vec<Listed>, place: usize, span: Interval)
+    requires { place < length listed.old.items }
+    ensures { (d : Entry) → let l = get_or listed.old.items place d in
+        listed.new.items ≡ slice_set listed.old.items place (record l { span = joined l.span span }) }
+{
+    let wide = joined(listed[place].span, span);
+    listed[place].span = wide;
+}
+
+/// The least interval that holds both.
+fn joined(a: Interval, b: Interval) -> Interval
+    ensures { result ≡ joined a b }
+{
+    let start = a.start().min(b.start());
+    let end = a.end().max(b.end());
+    match Interval::new(start, end) {
+        Some(wide) => wide,
+        None => unreachable!(),
+    }
 }
 
 /// For each point the records with a slot there, and maybe others.
 #[derive(Debug, Drop)]
 pub(crate) struct Points {
-    by_point: Vec<Numbers>,
+    by_point: Vec<Listing>,
 }
 
 impl Model for Points {
-    ghost use Rattle.std.specs.Prelude.{◌≤◌, List, ℕ, length};
+    ghost use Rattle.std.specs.Prelude.{◌≤◌, List, length};
+    ghost use Rattle.capacity_calendar.specs.declared.booking.Listed.{Listed};
 
-    ghost Value = { List (List ℕ) };
+    ghost Value = { List (List Listed) };
 
     ghost view = { λ p. p.by_point.items };
 
@@ -84,28 +126,34 @@ impl Points {
     {
         let mut by_point = Vec::new(alloc);
         for n in 0usize..4096 {
-            by_point.push(Numbers::new(alloc))?;
+            by_point.push(Listing::new(alloc))?;
         }
         Ok(Points { by_point })
     }
 
-    pub(crate) fn at(&self, stp: StpNo) -> &[RecordNo]
+    pub(crate) fn at(&self, stp: StpNo) -> &[Listed]
         ensures value { result.now ≡ get_or self.now stp [] }
         ensures in_range { stp ≤ 4095 }
     {
         self.by_point[stp.get() as usize].items()
     }
 
-    pub(crate) fn add(&mut self, stp: StpNo, number: RecordNo) -> Result<(), AllocError>
-        ensures ok { OnOk result (self.new ≡ added_at stp number self.old) }
-        ensures err { OnErr result (self.new ≡ self.old) }
-        ensures within { stp < length self.old }
+    /// Lists a record at a point, or widens the span that it is listed with.
+    pub(crate) fn add(
+        &mut self,
+        stp: StpNo,
+        number: RecordNo,
+        span: Interval,
+    ) -> Result<(), AllocError>
+        ensures indexed { (bookings : List Booking) → IsIndexed bookings self.old → IsIndexed bookings self.new }
+        ensures more { (k q : ℕ) (s : Span) → is_spanned k s (get_or self.old q []) ≡ true → is_spanned k s (get_or self.new q []) ≡ true }
+        ensures listed { OnOk result (is_spanned number span (get_or self.new stp []) ≡ true) }
     {
-        self.by_point[stp.get() as usize].add(number)
+        self.by_point[stp.get() as usize].add(number, span)
     }
 
     fn remove(&mut self, stp: StpNo, number: RecordNo)
-        ensures removed { self.new ≡ without_at stp number self.old }
+        ensures removed { self.new ≡ slice_set self.old stp (without number (get_or self.old stp [])) }
         ensures within { stp < length self.old }
     {
         self.by_point[stp.get() as usize].remove(number);

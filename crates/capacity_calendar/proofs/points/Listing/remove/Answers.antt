@@ -1,7 +1,7 @@
 use Rattle.std.proofs.Common.{◌≡◌, rules}
 use Rattle.std.proofs.lemmas.Fn.{filter_same}
 use Rattle.capacity_calendar.specs.Kept.{without}
-use Rattle.capacity_calendar.proofs.points.Numbers.remove.Goals as goal
+use Rattle.capacity_calendar.proofs.points.Listing.remove.Goals as goal
 
 pub returns : goal.returns
 returns c =
