@@ -1,0 +1,4 @@
+mod Back
+pub mod Moments
+mod Space
+mod Undone

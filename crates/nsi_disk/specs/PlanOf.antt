@@ -1,0 +1,6 @@
+use Rattle.nsi_disk.specs.Plan.{Planned}
+use Rattle.nsi_disk.specs.declared.plan.Plan.{Plan}
+
+-- the plan of a disk in memory, as contracts see it
+abbrev pub planned_of : Plan → Planned
+planned_of p = record { calls = p.calls; faults = p.faults; stops = p.stopped; failing = p.failing.items; stopping = p.stops.items }

@@ -1,0 +1,110 @@
+//! A content with room for further calls.
+
+ghost use Rattle.std.specs.Prelude.{◌≡◌, ◌≤◌, ◌+◌, ◌-◌, ℕ, length, take, OnOk, OnErr, IfOk};
+ghost use Rattle.nsi_disk.specs.Disk.{Fresh, Wrote, CutTo, Synced, Broke, seen, written};
+ghost use Rattle.nsi_disk.specs.Images.{Made, Made-prop};
+ghost use Rattle.nsi_disk.specs.Memory.{told_by, HasSpace, reads};
+ghost use Rattle.nsi_disk.specs.Plan.{Within};
+
+use crate::content::Content;
+use crate::room::Room;
+use std::alloc::{AllocError, Global};
+
+#[derive(Drop)]
+pub struct Tape {
+    pub content: Content,
+    pub room: Room,
+    ghost made: { Made (told_by content) } by { Made-prop (told_by content) },
+    ghost space: { HasSpace room.calls room.longest room.bytes content },
+}
+
+impl Tape {
+    /// These bytes, with no room.
+    pub fn new(alloc: Global, bytes: Vec<u8>) -> Tape
+        ensures fresh { told_by result.content ≡ Fresh bytes.items }
+        ensures calls { result.room.calls ≡ 0 }
+        ensures longest { result.room.longest ≡ 0 }
+        ensures bytes { result.room.bytes ≡ 0 }
+    {
+        let log = Vec::new(alloc);
+        let saved = Vec::new(alloc);
+        Tape {
+            content: Content { bytes, log, saved },
+            room: Room {
+                calls: 0,
+                longest: 0,
+                bytes: 0,
+            },
+        }
+    }
+
+    /// A call that changes nothing.
+    pub fn skip(&mut self)
+        ensures same { told_by self.new.content ≡ told_by self.old.content }
+        ensures room { self.new.room.calls ≡ self.old.room.calls - 1 }
+        ensures longest { self.new.room.longest ≡ self.old.room.longest }
+        ensures bytes { self.new.room.bytes ≡ self.old.room.bytes }
+    {
+        self.room.skip();
+    }
+
+    pub fn write(&mut self, place: u64, piece: &[u8]) -> Result<(), AllocError>
+        requires { place ≤ length (seen (told_by self.old.content)) }
+        ensures done { OnOk result (told_by self.new.content ≡ Wrote place (length piece.now) (written place piece.now (seen (told_by self.old.content))) (told_by self.old.content)) }
+        ensures same { OnErr result (told_by self.new.content ≡ told_by self.old.content) }
+        ensures room { Within self.old.room.calls self.old.room.longest self.old.room.bytes (place + length piece.now) (length piece.now) (length (seen (told_by self.old.content))) → OnErr result ⊥ × (self.new.room.calls ≡ self.old.room.calls - 1) × (self.old.room.bytes ≤ self.new.room.bytes + length piece.now) }
+        ensures longest { self.new.room.longest ≡ self.old.room.longest }
+    {
+        let length = self.content.bytes.len();
+        self.room.take(place, piece.len(), piece.len(), length);
+        self.content.write(place, piece)
+    }
+
+    pub fn cut(&mut self, len: u64) -> Result<(), AllocError>
+        requires { len ≤ length (seen (told_by self.old.content)) }
+        ensures done { OnOk result (told_by self.new.content ≡ CutTo len (take len (seen (told_by self.old.content))) (told_by self.old.content)) }
+        ensures same { OnErr result (told_by self.new.content ≡ told_by self.old.content) }
+        ensures room { Within self.old.room.calls self.old.room.longest self.old.room.bytes (len + 0) (length (seen (told_by self.old.content)) - len) (length (seen (told_by self.old.content))) → OnErr result ⊥ × (self.new.room.calls ≡ self.old.room.calls - 1) × (self.old.room.bytes ≤ self.new.room.bytes + (length (seen (told_by self.old.content)) - len)) }
+        ensures longest { self.new.room.longest ≡ self.old.room.longest }
+    {
+        let length = self.content.bytes.len();
+        self.room.take(len, 0, length - len as usize, length);
+        self.content.cut(len)
+    }
+
+    pub fn sync(&mut self) -> Result<(), AllocError>
+        ensures done { OnOk result (told_by self.new.content ≡ Synced (told_by self.old.content)) }
+        ensures same { OnErr result (told_by self.new.content ≡ told_by self.old.content) }
+        ensures room { Within self.old.room.calls self.old.room.longest self.old.room.bytes 0 0 (length (seen (told_by self.old.content))) → OnErr result ⊥ × (self.new.room.calls ≡ self.old.room.calls - 1) × (self.old.room.bytes ≤ self.new.room.bytes + 0) }
+        ensures longest { self.new.room.longest ≡ self.old.room.longest }
+    {
+        let length = self.content.bytes.len();
+        self.room.take(0, 0, 0, length);
+        self.content.sync()
+    }
+
+    pub fn pause(&mut self, place: u64, n: usize) -> Result<(), AllocError>
+        ensures done { OnOk result (told_by self.new.content ≡ Broke (seen (told_by self.old.content)) (told_by self.old.content)) }
+        ensures same { OnErr result (told_by self.new.content ≡ told_by self.old.content) }
+        ensures room { Within self.old.room.calls self.old.room.longest self.old.room.bytes (place + n) 0 (length (seen (told_by self.old.content))) → OnErr result ⊥ × (self.new.room.calls ≡ self.old.room.calls - 1) × (self.old.room.bytes ≤ self.new.room.bytes + 0) }
+        ensures longest { self.new.room.longest ≡ self.old.room.longest }
+    {
+        let length = self.content.bytes.len();
+        self.room.take(place, n, 0, length);
+        self.content.pause()
+    }
+
+    pub fn make_room(&mut self, calls: u64, longest: u64, bytes: u64) -> Result<(), AllocError>
+        ensures same { told_by self.new.content ≡ told_by self.old.content }
+        ensures ok { OnOk result (self.new.room ≡ record { calls = calls; longest = longest; bytes = bytes }) }
+        ensures err { OnErr result (self.new.room ≡ self.old.room) }
+    {
+        self.content.reserve(calls, longest, bytes)?;
+        self.room = Room {
+            calls,
+            longest,
+            bytes,
+        };
+        Ok(())
+    }
+}
