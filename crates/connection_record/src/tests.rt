@@ -2,8 +2,10 @@
 
 use crate::{LifecycleMove, Move, Origin, ProvisionMove, Record, Reply, ReservationMove};
 use nsi_base::{AgentNo, HoldTime, Interval, Mbps, Name, Second, StpNo, Version};
-use nsi_primitive::{Body, Criteria, Directionality, ErrorName, Id, Rsm, Service, Side, id_of};
-use std::alloc::Global;
+use nsi_primitive::{
+    Body, Criteria, Directionality, ErrorName, Id, Kind, Psm, Rsm, Service, Side, id_of,
+};
+use std::alloc::{AllocError, Global};
 use std::test::Fail;
 
 fn id(n: u32) -> Result<Id, Fail> {
@@ -113,6 +115,8 @@ fn word(reply: &Reply) -> (&str, u64) {
         Body::ReserveCommitConfirmed { .. } => ("reserveCommitConfirmed", 0),
         Body::ReserveTimeout(timeout) => ("reserveTimeout", timeout.notification),
         Body::ProvisionConfirmed { .. } => ("provisionConfirmed", 0),
+        Body::ReleaseConfirmed { .. } => ("releaseConfirmed", 0),
+        Body::ErrorEvent(fault) => ("errorEvent", fault.notification),
         Body::TerminateConfirmed { .. } => ("terminateConfirmed", 0),
         Body::DataPlaneStateChange(plane) if plane.active => ("active", plane.notification),
         Body::DataPlaneStateChange(plane) => ("inactive", plane.notification),
@@ -221,5 +225,134 @@ fn restored_record_is_as_it_was(rt: HostRuntime) -> Result<(), Fail> {
     assert!(rt; own.deadline.is_none());
     assert!(rt; own.committed.items().is_empty());
     assert!(rt; own.results.items().is_empty());
+    Ok(())
+}
+
+fn is_copy(copy: &Record, own: &Record) -> bool {
+    copy.id == own.id
+        && copy.owner.is(&own.owner)
+        && copy.service.source.is(&own.service.source)
+        && copy.service.dest.is(&own.service.dest)
+        && copy.source == own.source
+        && copy.dest == own.dest
+        && has_same_states(copy, own)
+        && has_same_lists(copy, own)
+}
+
+fn has_same_states(copy: &Record, own: &Record) -> bool {
+    copy.rsm == own.rsm
+        && copy.psm == own.psm
+        && copy.lsm == own.lsm
+        && copy.pending == own.pending
+        && copy.attempt == own.attempt
+        && copy.provision_request == own.provision_request
+        && copy.deadline == own.deadline
+}
+
+fn has_same_lists(copy: &Record, own: &Record) -> bool {
+    copy.committed.items() == own.committed.items()
+        && copy.notices.items() == own.notices.items()
+        && copy.results.items() == own.results.items()
+}
+
+#[test]
+fn copy_is_the_same(rt: HostRuntime) -> Result<(), Fail> {
+    let mut replies = Vec::new(rt.alloc());
+    let mut own = made(rt.alloc())?;
+    life(rt.alloc(), &mut own, &mut replies)?;
+    let copy = own.copy()?;
+    assert!(rt; is_copy(&copy, &own));
+    assert!(rt; copy.committed.items().len() == 1);
+    assert!(rt; copy.notices.items().len() == 2);
+    assert!(rt; copy.results.items().len() == 3);
+    Ok(())
+}
+
+fn says(reply: &Option<Reply>, name: &str, number: u64) -> bool {
+    match reply {
+        Some(reply) => word(reply) == (name, number),
+        None => false,
+    }
+}
+
+fn ask(own: &mut Record) -> Result<Option<Reply>, Fail> {
+    let event = ReservationMove::Reserve {
+        correlation: id(2)?,
+        criteria: criteria()?,
+    };
+    Ok(own.advance(event, second(0)?)?)
+}
+
+fn release(own: &mut Record, side: Side) -> Result<Option<Reply>, Fail> {
+    let event = ProvisionMove::Release {
+        correlation: id(3)?,
+    };
+    Ok(own.provision(side, event, second(0)?)?)
+}
+
+fn force(alloc: Global, own: &mut Record) -> Result<Option<Reply>, Fail> {
+    let event = LifecycleMove::Force {
+        correlation: id(9)?,
+        origin: Origin {
+            connection: id(1)?,
+            nsa: Name::of(alloc, b"p1")?,
+            value: HoldTime::new(60).ok_or("a hold")?,
+        },
+    };
+    Ok(own.live(event, second(0)?)?)
+}
+
+#[test]
+fn each_machine_says_its_row(rt: HostRuntime) -> Result<(), Fail> {
+    let mut own = made(rt.alloc())?;
+    let asked = ask(&mut own)?;
+    assert!(rt; says(&asked, "reserveResponse", 0));
+    let released = release(&mut own, Side::Provider)?;
+    assert!(rt; says(&released, "releaseConfirmed", 0));
+    let forced = force(rt.alloc(), &mut own)?;
+    assert!(rt; says(&forced, "errorEvent", 1));
+    let again = force(rt.alloc(), &mut own)?;
+    assert!(rt; again.is_none());
+    Ok(())
+}
+
+#[test]
+fn aggregator_asks_its_children_first(rt: HostRuntime) -> Result<(), Fail> {
+    let mut own = made(rt.alloc())?;
+    let released = release(&mut own, Side::Aggregator)?;
+    assert!(rt; released.is_none());
+    assert!(rt; own.psm == Psm::Releasing);
+    Ok(())
+}
+
+#[test]
+fn counts_begin_at_one(rt: HostRuntime) -> Result<(), Fail> {
+    let mut own = made(rt.alloc())?;
+    let notice = own.add_notice(Kind::ReserveTimeout, id(2)?, second(5)?)?;
+    assert!(rt; notice == 1);
+    let outcome = own.add_outcome(Kind::ReserveFailed, id(2)?, second(5)?)?;
+    assert!(rt; outcome == 1);
+    let further = own.add_outcome(Kind::ReserveConfirmed, id(3)?, second(6)?)?;
+    assert!(rt; further == 2);
+    Ok(())
+}
+
+fn push_first(own: &mut Record, criteria: Criteria) -> Result<bool, AllocError> {
+    match own.last() {
+        Some(_) => Ok(false),
+        None => {
+            own.push_committed(criteria)?;
+            Ok(true)
+        }
+    }
+}
+
+#[test]
+fn committed_criteria_are_the_last(rt: HostRuntime) -> Result<(), Fail> {
+    let mut own = made(rt.alloc())?;
+    let was_first = push_first(&mut own, criteria()?)?;
+    assert!(rt; was_first);
+    let expected = criteria()?;
+    assert!(rt; own.last() == Some(&expected));
     Ok(())
 }
