@@ -1,4 +1,5 @@
 mod Back
 pub mod Moments
+mod Places
 mod Space
 mod Undone

@@ -5,4 +5,7 @@ pub mod Images
 pub mod Memory
 pub mod Plan
 pub mod PlanOf
+pub mod Shelf
+pub mod ShelfCounts
+pub mod ShelfOf
 pub mod Stopped

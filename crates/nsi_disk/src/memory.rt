@@ -27,7 +27,10 @@ impl MemoryDisk {
     /// These bytes. The calls with the listed numbers, counted from 1, fail once each, and it stops where it is planned.
     pub fn new(alloc: Global, bytes: Vec<u8>, failing: Vec<u64>, stops: Vec<Stop>) -> MemoryDisk
         ensures bytes { history_of result ≡ Fresh bytes.items }
-        ensures meter { meter_of result ≡ record { faults = 0; stops = 0; stopped = false; calls = 0; longest = 0; bytes = 0 } }
+        ensures runs { (meter_of result).stopped ≡ false }
+        ensures faults { (meter_of result).faults ≡ 0 }
+        ensures stops { (meter_of result).stops ≡ 0 }
+        ensures calls { (meter_of result).calls ≡ 0 }
         ensures plan { plan_of result ≡ record { calls = 0; faults = 0; stops = 0; failing = failing.items; stopping = stops.items } }
     {
         MemoryDisk {
@@ -75,7 +78,10 @@ impl MemoryDisk {
     pub fn again(self, alloc: Global) -> Result<MemoryDisk, AllocError>
         ensures image { IfOk result (λ d. (c : List ℕ) × MayLeave (history_of self) c × (history_of d ≡ Fresh c)) }
         ensures left { IfOk result (λ d. history_of d ≡ Fresh (left_of self)) }
-        ensures meter { IfOk result (λ d. meter_of d ≡ record { faults = (meter_of self).faults; stops = (meter_of self).stops; stopped = false; calls = 0; longest = 0; bytes = 0 }) }
+        ensures runs { IfOk result (λ d. (meter_of d).stopped ≡ false) }
+        ensures faults { IfOk result (λ d. (meter_of d).faults ≡ (meter_of self).faults) }
+        ensures stops { IfOk result (λ d. (meter_of d).stops ≡ (meter_of self).stops) }
+        ensures calls { IfOk result (λ d. (meter_of d).calls ≡ 0) }
         ensures plan { IfOk result (λ d. plan_of d ≡ plan_of self) }
     {
         let MemoryDisk { tape, plan, shown } = self;
