@@ -1,7 +1,5 @@
 //! Ids in their text forms, and names of kinds.
 
-mod copies;
-
 use crate::{
     Directionality, ErrorName, FaultEvent, IdFault, Kind, Machine, agent_and_n, id_of, print_id,
     read_id,
