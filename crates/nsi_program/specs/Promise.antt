@@ -49,25 +49,9 @@ IsSameEnd old new = IfSome old (λ end. new ≡ Some end)
 abbrev pub IsKept : Option (Status × List ℕ) → Status → Option (List ℕ) → Type 0
 IsKept promise status content = IfSome promise (λ end. (status ≡ end.0) × (content ≡ Some end.1))
 
--- what was written is a front of what was promised
-abbrev pub IsFrontOf : Option (Status × List ℕ) → Option (List ℕ) → Type 0
-IsFrontOf promise content = IfSome promise (λ end. (k : ℕ) × (content ≡ Some (take k end.1)))
-
 -- the line of a fault of reading
 abbrev pub read_fault_line : List ℕ
 read_fault_line = as_line (codes "fault read")
-
--- a front of it, and behind that the line of a fault of reading
-abbrev pub IsCutByFault : Option (Status × List ℕ) → Option (List ℕ) → Type 0
-IsCutByFault promise content = IfSome promise (λ end. (k : ℕ) × (content ≡ Some (take k end.1 ++ read_fault_line)))
-
--- a front of that
-abbrev pub IsFrontOfCut : Option (Status × List ℕ) → Option (List ℕ) → Type 0
-IsFrontOfCut promise content = IfSome promise (λ end. (k : ℕ) × (j : ℕ) × (content ≡ Some (take k end.1 ++ take j read_fault_line)))
-
--- writing was cut short: within what was promised, or within the line of a fault of reading
-abbrev pub IsUnfinished : Option (Status × List ℕ) → (has_failed : Type 0) → Option (List ℕ) → Type 0
-IsUnfinished promise has_failed content = IsFrontOf promise content ⊎ (has_failed × IsFrontOfCut promise content)
 
 -- the program's exit status
 abbrev pub code_of : Status → ℕ
