@@ -2,6 +2,7 @@
 
 mod clock;
 mod counting;
+mod cutting;
 mod holds;
 mod hostile;
 mod kinds;

@@ -4,7 +4,7 @@ use Rattle.std.specs.Prelude.{codes}
 use Rattle.stp_topology.specs.declared.network.Network.{Network}
 use Rattle.stp_topology.specs.declared.network.AgentKind.{AgentKind}
 use Rattle.stp_topology.specs.Network.{sdps_of}
-use Rattle.stp_topology.specs.Words.{words_of}
+use Rattle.nsi_base.specs.Words.{words_of}
 use Rattle.nsi_program.specs.declared.asked.Ask.{Ask}
 use Rattle.nsi_program.specs.declared.words.Command.{Command}
 use Rattle.nsi_program.specs.Asked.{ask_of, wanted_of}

@@ -13,9 +13,10 @@ use Rattle.provider_agent.specs.State.{blank}
 use Rattle.nsi_program.specs.declared.status.Status.{Status}
 use Rattle.nsi_program.specs.declared.provide.Phase.{Phase}
 use Rattle.nsi_program.specs.Serving.{serving_of}
-use Rattle.nsi_program.specs.Runs.{events_of, IsServed}
+use Rattle.nsi_program.specs.Runs.{events_of, IsServed, ServesSafely}
 use Rattle.nsi_program.specs.Outcome.{move_of, declared, opened, behind, outcome, topology_fault}
-use Rattle.nsi_program.specs.Promise.{begun, promise_of, greatest_input, EndsBy, IsKept, IsComplete, IsSafe, NamesFault}
+use Rattle.nsi_base.specs.Range.{greatest_input}
+use Rattle.nsi_program.specs.Promise.{begun, promise_of, EndsBy, IsKept, IsComplete, IsSafe, NamesFault}
 use Rattle.nsi_program.proofs.Serves.{served_from, ends_by, well_at_first, served_safely}
 
 abbrev Read : Type 0
@@ -137,24 +138,22 @@ is_complete most (Some c) (Some bytes) new status limited k = λ t n provider h 
     subst (EndsBy given.long most events) (sym (k.0 ∙ ap (λ (x : Status × List ℕ). x.0) e))
     (subst (λ m. EndsBy given.long most m (outcome given.long (n + 1) (Phase.Serving (serving_of t provider most)) (drop n given.lines)).0) none by)
 
+-- the outcome of lines is the text of a safe run
+pub serves_safely : (long : Bool) (most : ℕ) (lines : List (List ℕ)) → most ≤ 2000000 → ServesSafely lines (outcome long 1 (begun most) lines).0 (outcome long 1 (begun most) lines).1
+serves_safely long most lines few = λ t n provider h f.
+    let e = opened_first long most lines t n provider h f in
+    let from = served_from long (n + 1) (serving_of t provider most) (drop n lines) (well_at_first t provider most few) in
+    let s = served_safely (home_of t provider) (own_stp t provider) (drop n lines) _ _ from in
+    let P : Status × List ℕ → Type 0 = λ x. IsServed (home_of t provider) (own_stp t provider) (drop n lines) x.0 x.1 in
+    subst P (sym e) s
+
 pub is_safe : (most : ℕ) (content left new : Option (List ℕ)) (status : Status) → most ≤ 2000000 → IsKept (promise_of most content left) status new → IsSafe content left status new
 is_safe most None left new status few k = tt
 is_safe most (Some c) None new status few k = tt
 is_safe most (Some c) (Some bytes) new status few k =
-    ((outcome given.long 1 (begun most) given.lines).1, k.1, λ t n provider h f. behind_topology t n provider h f)
-  where
-    given : Given
-    given = given_of greatest_input bytes
-
-    behind_topology : (t : Network) (n provider : ℕ) → read_lines nothing 0 given.lines ≡ Ok (t, n) → first_provider t ≡ Some provider
-        → IsServed (home_of t provider) (own_stp t provider) (drop n given.lines) status (outcome given.long 1 (begun most) given.lines).1
-    behind_topology t n provider h f =
-        let e = opened_first given.long most given.lines t n provider h f in
-        let from = served_from given.long (n + 1) (serving_of t provider most) (drop n given.lines) (well_at_first t provider most few) in
-        let s = served_safely (home_of t provider) (own_stp t provider) (drop n given.lines) _ _ from in
-        let P : Status × List ℕ → Type 0 = λ x. IsServed (home_of t provider) (own_stp t provider) (drop n given.lines) x.0 x.1 in
-        let q = subst P (sym e) s in
-        subst (λ x. IsServed (home_of t provider) (own_stp t provider) (drop n given.lines) x (outcome given.long 1 (begun most) given.lines).1) (sym k.0) q
+    let given = given_of greatest_input bytes in
+    let whole : Status × List ℕ = outcome given.long 1 (begun most) given.lines in
+    (whole.1, k.1, subst (λ x. ServesSafely given.lines x whole.1) (sym k.0) (serves_safely given.long most given.lines few))
 
 pub names_fault : (most : ℕ) (content left new : Option (List ℕ)) (status : Status) → IsKept (promise_of most content left) status new → NamesFault content left status new
 names_fault most None left new status k = tt

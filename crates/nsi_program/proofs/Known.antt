@@ -9,23 +9,9 @@ use Rattle.stp_topology.specs.Sound.{IsSound}
 use Rattle.path_segments.specs.declared.path.Segment.{Segment}
 use Rattle.path_segments.specs.Paths.{IsSegment, Offers, Onward, IsPath, position_of, placed, greatest_rank}
 use Rattle.path_segments.proofs.Flat.{entry_within, exit_within}
+use Rattle.path_segments.proofs.OneLeast.{at_position}
 use Rattle.path_segments.proofs.Sound.{are_agents}
 use Rattle.nsi_program.specs.Check.{IsKnown}
-
-read_next : (x : ℕ) (xs : List ℕ) (n found : ℕ) → slice_get (x ∷ xs) (n + 1) ≡ Some found → slice_get xs n ≡ Some found
-read_next x xs n found h = let e : n + 1 ≡ suc n = omega arith in (rw e at h)
-
--- what stands at a child's position is the child
-pub at_position : (xs : List ℕ) (k found : ℕ) → slice_get xs (position_of xs k) ≡ Some found → found ≡ k
-unfolding position_of
-at_position [] k found h = absurd (cc)
-at_position (x ∷ xs) k found h = elim (cases_eq x k) [
-  | inl same ↦ let test : (x == k) ≡ true = grind arith in let e : Some x ≡ Some found = rw test at h in one x found e ∙ same
-  | inr other ↦ let test : (x == k) ≡ false = grind arith in at_position xs k found (read_next x xs (position_of xs k) found (rw test at h))
-]
-  where
-    one : (x found : ℕ) → Some x ≡ Some found → found ≡ x
-    one x found e = cc
 
 segment_known : (t : Network) → IsSound t → (a : ℕ) (x : Segment) → IsSegment (Offers t greatest_rank) (children_of t a) (position_of (children_of t a) x.child) x.entry x.exit → IsKnown t x
 segment_known t s a x g =

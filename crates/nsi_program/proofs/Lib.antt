@@ -1,3 +1,4 @@
+pub mod Answered
 pub mod Promised
 pub mod Declared
 pub mod Served

@@ -13,30 +13,21 @@ use Rattle.nsi_program.specs.declared.status.Status.{Status}
 use Rattle.nsi_program.specs.declared.provide.Phase.{Phase}
 use Rattle.nsi_program.specs.declared.provide.Step.{Step}
 use Rattle.nsi_program.specs.Outcome.{move_of, last_of, behind, outcome, status_of, with_status}
-use Rattle.nsi_program.specs.Promise.{Writes, WritesFront, behind_content, promised, promised_after, ended, IsSameEnd, IsKept, IsFrontOf, IsCutByFault, IsFrontOfCut, promise_of, greatest_input, read_fault_line}
-use Rattle.nsi_program.specs.Ends.{usage_promise}
-
--- a text's front is what stands before the rest
-front_of : (a rest whole : List ℕ) → whole ≡ a ++ rest → (k : ℕ) × (Some a ≡ Some (take k whole))
-front_of a rest whole e = (length a, ap (λ x. Some x) (sym (ap (take (length a)) e ∙ take-append_seam a rest)))
-
-pub front_start : (number : ℕ) (phase : Phase) (content : Option (List ℕ)) (given : Option Given) → IsFrontOf (promised number phase content given) content
-front_start number phase None given = tt
-front_start number phase (Some c) None = tt
-front_start number phase (Some c) (Some g) = front_of c (outcome g.long number phase g.lines).1 _ refl
+use Rattle.nsi_base.specs.Range.{greatest_input}
+use Rattle.nsi_program.specs.Promise.{Writes, behind_content, promised, promised_after, ended, IsSameEnd, IsKept, promise_of}
 
 -- the outcome of a line and those behind it
-of_line : (long : Bool) (number : ℕ) (phase : Phase) (line : List ℕ) (lines : List (List ℕ))
+pub of_line : (long : Bool) (number : ℕ) (phase : Phase) (line : List ℕ) (lines : List (List ℕ))
     → outcome long number phase (line ∷ lines) ≡ behind (move_of number phase line).text (move_of number phase line).step (λ p. outcome long (number + 1) p lines)
 unfolding outcome
 of_line long number phase line lines = refl
 
-of_end : (long : Bool) (number : ℕ) (phase : Phase) → outcome long number phase [] ≡ with_status (last_of long number phase)
+pub of_end : (long : Bool) (number : ℕ) (phase : Phase) → outcome long number phase [] ≡ with_status (last_of long number phase)
 unfolding outcome
 of_end long number phase = refl
 
 -- the line's text comes first
-behind_text : (text : List ℕ) (step : Step) (next : Phase → Status × List ℕ) → (rest : List ℕ) × ((behind text step next).1 ≡ text ++ rest)
+pub behind_text : (text : List ℕ) (step : Step) (next : Phase → Status × List ℕ) → (rest : List ℕ) × ((behind text step next).1 ≡ text ++ rest)
 behind_text text (Step.End e) next = ([], sym (append-nil text))
 behind_text text (Step.More p) next = ((next p).1, refl)
 
@@ -62,23 +53,6 @@ line_step number phase line text (Step.More p) (Some c) after (Some g) new t x s
     ∙ (ap (λ z. Some ((outcome t.0.long (number + 1) p t.0.lines).0, z)) (append_assoc c text (outcome t.0.long (number + 1) p t.0.lines).1)
     ∙ ap (λ o. Some (behind_content c o)) (sym (whole number phase line text (Step.More p) g t.0 t.2 x s))))
 
--- a front of the text is a front of the whole
-front_in : (c text rest whole : List ℕ) (k : ℕ) → whole ≡ c ++ (text ++ rest) → (j : ℕ) × (Some (c ++ take k text) ≡ Some (take j whole))
-front_in c text rest whole k e = front_of (c ++ take k text) (drop k text ++ rest) whole (e ∙ (ap (λ x. c ++ (x ++ rest)) (sym (take-append-drop k text)) ∙ regroup c (take k text) (drop k text) rest))
-  where
-    regroup : (a b d r : List ℕ) → a ++ ((b ++ d) ++ r) ≡ (a ++ b) ++ (d ++ r)
-    regroup a b d r = simp append_assoc
-
-pub line_front : (number : ℕ) (phase : Phase) (line text : List ℕ) (content after : Option (List ℕ)) (old new : Option Given) → TakesLine old new line
-    → text ≡ (move_of number phase line).text → WritesFront content after text → IsFrontOf (promised number phase content old) after
-line_front number phase line text None after old new t x w = tt
-line_front number phase line text (Some c) after None new t x w = tt
-line_front number phase line text (Some c) after (Some g) new t x w =
-    let step = (move_of number phase line).step in
-    let b = behind_text text step (λ p. outcome t.0.long (number + 1) p t.0.lines) in
-    let f = front_in c text b.0 (c ++ (outcome g.long number phase g.lines).1) w.0 (ap (λ (o : Status × List ℕ). c ++ o.1) (whole number phase line text step g t.0 t.2 x refl) ∙ ap (λ z. c ++ z) b.1) in
-    (f.0, w.1 ∙ f.1)
-
 -- at the end of the lines
 last_is : (number : ℕ) (phase : Phase) (g : Given) (long : Bool) → g ≡ record { lines = []; long = long } → outcome g.long number phase g.lines ≡ with_status (last_of long number phase)
 last_is number phase g long e = ap (λ (h : Given). outcome h.long number phase h.lines) e ∙ of_end long number phase
@@ -90,24 +64,12 @@ end_step number phase long end (Some c) after None t e w = tt
 end_step number phase long end (Some c) after (Some g) t e w =
     ap (ended end.0) w ∙ ap (λ o. Some (behind_content c o)) (ap with_status e ∙ sym (last_is number phase g long t))
 
-pub end_front : (number : ℕ) (phase : Phase) (long : Bool) (end : Ending × List ℕ) (content after : Option (List ℕ)) (old : Option Given) → IsAtEnd old long → end ≡ last_of long number phase → WritesFront content after end.1
-    → IsFrontOf (promised number phase content old) after
-end_front number phase long end None after old t e w = tt
-end_front number phase long end (Some c) after None t e w = tt
-end_front number phase long end (Some c) after (Some g) t e w =
-    let f = front_in c end.1 [] (c ++ (outcome g.long number phase g.lines).1) w.0 (ap (λ (o : Status × List ℕ). c ++ o.1) (last_is number phase g long t ∙ ap with_status (sym e)) ∙ ap (λ z. c ++ z) (sym (append-nil end.1))) in
-    (f.0, w.1 ∙ f.1)
-
 -- a step that ends
 pub step_along : (number : ℕ) (step : Step) (ending : Ending) (promise : Option (Status × List ℕ)) (content : Option (List ℕ)) (given : Option Given) → step ≡ Step.End ending → IsSameEnd promise (ended ending content)
     → IsSameEnd promise (promised_after (number + 1) step content given)
 step_along number step ending promise content given e s = let P : Step → Type 0 = λ x. IsSameEnd promise (promised_after (number + 1) x content given) in subst P (sym e) s
 
 -- along what doesn't change
-pub front_along : (a b : Option (Status × List ℕ)) (content : Option (List ℕ)) → IsSameEnd a b → IsFrontOf b content → IsFrontOf a content
-front_along None b content s f = tt
-front_along (Some e) b content s f = let P : Option (Status × List ℕ) → Type 0 = λ o. IsFrontOf o content in subst P s f
-
 pub same_along : (a b c : Option (Status × List ℕ)) → IsSameEnd a b → IsSameEnd b c → IsSameEnd a c
 same_along None b c s f = tt
 same_along (Some e) b c s f = let P : Option (Status × List ℕ) → Type 0 = λ o. IsSameEnd o c in subst P s f
@@ -123,28 +85,6 @@ is_kept (Some p) ending status (Some c) s e = (e ∙ first s, ap (λ x. Some x) 
 
     second : {x y : Status × List ℕ} → Some x ≡ Some y → x.1 ≡ y.1
     second h = cc
-
--- a fault of reading behind a front
-pub cut_by_fault : (promise : Option (Status × List ℕ)) (before after : Option (List ℕ)) → IsFrontOf promise before → Writes before after read_fault_line → IsCutByFault promise after
-cut_by_fault None before after f w = tt
-cut_by_fault (Some e) None after f w = cc
-cut_by_fault (Some e) (Some c) after f w = (f.0, w ∙ ap (λ x. Some x) (ap (λ z. z ++ read_fault_line) (some_is f.1)))
-  where
-    some_is : {x y : List ℕ} → Some x ≡ Some y → x ≡ y
-    some_is h = cc
-
-pub front_of_cut : (promise : Option (Status × List ℕ)) (before after : Option (List ℕ)) → IsFrontOf promise before → WritesFront before after read_fault_line → IsFrontOfCut promise after
-front_of_cut None before after f w = tt
-front_of_cut (Some e) None after f w = cc
-front_of_cut (Some e) (Some c) after f w = (f.0, w.0, w.1 ∙ ap (λ x. Some x) (ap (λ z. z ++ take w.0 read_fault_line) (some_is f.1)))
-  where
-    some_is : {x y : List ℕ} → Some x ≡ Some y → x ≡ y
-    some_is h = cc
-
--- a failure or want of memory while the fault of the words is written
-pub usage_front : (content after : Option (List ℕ)) → WritesFront content after (as_line (codes "fault usage")) → IsFrontOf (usage_promise content) after
-usage_front None after w = tt
-usage_front (Some c) after w = let f = front_in c (as_line (codes "fault usage")) [] (c ++ as_line (codes "fault usage")) w.0 (ap (λ z. c ++ z) (sym (append-nil (as_line (codes "fault usage"))))) in (f.0, w.1 ∙ f.1)
 
 -- at the start nothing is promised but what the whole input makes
 pub same_start : (held : Held) (t : Network) (most : ℕ) (content left : Option (List ℕ)) → held ≡ record { bytes = []; room = greatest_input } → t ≡ nothing

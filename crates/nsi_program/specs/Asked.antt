@@ -1,10 +1,10 @@
 -- What a line behind the topology asks for.
-use Rattle.std.specs.Prelude.{◌<◌, ℕ, List, Bool, ◌==◌, length, codes, if◌then◌else◌, Option, Some, None, option_and_then}
-use Rattle.std.specs.List.{list_any}
+use Rattle.std.specs.Prelude.{◌<◌, ℕ, List, ◌==◌, length, codes, if◌then◌else◌, Option, Some, None, option_and_then}
+use Rattle.nsi_base.specs.declared.words.Blanks.TheVariants.{Space}
+use Rattle.nsi_base.specs.Words.{words_of}
 use Rattle.stp_topology.specs.declared.network.Network.{Network}
 use Rattle.stp_topology.specs.Network.{agent_of, stp_of}
 use Rattle.stp_topology.specs.Lines.{is_aggregator, is_form, word}
-use Rattle.stp_topology.specs.Words.{words_of}
 use Rattle.nsi_program.specs.declared.asked.Ask.{Ask}
 use Rattle.nsi_program.specs.declared.asked.Wanted.{Wanted}
 
@@ -31,15 +31,11 @@ abbrev pub path_or_bad : Option Wanted → Ask
 path_or_bad (Some w) = Ask.Path w
 path_or_bad None = Ask.Bad
 
-abbrev pub is_tab : ℕ → Bool
-is_tab b = b == 9
-
--- an empty line asks for nothing; words stand between single spaces, and no tab does
+-- an empty line asks for nothing; words stand between single spaces
 unfoldable pub ask_of : Network → List ℕ → Ask
 ask_of t line =
     if length line == 0 then Ask.Nothing
-    else if list_any is_tab line then Ask.Bad
-    else path_or_bad (wanted_of t (words_of line))
+    else path_or_bad (wanted_of t (words_of Space line))
 
 -- the source is one of the points
 abbrev pub IsWithin : Network → Ask → Type 0

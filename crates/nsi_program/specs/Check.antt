@@ -14,7 +14,7 @@ use Rattle.nsi_program.specs.declared.status.Status.{Status}
 use Rattle.nsi_program.specs.Asked.{ask_of}
 use Rattle.nsi_program.specs.Lines.{as_line}
 use Rattle.nsi_program.specs.Outcome.{topology_fault}
-use Rattle.nsi_program.specs.Promise.{greatest_input}
+use Rattle.nsi_base.specs.Range.{greatest_input}
 
 ---- Lines
 

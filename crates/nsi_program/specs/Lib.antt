@@ -5,6 +5,7 @@ pub mod Lines
 pub mod Runs
 pub mod Outcome
 pub mod Promise
+pub mod Cut
 pub mod Words
 pub mod Asked
 pub mod Check

@@ -1,5 +1,5 @@
 -- How the command `provide` ends, and all that it has written then.
-use Rattle.std.specs.Prelude.{ℕ, ◌+◌, List, [], ◌∷◌, ◌++◌, Bool, true, false, codes, decimal, Option, Some, None, Result, Ok, Err}
+use Rattle.std.specs.Prelude.{◌≡◌, ℕ, ◌+◌, List, [], ◌∷◌, ◌++◌, Bool, true, false, codes, decimal, Option, Some, None, Result, Ok, Err}
 use Rattle.stp_topology.specs.declared.network.Network.{Network}
 use Rattle.stp_topology.specs.Network.{first_provider}
 use Rattle.stp_topology.specs.Faults.{fault_name}
@@ -72,3 +72,14 @@ outcome long number phase (line ∷ lines) = behind (move_of number phase line).
 abbrev pub is_more : Step → Bool
 is_more (Step.More phase) = true
 is_more (Step.End ending) = false
+
+-- No line from a number on ends the command: what it goes on with behind them, and their texts, one after another.
+abbrev pub GoesOn : ℕ → Phase → List (List ℕ) → Phase → List ℕ → Type 0
+GoesOn number phase [] next text = (next ≡ phase) × (text ≡ [])
+GoesOn number phase (line ∷ lines) next text =
+    (between : Phase) × (rest : List ℕ) × ((move_of number phase line).step ≡ Step.More between) × GoesOn (number + 1) between lines next rest × (text ≡ (move_of number phase line).text ++ rest)
+
+-- what is written next: the answer to the first of the lines, or to their end
+abbrev pub next_text : Bool → ℕ → Phase → List (List ℕ) → List ℕ
+next_text long number phase [] = (last_of long number phase).1
+next_text long number phase (line ∷ lines) = (move_of number phase line).text

@@ -2,6 +2,7 @@
 use Rattle.std.specs.Prelude.{◌≡◌, ◌≤◌, ◌<◌, ◌⊎◌, ℕ, length, Ok, Err, List, ◌++◌, take, drop, codes, Bool, true, false, Option, Some, option_map, option_and_then, IfSome}
 use Rattle.line_reader.specs.Given.{Given, given_of}
 use Rattle.nsi_base.specs.Lines.{lines_of}
+use Rattle.nsi_base.specs.Range.{greatest_input}
 use Rattle.stp_topology.specs.declared.network.Network.{Network}
 use Rattle.stp_topology.specs.declared.fault.TopologyFault.{TopologyFault}
 use Rattle.stp_topology.specs.Network.{nothing, first_provider}
@@ -49,25 +50,9 @@ IsSameEnd old new = IfSome old (λ end. new ≡ Some end)
 abbrev pub IsKept : Option (Status × List ℕ) → Status → Option (List ℕ) → Type 0
 IsKept promise status content = IfSome promise (λ end. (status ≡ end.0) × (content ≡ Some end.1))
 
--- what was written is a front of what was promised
-abbrev pub IsFrontOf : Option (Status × List ℕ) → Option (List ℕ) → Type 0
-IsFrontOf promise content = IfSome promise (λ end. (k : ℕ) × (content ≡ Some (take k end.1)))
-
 -- the line of a fault of reading
 abbrev pub read_fault_line : List ℕ
 read_fault_line = as_line (codes "fault read")
-
--- a front of it, and behind that the line of a fault of reading
-abbrev pub IsCutByFault : Option (Status × List ℕ) → Option (List ℕ) → Type 0
-IsCutByFault promise content = IfSome promise (λ end. (k : ℕ) × (content ≡ Some (take k end.1 ++ read_fault_line)))
-
--- a front of that
-abbrev pub IsFrontOfCut : Option (Status × List ℕ) → Option (List ℕ) → Type 0
-IsFrontOfCut promise content = IfSome promise (λ end. (k : ℕ) × (j : ℕ) × (content ≡ Some (take k end.1 ++ take j read_fault_line)))
-
--- writing was cut short: within what was promised, or within the line of a fault of reading
-abbrev pub IsUnfinished : Option (Status × List ℕ) → (has_failed : Type 0) → Option (List ℕ) → Type 0
-IsUnfinished promise has_failed content = IsFrontOf promise content ⊎ (has_failed × IsFrontOfCut promise content)
 
 -- the program's exit status
 abbrev pub code_of : Status → ℕ
@@ -78,10 +63,6 @@ code_of Status.WriteFault = 3
 code_of Status.Usage = 4
 code_of Status.BadTopology = 5
 code_of Status.Long = 8
-
--- the greatest input, in bytes
-abbrev pub greatest_input : ℕ
-greatest_input = 67108864
 
 -- the command `provide` before its first line
 abbrev pub begun : ℕ → Phase

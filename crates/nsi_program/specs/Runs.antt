@@ -76,3 +76,8 @@ pub data IsServed (home : Home) (stp_of : List ℕ → Option ℕ) (lines : List
 abbrev pub ServesSafely : List (List ℕ) → Status → List ℕ → Type 0
 ServesSafely lines status text =
     (t : Network) (n provider : ℕ) → read_lines nothing 0 lines ≡ Ok (t, n) → first_provider t ≡ Some provider → IsServed (home_of t provider) (own_stp t provider) (drop n lines) status text
+
+-- Where none of the lines ends the command, and they begin with a topology that has a provider, the others are all served.
+abbrev pub RunsSafely : List (List ℕ) → List ℕ → Type 0
+RunsSafely lines text =
+    (t : Network) (n provider : ℕ) → read_lines nothing 0 lines ≡ Ok (t, n) → first_provider t ≡ Some provider → IsSafeText (home_of t provider) (own_stp t provider) (drop n lines) text

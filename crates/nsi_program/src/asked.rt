@@ -3,9 +3,9 @@
 ghost use Rattle.std.specs.Prelude.{◌≡◌, ◌<◌, length, map, IfOk, IfSome};
 ghost use Rattle.nsi_program.specs.Asked.{aggregator_of, wanted_of, ask_of, IsWithin};
 
-use nsi_base::{AgentNo, StpNo};
+use nsi_base::words::words;
+use nsi_base::{AgentNo, Blanks, StpNo};
 use std::alloc::{AllocError, Global};
-use stp_topology::words::words;
 use stp_topology::{AgentKind, Topology};
 
 /// A path through the children of an aggregator, from a source to a destination.
@@ -67,10 +67,7 @@ pub(crate) fn ask_of(alloc: Global, topology: &Topology, line: &[u8]) -> Result<
     if line.is_empty() {
         return Ok(Ask::Nothing);
     }
-    if line.contains(&b'\t') {
-        return Ok(Ask::Bad);
-    }
-    let words = words(alloc, line)?;
+    let words = words(alloc, Blanks::Space, line)?;
     match wanted_of(topology, &words) {
         Some(wanted) => Ok(Ask::Path(wanted)),
         None => Ok(Ask::Bad),

@@ -14,13 +14,11 @@ use crate::paths::{answer, count_line};
 use crate::provide::topology_fault;
 use crate::status::Status;
 use line_reader::{ReadError, read_whole};
-use nsi_base::line::{feed_at, without_return};
+use nsi_base::GREATEST_INPUT;
+use nsi_base::line::cut_line;
 use nsi_outside::{Sink, Source};
 use std::alloc::Global;
 use stp_topology::{Topology, TopologyFault, TopologyRefusal, read_topology};
-
-/// The greatest input, in bytes.
-const GREATEST_INPUT: usize = 67_108_864;
 
 /// The command `check`.
 pub(crate) fn check<S: Source, K: Sink>(alloc: Global, input: &mut S, out: &mut K) -> Status
@@ -30,8 +28,12 @@ pub(crate) fn check<S: Source, K: Sink>(alloc: Global, input: &mut S, out: &mut 
     ensures alone { result ≡ Status.ReadFault → Writes (K.content out.old) (K.content out.new) read_fault_line }
     ensures write_fault { result ≡ Status.WriteFault → K.faults out.old < K.faults out.new }
     ensures unfinished { (result ≡ Status.WriteFault) ⊎ (result ≡ Status.NoMemory)
-        → IfSome (S.left input.old) (λ bytes. WritesSomeFront (Begins bytes) (K.content out.old) (K.content out.new))
+        → ((S.faults input.new ≡ S.faults input.old) × IfSome (S.left input.old) (λ bytes. WritesSomeFront (Begins bytes) (K.content out.old) (K.content out.new)))
         ⊎ ((S.faults input.old < S.faults input.new) × WritesFront (K.content out.old) (K.content out.new) read_fault_line) }
+    ensures quiet_in { is_told result ≡ true → S.faults input.new ≡ S.faults input.old }
+    ensures quiet_out { is_told result ≡ true → K.faults out.new ≡ K.faults out.old }
+    ensures reading { result ≡ Status.ReadFault → K.faults out.new ≡ K.faults out.old }
+    ensures memory { result ≡ Status.NoMemory → K.faults out.new ≡ K.faults out.old }
 {
     match read_whole(alloc, input, GREATEST_INPUT) {
         Ok(Some(bytes)) => check_bytes(alloc, out, &bytes),
@@ -51,12 +53,14 @@ pub fn one_check()
 fn fault_status(fault: Fault) -> Status
     requires { fault ≡ Fault.Read → ⊥ }
     ensures write { result ≡ Status.WriteFault → fault ≡ Fault.Write }
+    ensures memory { result ≡ Status.NoMemory → fault ≡ Fault.NoMemory }
     ensures not_told { is_told result ≡ false }
     ensures not_read { result ≡ Status.ReadFault → ⊥ }
 {
     match fault {
         Fault::Write => Status::WriteFault,
-        _ => Status::NoMemory,
+        Fault::NoMemory => Status::NoMemory,
+        Fault::Read => unreachable!(),
     }
 }
 
@@ -66,6 +70,8 @@ fn long<K: Sink>(out: &mut K) -> Status
     ensures front { is_told result ≡ false → WritesFront (K.content out.old) (K.content out.new) (as_line (codes "fault long")) }
     ensures write { result ≡ Status.WriteFault → K.faults out.old < K.faults out.new }
     ensures not_read { result ≡ Status.ReadFault → ⊥ }
+    ensures quiet { is_told result ≡ true → K.faults out.new ≡ K.faults out.old }
+    ensures memory { result ≡ Status.NoMemory → K.faults out.new ≡ K.faults out.old }
 {
     match write_text(out, b"fault long\n") {
         Ok(()) => Status::Long,
@@ -81,6 +87,8 @@ fn check_bytes<K: Sink>(alloc: Global, out: &mut K, bytes: &[u8]) -> Status
     ensures not_usage { result ≡ Status.Usage → ⊥ }
     ensures write { result ≡ Status.WriteFault → K.faults out.old < K.faults out.new }
     ensures not_read { result ≡ Status.ReadFault → ⊥ }
+    ensures quiet { is_told result ≡ true → K.faults out.new ≡ K.faults out.old }
+    ensures memory { result ≡ Status.NoMemory → K.faults out.new ≡ K.faults out.old }
 {
     match read_topology(alloc, bytes) {
         Ok((topology, place)) => {
@@ -98,6 +106,8 @@ fn bad_topology<K: Sink>(alloc: Global, out: &mut K, line: u32, fault: TopologyF
     ensures front { is_told result ≡ false → WritesFront (K.content out.old) (K.content out.new) (topology_fault line fault) }
     ensures write { result ≡ Status.WriteFault → K.faults out.old < K.faults out.new }
     ensures not_read { result ≡ Status.ReadFault → ⊥ }
+    ensures quiet { is_told result ≡ true → K.faults out.new ≡ K.faults out.old }
+    ensures memory { result ≡ Status.NoMemory → K.faults out.new ≡ K.faults out.old }
 {
     let Ok(text) = topology_fault(alloc, u64::from(line), fault) else {
         return Status::NoMemory;
@@ -114,6 +124,8 @@ fn answer_all<K: Sink>(alloc: Global, out: &mut K, topology: &Topology, lines: &
     ensures front { is_told result ≡ false → WritesSomeFront (Counts topology.now (AnswersFront topology.now (lines_of lines.now))) (K.content out.old) (K.content out.new) }
     ensures write { result ≡ Status.WriteFault → K.faults out.old < K.faults out.new }
     ensures not_read { result ≡ Status.ReadFault → ⊥ }
+    ensures quiet { is_told result ≡ true → K.faults out.new ≡ K.faults out.old }
+    ensures memory { result ≡ Status.NoMemory → K.faults out.new ≡ K.faults out.old }
 {
     match write_answers(alloc, out, topology, lines) {
         Ok(()) => Status::Done,
@@ -131,6 +143,8 @@ fn write_answers<K: Sink>(
     ensures front { OnErr result (WritesSomeFront (Counts topology.now (AnswersFront topology.now (lines_of lines.now))) (K.content out.old) (K.content out.new)) }
     ensures write { IsErrOf result Fault.Write → K.faults out.old < K.faults out.new }
     ensures not_read { IsErrOf result Fault.Read → ⊥ }
+    ensures quiet { OnOk result (K.faults out.new ≡ K.faults out.old) }
+    ensures memory { IsErrOf result Fault.NoMemory → K.faults out.new ≡ K.faults out.old }
 {
     write_counts(alloc, out, topology)?;
     answer_lines(alloc, out, topology, lines)?;
@@ -142,7 +156,8 @@ fn write_counts<K: Sink>(alloc: Global, out: &mut K, topology: &Topology) -> Res
     ensures front { OnErr result (WritesFront (K.content out.old) (K.content out.new) (count_line topology.now)) }
     ensures write { IsErrOf result Fault.Write → K.faults out.old < K.faults out.new }
     ensures not_read { IsErrOf result Fault.Read → ⊥ }
-    ensures writes { K.faults out.old ≤ K.faults out.new }
+    ensures quiet { OnOk result (K.faults out.new ≡ K.faults out.old) }
+    ensures memory { IsErrOf result Fault.NoMemory → K.faults out.new ≡ K.faults out.old }
 {
     let Ok(text) = count_line(alloc, topology) else {
         return Err(Fault::NoMemory);
@@ -162,6 +177,8 @@ fn answer_lines<K: Sink>(
     ensures front { OnErr result (WritesSomeFront (AnswersFront topology.now (lines_of lines.now)) (K.content out.old) (K.content out.new)) }
     ensures write { IsErrOf result Fault.Write → K.faults out.old < K.faults out.new }
     ensures not_read { IsErrOf result Fault.Read → ⊥ }
+    ensures quiet { OnOk result (K.faults out.new ≡ K.faults out.old) }
+    ensures memory { IsErrOf result Fault.NoMemory → K.faults out.new ≡ K.faults out.old }
 {
     let mut rest = lines;
     'lines: while 0 < rest.len() {
@@ -183,26 +200,12 @@ fn answer_line<K: Sink>(
     ensures front { OnErr result (WritesSomeFront (AnswersFront topology.now (line.now ∷ [])) (K.content out.old) (K.content out.new)) }
     ensures write { IsErrOf result Fault.Write → K.faults out.old < K.faults out.new }
     ensures not_read { IsErrOf result Fault.Read → ⊥ }
-    ensures writes { K.faults out.old ≤ K.faults out.new }
+    ensures quiet { OnOk result (K.faults out.new ≡ K.faults out.old) }
+    ensures memory { IsErrOf result Fault.NoMemory → K.faults out.new ≡ K.faults out.old }
 {
     let Ok(text) = answer(alloc, topology, line) else {
         return Err(Fault::NoMemory);
     };
     write_text(out, &text)?;
     Ok(())
-}
-
-/// The first line without its end, and what stands behind it.
-fn cut_line(text: &[u8]) -> (&[u8], &[u8])
-    requires { 0 < length text.now }
-    ensures lines { lines_of text.now ≡ result.0.now ∷ lines_of result.1.now }
-    ensures shorter { length result.1.now < length text.now }
-{
-    match feed_at(text) {
-        Some(i) => {
-            let (line, behind) = text.split_at(i);
-            (without_return(line), behind.split_at(1).1)
-        }
-        None => text.split_at(text.len()),
-    }
 }

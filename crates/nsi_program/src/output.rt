@@ -1,6 +1,6 @@
 //! Texts that are written, and faults from outside.
 
-ghost use Rattle.std.specs.Prelude.{◌≡◌, ◌<◌, ◌≤◌, IsErrOf, OnOk, OnErr, false};
+ghost use Rattle.std.specs.Prelude.{◌≡◌, ◌<◌, IsErrOf, OnOk, OnErr, false};
 ghost use Rattle.nsi_program.specs.Promise.{is_told, read_fault_line, Writes, WritesFront};
 
 use crate::status::Status;
@@ -20,7 +20,8 @@ pub(crate) fn write_text<K: Sink>(out: &mut K, text: &[u8]) -> Result<(), Fault>
     ensures front { OnErr result (WritesFront (K.content out.old) (K.content out.new) text.now) }
     ensures write { IsErrOf result Fault.Write → K.faults out.old < K.faults out.new }
     ensures not_read { IsErrOf result Fault.Read → ⊥ }
-    ensures writes { K.faults out.old ≤ K.faults out.new }
+    ensures quiet { OnOk result (K.faults out.new ≡ K.faults out.old) }
+    ensures memory { IsErrOf result Fault.NoMemory → K.faults out.new ≡ K.faults out.old }
 {
     match write_all(out, text) {
         Ok(()) => Ok(()),
@@ -35,6 +36,8 @@ pub(crate) fn read_fault<K: Sink>(out: &mut K) -> Status
     ensures front { (result ≡ Status.ReadFault → ⊥) → WritesFront (K.content out.old) (K.content out.new) read_fault_line }
     ensures write { result ≡ Status.WriteFault → K.faults out.old < K.faults out.new }
     ensures not_told { is_told result ≡ false }
+    ensures quiet { result ≡ Status.ReadFault → K.faults out.new ≡ K.faults out.old }
+    ensures memory { result ≡ Status.NoMemory → K.faults out.new ≡ K.faults out.old }
 {
     match write_text(out, b"fault read\n") {
         Ok(()) => Status::ReadFault,

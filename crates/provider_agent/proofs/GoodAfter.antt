@@ -9,7 +9,7 @@ use Rattle.nsi_base.specs.declared.flow.Flow.{Flow}
 use Rattle.nsi_primitive.specs.Ids.{id_of}
 use Rattle.nsi_primitive.specs.Kinds.{is_both_ways}
 use Rattle.nsi_primitive.specs.Messages.{is_request}
-use Rattle.nsi_primitive.specs.Printable.{IsPrintable, IsPrintableBody, IsPrintableReserve}
+use Rattle.nsi_primitive.specs.Printable.{IsPrintable, IsPrintableBody, IsPrintableReserve, IsPrintableInput}
 use Rattle.nsi_primitive.specs.declared.plane.Plane.{Plane}
 use Rattle.nsi_primitive.specs.declared.state.Machine.{Machine}
 use Rattle.nsi_primitive.specs.declared.state.Rsm.{Rsm}
@@ -42,7 +42,6 @@ use Rattle.provider_agent.specs.Home.{Home}
 use Rattle.provider_agent.specs.Others.{others, first_lack, cause_of, lack_of, lacking}
 use Rattle.provider_agent.specs.State.{State, Stepped, unchanged, record_at, no_record, blank, name_or}
 use Rattle.provider_agent.specs.Steps.{step, hears, works, works_at, work_at, forces, force_move, is_forcible, keeps, drawn, ticks, ticks_at, ticks_all, told_at, own_origin, agent_of, taken_at, with_new, is_waiting, may_take, after_if, after}
-use Rattle.provider_agent.specs.Safety.{IsPrintableInput}
 use Rattle.provider_agent.specs.Good.{is_asking, works_in, works_among, IsGoodRecord, IsGood, most_drawn}
 use Rattle.provider_agent.proofs.RecordPlaces.{sum_beside, sum_with, push_here}
 use Rattle.provider_agent.proofs.Turning.{told_keeps}

@@ -3,7 +3,7 @@ use Rattle.std.proofs.Common.{◌≡◌, ℕ, Bool, true, false, nat_le, ◌+◌
 use Rattle.std.specs.List.{All}
 use Rattle.std.proofs.lemmas.Option.{slice_get-get_or}
 use Rattle.nsi_primitive.specs.Messages.{is_request}
-use Rattle.nsi_primitive.specs.Printable.{IsPrintable, IsPrintableBody, IsPrintableCause, IsShort, has_further_keys}
+use Rattle.nsi_primitive.specs.Printable.{IsPrintable, IsPrintableBody, IsPrintableCause, IsShort, has_further_keys, IsPrintableInput}
 use Rattle.nsi_primitive.specs.declared.kind.ErrorName.{ErrorName}
 use Rattle.nsi_primitive.specs.declared.state.Lsm.{Lsm}
 use Rattle.nsi_primitive.specs.declared.state.Machine.{Machine}
@@ -34,7 +34,6 @@ use Rattle.provider_agent.specs.Home.{Home}
 use Rattle.provider_agent.specs.Others.{first_lack, cause_of, lack_of, lacking}
 use Rattle.provider_agent.specs.State.{State, Stepped, record_at, no_record}
 use Rattle.provider_agent.specs.Steps.{step, hears, works, work_at, forces, force_move, is_forcible, keeps, ticks, taken_at, with_new, error_reply, is_waiting, may_take, after_if, after, agent_of, own_origin}
-use Rattle.provider_agent.specs.Safety.{IsPrintableInput}
 use Rattle.provider_agent.specs.Good.{IsGoodRecord, IsGood}
 use Rattle.provider_agent.proofs.EachSays.{EachReply, EachMessage, nothing_said, one_said, closes_each, ticked_each, kept_each, ticks_each}
 use Rattle.provider_agent.proofs.GoodAfter.{waits_within}

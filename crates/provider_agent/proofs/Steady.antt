@@ -1,6 +1,6 @@
 -- A provider's step, entry by entry.
 use Rattle.std.proofs.Common.{◌≡◌, ◌≤◌, ◌<◌, ℕ, true, Option, List, sym, ap, subst, ◌∙◌, arith, Result, Ok, Err, OnOk, OnErr, IfOk, All, Vec, Global}
-use Rattle.nsi_primitive.specs.Printable.{IsPrintable}
+use Rattle.nsi_primitive.specs.Printable.{IsPrintable, IsPrintableInput}
 use Rattle.nsi_primitive.specs.declared.entry.Entry.{Entry}
 use Rattle.nsi_primitive.specs.declared.message.Message.{Message}
 use Rattle.provider_agent.specs.Home.{Home}
@@ -8,7 +8,7 @@ use Rattle.std.specs.declared.alloc.AllocError.{AllocError}
 use Rattle.provider_agent.specs.State.{State, Standing, Stepped, counts}
 use Rattle.provider_agent.specs.Steps.{step, after, may_take}
 use Rattle.provider_agent.specs.Good.{IsGood}
-use Rattle.provider_agent.specs.Safety.{IsPrintableInput, Keeps}
+use Rattle.provider_agent.specs.Safety.{Keeps}
 use Rattle.provider_agent.specs.Kept.{AreKept}
 use Rattle.provider_agent.specs.Indexed.{AreIndexed}
 use Rattle.provider_agent.specs.Desk.{home_at, state_at, standing_at, IsReady, IsSteady}

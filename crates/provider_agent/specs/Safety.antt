@@ -4,7 +4,7 @@ use Rattle.std.specs.List.{Contains}
 use Rattle.nsi_base.specs.Range.{is_covered}
 use Rattle.nsi_base.specs.declared.flow.Flow.{Flow}
 use Rattle.nsi_primitive.specs.Kinds.{is_both_ways}
-use Rattle.nsi_primitive.specs.Printable.{IsPrintable}
+use Rattle.nsi_primitive.specs.Printable.{IsPrintable, IsPrintableInput}
 use Rattle.nsi_primitive.specs.declared.kind.ErrorName.{ErrorName}
 use Rattle.nsi_primitive.specs.declared.state.Machine.{Machine}
 use Rattle.nsi_primitive.specs.declared.state.Rsm.{Rsm}
@@ -90,10 +90,6 @@ pub record IsHonest (home : Home) (stp_of : List ℕ → Option ℕ) (s : State)
   pub alone : (m : Message) → Contains (after home stp_of s e).out m → is_refusal m.body ≡ true → (n : ℕ) × (r : Record) × IsChecking s e n r
 
 ---- Runs
-
-abbrev pub IsPrintableInput : Input → Type 0
-IsPrintableInput (Input.Got m) = IsPrintable m
-IsPrintableInput _ = Unit {0}
 
 -- each entry may be taken where it comes
 abbrev pub IsRun : Home → (List ℕ → Option ℕ) → State → List Entry → Type 0

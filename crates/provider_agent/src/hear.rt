@@ -23,7 +23,7 @@ use crate::home::own_stp;
 use crate::records::{Turned, turn};
 use connection_record::Record;
 use connection_record::refusal::schedule_refusal;
-use nsi_base::{AgentNo, Name, Second, StpNo, Text};
+use nsi_base::{AgentNo, Name, Second, StpNo, copy_text};
 use nsi_primitive::{
     Body, Cause, Directionality, ErrorName, Exception, Message, ReserveRequest, Service, id_of,
 };
@@ -318,15 +318,6 @@ fn points_of(
     let source = own_stp(topology, provider, source)?;
     let dest = own_stp(topology, provider, dest)?;
     Some((source, dest))
-}
-
-fn copy_text(text: &Option<Text>) -> Result<Option<Text>, AllocError>
-    ensures { IfOk result (λ copy. copy ≡ text.now) }
-{
-    match text {
-        None => Ok(None),
-        Some(text) => Ok(Some(text.copy()?)),
-    }
 }
 
 /// What a first reserve asks for.

@@ -2,14 +2,14 @@
 
 ghost use Rattle.std.specs.Prelude.{◌≡◌, ◌<◌, ◌≤◌, length, All, IfOk, OnOk, OnErr, IfSome, IfNone, true};
 ghost use Rattle.stp_topology.specs.Sound.{IsProvider};
-ghost use Rattle.nsi_primitive.specs.Printable.{IsPrintable};
+ghost use Rattle.nsi_primitive.specs.Printable.{IsPrintable, IsPrintableInput};
 ghost use Rattle.capacity_calendar.specs.Plan.{capacity_at};
 ghost use Rattle.connection_record.specs.Demand.{load};
 ghost use Rattle.provider_agent.specs.Home.{home_of, own_stp};
 ghost use Rattle.provider_agent.specs.State.{blank};
 ghost use Rattle.provider_agent.specs.Steps.{after, may_take, is_seen, waiting_work};
 ghost use Rattle.provider_agent.specs.Good.{IsGood};
-ghost use Rattle.provider_agent.specs.Safety.{IsCapped, IsRising, Keeps, IsHonest, IsPrintableInput};
+ghost use Rattle.provider_agent.specs.Safety.{IsCapped, IsRising, Keeps, IsHonest};
 
 use crate::desk::Desk;
 use crate::work::waiting_work;

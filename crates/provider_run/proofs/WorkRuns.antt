@@ -7,7 +7,8 @@ use Rattle.provider_agent.specs.Home.{Home}
 use Rattle.provider_agent.specs.State.{State}
 use Rattle.provider_agent.specs.Steps.{after, may_take, waiting_work}
 use Rattle.provider_agent.specs.Runs.{after_all}
-use Rattle.provider_agent.specs.Safety.{IsPrintableInput, IsRun}
+use Rattle.nsi_primitive.specs.Printable.{IsPrintableInput}
+use Rattle.provider_agent.specs.Safety.{IsRun}
 use Rattle.provider_agent.specs.Good.{works_among, IsGood}
 use Rattle.provider_agent.proofs.GoodAfter.{good_after}
 use Rattle.provider_run.specs.Works.{now_at, works_of, with_works}

@@ -1,11 +1,10 @@
 //! An entry of a provider, and the work that waits then.
 
 ghost use Rattle.std.specs.Prelude.{◌≡◌, ◌<◌, ◌≤◌, ◌+◌, ◌++◌, All, IfOk, OnOk, length, true, None};
-ghost use Rattle.nsi_primitive.specs.Printable.{IsPrintable};
+ghost use Rattle.nsi_primitive.specs.Printable.{IsPrintable, IsPrintableInput};
 ghost use Rattle.nsi_primitive.specs.declared.entry.Input.TheVariants.{Work as WorkInput};
 ghost use Rattle.provider_agent.specs.Home.{own_stp};
 ghost use Rattle.provider_agent.specs.Runs.{after_all};
-ghost use Rattle.provider_agent.specs.Safety.{IsPrintableInput};
 ghost use Rattle.provider_agent.specs.Steps.{after, may_take, waiting_work};
 ghost use Rattle.provider_run.specs.Works.{all_works, now_at, with_works};
 
