@@ -1,5 +1,5 @@
 -- The calls of a disk in memory, taken back one by one.
-use Rattle.std.proofs.Common.{◌≡◌, ℕ, Bool, true, false, List, [], ◌∷◌, ◌++◌, refl, sym, ◌∙◌, ap}
+use Rattle.std.proofs.Common.{◌≡◌, ℕ, true, false, List, [], ◌∷◌, ◌++◌, refl, sym, ◌∙◌, ap}
 use Rattle.std.proofs.lemmas.Bool.{true≢false}
 use Rattle.nsi_disk.specs.Again.{blot, blotted}
 use Rattle.nsi_disk.specs.Disk.{History}

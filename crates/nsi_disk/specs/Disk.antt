@@ -1,5 +1,5 @@
 -- What a disk has been through, and what a crash may leave of it.
-use Rattle.std.specs.Prelude.{◌≡◌, ◌⊎◌, ℕ, ◌+◌, ◌-◌, ◌≤◌, ◌<◌, max, min, Bool, IsTrue, List, ◌++◌, length, take, drop, Option, Some, None, IfSome, Result, IsErrOf, MatchResult}
+use Rattle.std.specs.Prelude.{◌≡◌, ◌⊎◌, ℕ, ◌+◌, ◌-◌, ◌≤◌, ◌<◌, max, min, Bool, IsTrue, List, ◌++◌, length, take, drop, Option, Some, None, IfSome, Result, IsErrOf, OnOk, MatchResult}
 use Rattle.nsi_disk.specs.declared.disk.DiskError.{DiskError}
 use Rattle.nsi_disk.specs.declared.disk.DiskError.TheVariants.{Failed, Stopped, NoMemory}
 
@@ -87,6 +87,9 @@ Steps step done (Some h) new result = MatchResult result (λ _. new ≡ Some (do
 pub record HasCause {T : Type 0} (old new : Meter) (result : Result T DiskError) : Type 0 where
   pub faults : old.faults ≤ new.faults
   pub stops : old.stops ≤ new.stops
+  pub quiet : OnOk result (new.faults ≡ old.faults)
+  pub calm : OnOk result (new.stops ≡ old.stops)
+  pub memory : IsErrOf result NoMemory → new.faults ≡ old.faults
   pub failed : IsErrOf result Failed → old.faults < new.faults
   pub stopped : IsErrOf result Stopped → (old.stops < new.stops) ⊎ IsTrue old.stopped
   pub refuses : IsTrue old.stopped → IsErrOf result Stopped

@@ -5,6 +5,7 @@ pub mod Images
 pub mod Memory
 pub mod Plan
 pub mod PlanOf
+pub mod RoomOf
 pub mod Shelf
 pub mod ShelfCounts
 pub mod ShelfOf

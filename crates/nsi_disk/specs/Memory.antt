@@ -1,5 +1,5 @@
 -- A disk in memory: its history, from what it reads, its past calls and the bytes that they overwrote.
-use Rattle.std.specs.Prelude.{◌≡◌, ℕ, Bool, true, false, ◌+◌, ◌-◌, ◌≤◌, List, [], ◌∷◌, ◌++◌, length, take, drop, reverse, vec_len, vec_capacity}
+use Rattle.std.specs.Prelude.{◌≡◌, ℕ, Bool, true, false, ◌+◌, ◌-◌, ◌≤◌, List, [], ◌∷◌, ◌++◌, length, take, drop, reverse, vec_len, vec_capacity, Result, OnErr}
 use Rattle.nsi_disk.specs.Disk.{History, Fresh, Wrote, CutTo, Synced, Broke}
 use Rattle.nsi_disk.specs.declared.content.Past.{Past}
 use Rattle.nsi_disk.specs.declared.content.Past.TheVariants.{Write, Cut, Sync, Pause}
@@ -35,6 +35,11 @@ pub record HasSpace (calls longest more : ℕ) (c : Content) : Type 0 where
   pub bytes : longest ≤ vec_capacity c.bytes
   pub log : vec_len c.log + calls ≤ vec_capacity c.log
   pub saved : vec_len c.saved + more ≤ vec_capacity c.saved
+
+-- a call that reaches so far and overwrites so many bytes needs no more than the room of one call
+abbrev pub TakesRoom : {T E : Type 0} → ℕ → ℕ → Content → Content → Result T E → Type 0
+TakesRoom reach spent old new result =
+    (calls longest more : ℕ) → HasSpace (calls + 1) longest (more + spent) old → reach ≤ longest → length (reads old) ≤ longest → OnErr result ⊥ × HasSpace calls longest more new
 
 abbrev pub is_sync : Past → Bool
 is_sync (Write at n k) = false

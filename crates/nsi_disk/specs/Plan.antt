@@ -1,5 +1,5 @@
 -- What the next call of a disk in memory does.
-use Rattle.std.specs.Prelude.{◌≡◌, ℕ, ◌≤◌, ◌<◌, ◌+◌, min, nat_eq, Bool, true, false, if◌then◌else◌, IsTrue, List, [], ◌∷◌, Option, Some, None, Result, IsErrOf, IfOk, IfSome}
+use Rattle.std.specs.Prelude.{◌≡◌, ℕ, ◌≤◌, ◌<◌, ◌+◌, min, nat_eq, Bool, true, false, if◌then◌else◌, IsTrue, List, [], ◌∷◌, Option, Some, None, Result, IsErrOf, IfOk, OnOk, IfSome, IfNone}
 use Rattle.std.specs.List.{Contains}
 use Rattle.nsi_disk.specs.declared.disk.DiskError.{DiskError}
 use Rattle.nsi_disk.specs.declared.disk.DiskError.TheVariants.{Failed, Stopped, NoMemory}
@@ -33,6 +33,8 @@ pub record Turn (old new : Planned) (stopped : Bool) (result : Result (Option Im
   pub refuses : IsTrue stopped → IsErrOf result Stopped
   pub given : IsErrOf result NoMemory → ⊥
   pub runs : IfOk result (λ _. stopped ≡ false)
+  pub quiet : OnOk result (new.faults ≡ old.faults)
+  pub calm : IfOk result (λ turn. IfNone turn (new.stops ≡ old.stops))
   pub stops_now : IfOk result (λ turn. IfSome turn (λ _. old.stops < new.stops))
   pub fails : stopped ≡ false → old.calls < most_calls → Contains old.failing (old.calls + 1) → IsErrOf result Failed
   pub listed : IsErrOf result Failed → Contains old.failing (old.calls + 1)

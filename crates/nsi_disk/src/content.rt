@@ -2,7 +2,7 @@
 
 ghost use Rattle.std.specs.Prelude.{◌≡◌, ◌≤◌, ◌<◌, ◌+◌, ◌-◌, List, ℕ, length, take, drop, min, IfOk, OnOk, OnErr, IsErr, vec_len, vec_capacity, ◌++◌};
 ghost use Rattle.nsi_disk.specs.Disk.{Wrote, CutTo, Synced, Broke, written};
-ghost use Rattle.nsi_disk.specs.Memory.{told_by, reads, SameContent, HasSpace, is_sync};
+ghost use Rattle.nsi_disk.specs.Memory.{told_by, reads, SameContent, HasSpace, TakesRoom, is_sync};
 
 use std::alloc::AllocError;
 
@@ -68,7 +68,7 @@ impl Content {
         ensures done { OnOk result (told_by self.new ≡ Wrote place (length piece.now) (written place piece.now (reads self.old)) (told_by self.old)) }
         ensures reads { OnOk result (reads self.new ≡ written place piece.now (reads self.old)) }
         ensures same { OnErr result (told_by self.new ≡ told_by self.old) }
-        ensures room { (calls longest more : ℕ) → HasSpace (calls + 1) longest (more + length piece.now) self.old → place + length piece.now ≤ longest → length (reads self.old) ≤ longest → OnErr result ⊥ × HasSpace calls longest more self.new }
+        ensures room { TakesRoom (place + length piece.now) (length piece.now) self.old self.new result }
         ensures kept { (l : ℕ) → HasSpace 0 l 0 self.old → HasSpace 0 l 0 self.new }
     {
         let at = place as usize;
@@ -93,7 +93,7 @@ impl Content {
         ensures done { OnOk result (told_by self.new ≡ CutTo len (take len (reads self.old)) (told_by self.old)) }
         ensures reads { OnOk result (reads self.new ≡ take len (reads self.old)) }
         ensures same { OnErr result (told_by self.new ≡ told_by self.old) }
-        ensures room { (calls longest more : ℕ) → HasSpace (calls + 1) longest (more + (length (reads self.old) - len)) self.old → len + 0 ≤ longest → length (reads self.old) ≤ longest → OnErr result ⊥ × HasSpace calls longest more self.new }
+        ensures room { TakesRoom (len + 0) (length (reads self.old) - len) self.old self.new result }
         ensures kept { (l : ℕ) → HasSpace 0 l 0 self.old → HasSpace 0 l 0 self.new }
     {
         let at = len as usize;
@@ -112,7 +112,7 @@ impl Content {
         ensures done { OnOk result (told_by self.new ≡ Synced (told_by self.old)) }
         ensures reads { reads self.new ≡ reads self.old }
         ensures same { OnErr result (told_by self.new ≡ told_by self.old) }
-        ensures room { (calls longest more : ℕ) → HasSpace (calls + 1) longest (more + 0) self.old → 0 ≤ longest → length (reads self.old) ≤ longest → OnErr result ⊥ × HasSpace calls longest more self.new }
+        ensures room { TakesRoom 0 0 self.old self.new result }
         ensures kept { (l : ℕ) → HasSpace 0 l 0 self.old → HasSpace 0 l 0 self.new }
     {
         self.log.reserve(1)?;
@@ -124,7 +124,7 @@ impl Content {
         ensures done { OnOk result (told_by self.new ≡ Broke (reads self.old) (told_by self.old)) }
         ensures reads { reads self.new ≡ reads self.old }
         ensures same { OnErr result (told_by self.new ≡ told_by self.old) }
-        ensures room { (calls longest more : ℕ) → HasSpace (calls + 1) longest (more + 0) self.old → 0 ≤ longest → length (reads self.old) ≤ longest → OnErr result ⊥ × HasSpace calls longest more self.new }
+        ensures room { TakesRoom 0 0 self.old self.new result }
         ensures kept { (l : ℕ) → HasSpace 0 l 0 self.old → HasSpace 0 l 0 self.new }
     {
         self.log.reserve(1)?;

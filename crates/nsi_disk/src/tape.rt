@@ -4,7 +4,7 @@ ghost use Rattle.std.specs.Prelude.{◌≡◌, ◌≤◌, ◌+◌, ◌-◌, ℕ,
 ghost use Rattle.nsi_disk.specs.Disk.{Fresh, Wrote, CutTo, Synced, Broke, seen, written};
 ghost use Rattle.nsi_disk.specs.Images.{Made, Made-prop};
 ghost use Rattle.nsi_disk.specs.Memory.{told_by, HasSpace, reads};
-ghost use Rattle.nsi_disk.specs.Plan.{Within};
+ghost use Rattle.nsi_disk.specs.RoomOf.{SpendsRoom};
 
 use crate::content::Content;
 use crate::room::Room;
@@ -52,7 +52,7 @@ impl Tape {
         requires { place ≤ length (seen (told_by self.old.content)) }
         ensures done { OnOk result (told_by self.new.content ≡ Wrote place (length piece.now) (written place piece.now (seen (told_by self.old.content))) (told_by self.old.content)) }
         ensures same { OnErr result (told_by self.new.content ≡ told_by self.old.content) }
-        ensures room { Within self.old.room.calls self.old.room.longest self.old.room.bytes (place + length piece.now) (length piece.now) (length (seen (told_by self.old.content))) → OnErr result ⊥ × (self.new.room.calls ≡ self.old.room.calls - 1) × (self.old.room.bytes ≤ self.new.room.bytes + length piece.now) }
+        ensures room { SpendsRoom (place + length piece.now) (length piece.now) (length (seen (told_by self.old.content))) self.old.room self.new.room result }
         ensures longest { self.new.room.longest ≡ self.old.room.longest }
     {
         let length = self.content.bytes.len();
@@ -64,7 +64,7 @@ impl Tape {
         requires { len ≤ length (seen (told_by self.old.content)) }
         ensures done { OnOk result (told_by self.new.content ≡ CutTo len (take len (seen (told_by self.old.content))) (told_by self.old.content)) }
         ensures same { OnErr result (told_by self.new.content ≡ told_by self.old.content) }
-        ensures room { Within self.old.room.calls self.old.room.longest self.old.room.bytes (len + 0) (length (seen (told_by self.old.content)) - len) (length (seen (told_by self.old.content))) → OnErr result ⊥ × (self.new.room.calls ≡ self.old.room.calls - 1) × (self.old.room.bytes ≤ self.new.room.bytes + (length (seen (told_by self.old.content)) - len)) }
+        ensures room { SpendsRoom (len + 0) (length (seen (told_by self.old.content)) - len) (length (seen (told_by self.old.content))) self.old.room self.new.room result }
         ensures longest { self.new.room.longest ≡ self.old.room.longest }
     {
         let length = self.content.bytes.len();
@@ -75,7 +75,7 @@ impl Tape {
     pub fn sync(&mut self) -> Result<(), AllocError>
         ensures done { OnOk result (told_by self.new.content ≡ Synced (told_by self.old.content)) }
         ensures same { OnErr result (told_by self.new.content ≡ told_by self.old.content) }
-        ensures room { Within self.old.room.calls self.old.room.longest self.old.room.bytes 0 0 (length (seen (told_by self.old.content))) → OnErr result ⊥ × (self.new.room.calls ≡ self.old.room.calls - 1) × (self.old.room.bytes ≤ self.new.room.bytes + 0) }
+        ensures room { SpendsRoom 0 0 (length (seen (told_by self.old.content))) self.old.room self.new.room result }
         ensures longest { self.new.room.longest ≡ self.old.room.longest }
     {
         let length = self.content.bytes.len();
@@ -86,7 +86,7 @@ impl Tape {
     pub fn pause(&mut self, place: u64, n: usize) -> Result<(), AllocError>
         ensures done { OnOk result (told_by self.new.content ≡ Broke (seen (told_by self.old.content)) (told_by self.old.content)) }
         ensures same { OnErr result (told_by self.new.content ≡ told_by self.old.content) }
-        ensures room { Within self.old.room.calls self.old.room.longest self.old.room.bytes (place + n) 0 (length (seen (told_by self.old.content))) → OnErr result ⊥ × (self.new.room.calls ≡ self.old.room.calls - 1) × (self.old.room.bytes ≤ self.new.room.bytes + 0) }
+        ensures room { SpendsRoom (place + n) 0 (length (seen (told_by self.old.content))) self.old.room self.new.room result }
         ensures longest { self.new.room.longest ≡ self.old.room.longest }
     {
         let length = self.content.bytes.len();

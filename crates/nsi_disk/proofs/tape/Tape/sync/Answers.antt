@@ -1,5 +1,5 @@
-use Rattle.std.proofs.Common.{rules, arith, ◌≤◌, List, ℕ, subst, ◌+◌, ◌-◌, length}
-use Rattle.nsi_disk.proofs.Space.{space_after, room_after, reads_told, sync_kept}
+use Rattle.std.proofs.Common.{rules}
+use Rattle.nsi_disk.proofs.Space.{space_after, room_after, sync_kept}
 use Rattle.nsi_disk.proofs.tape.Tape.sync.Goals as goal
 
 pub invariant_of-self : goal.invariant_of-self

@@ -1,4 +1,4 @@
-use Rattle.std.proofs.Common.{rules, arith, ◌≤◌, List, ℕ, subst, ◌+◌, ◌-◌, length}
+use Rattle.std.proofs.Common.{rules, ◌≤◌, List, ℕ, subst, ◌+◌, length}
 use Rattle.nsi_disk.proofs.Space.{space_after, room_after, reads_told, write_kept}
 use Rattle.nsi_disk.proofs.tape.Tape.write.Goals as goal
 
