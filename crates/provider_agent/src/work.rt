@@ -262,7 +262,8 @@ impl Desk {
             return Ok(());
         };
         self.name_second(place, criteria.interval.start().get())?;
-        self.name_second(place, criteria.interval.end().get())
+        self.name_second(place, criteria.interval.end().get())?;
+        Ok(())
     }
 
     /// Names a second at which the record at a place has something to do.
