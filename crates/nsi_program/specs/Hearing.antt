@@ -12,7 +12,7 @@ use Rattle.json_fields.specs.declared.key.Key.{Key}
 use Rattle.json_fields.specs.declared.fault.LineFault.{LineFault}
 use Rattle.json_primitives.specs.Lines.{line_of}
 use Rattle.json_primitives.specs.declared.payload.PayloadFault.{PayloadFault}
-use Rattle.provider_agent.specs.Safety.{IsPrintableInput}
+use Rattle.nsi_primitive.specs.Printable.{IsPrintableInput}
 use Rattle.provider_agent.specs.State.{State}
 use Rattle.provider_agent.specs.Steps.{is_seen, is_for_provider, is_on_time}
 use Rattle.nsi_program.specs.declared.hearing.Heard.{Heard}

@@ -6,7 +6,7 @@ mod requests;
 mod terminated;
 
 ghost use Rattle.std.specs.Prelude.{◌≡◌, ◌<◌, true};
-ghost use Rattle.provider_agent.specs.Safety.{IsPrintableInput};
+ghost use Rattle.nsi_primitive.specs.Printable.{IsPrintableInput};
 ghost use Rattle.provider_agent.specs.Steps.{is_for_provider, is_on_time};
 
 use nsi_base::{RecordNo, Second};
