@@ -1,4 +1,4 @@
-use Rattle.std.proofs.Common.{◌≤◌, length}
+use Rattle.std.proofs.Common.{◌≡◌, length}
 use Rattle.nsi_base.specs.Lines.{lines_of}
 use Rattle.nsi_program.specs.Check.{AnswersUpTo}
 use Rattle.nsi_program.specs.Writes.{WritesSome}
@@ -11,5 +11,5 @@ decreases-lines g l = length l.rest
 abbrev pub invariant-lines : goal.invariant-lines
 invariant-lines g l = record {
   answered : WritesSome (AnswersUpTo l.topology (lines_of l.lines) (lines_of l.rest)) (g.K.Sink.content l.fn.out) (g.K.Sink.content l.out);
-  writes : g.K.Sink.faults l.fn.out ≤ g.K.Sink.faults l.out;
+  quiet : g.K.Sink.faults l.out ≡ g.K.Sink.faults l.fn.out;
 }
