@@ -2,12 +2,12 @@
 use Rattle.std.proofs.Common.{◌≡◌, ◌≤◌, ◌+◌, inl, inr, ◌⊎◌, ℕ, zero, suc, List, [], ◌∷◌, ◌++◌, length, take, drop, Bool, true, false, cond, eqb, Option, Some, None, option_map, IfSome, refl, sym, ap, ◌∙◌, subst, append_assoc, append-nil, length-append, arith}
 use Rattle.std.proofs.Math.Seq.{take-append_seam}
 use Rattle.std.proofs.lemmas.List.{take-append-drop}
-use Rattle.nsi_base.specs.Lines.{lines_to, lines_of, ended_lines, feed_at, without_return}
+use Rattle.nsi_base.specs.Lines.{lines_to, lines_of, feed_at, without_return}
 use Rattle.nsi_base.proofs.LineCuts.{lines_end, lines_last, ended_none}
 use Rattle.stp_topology.specs.Network.{nothing}
 use Rattle.stp_topology.specs.declared.network.Network.{Network}
 use Rattle.provider_agent.specs.Home.{Home, home_of, own_stp}
-use Rattle.line_reader.specs.Given.{Given, given_of, with_line, IsSame, TakesLine}
+use Rattle.line_reader.specs.Given.{Given, given_of, IsSame, TakesLine}
 use Rattle.line_reader.specs.Held.{Held, rest_of, to_come, budget, CutsLine, IsFirstLine}
 use Rattle.nsi_program.specs.Cut.{IsAnswered, IsEnded, AnswersRead, AppendsRead, AnswersSome, IsStopped, TakesOn, StopsAt}
 use Rattle.nsi_program.specs.Outcome.{move_of, behind, outcome, GoesOn, next_text}

@@ -1,5 +1,5 @@
 -- Of some bytes `check` makes one text.
-use Rattle.std.proofs.Common.{◌≡◌, ℕ, suc, inl, inr, List, [], ◌∷◌, ◌++◌, length, leb, Bool, true, false, Some, Ok, Err, slice_get, refl, sym, ap, ◌∙◌, subst, append_assoc, append-nil, arith}
+use Rattle.std.proofs.Common.{◌≡◌, ℕ, inl, inr, List, [], ◌∷◌, ◌++◌, length, leb, Bool, true, false, Ok, Err, sym, ap, ◌∙◌, subst, append_assoc, append-nil}
 use Rattle.stp_topology.specs.declared.network.Network.{Network}
 use Rattle.stp_topology.specs.Text.{topology_of}
 use Rattle.path_segments.specs.declared.path.Segment.{Segment}
