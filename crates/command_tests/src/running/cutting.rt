@@ -24,6 +24,7 @@ fn four_lines(alloc: Global) -> Result<Vec<u8>, AllocError> {
 }
 
 /// How many of the lines are answered, what stands behind the answers, and the status.
+#[derive(Clone, Copy)]
 struct Cut {
     answers: usize,
     end: &'static str,
