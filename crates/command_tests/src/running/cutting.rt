@@ -23,9 +23,10 @@ fn four_lines(alloc: Global) -> Result<Vec<u8>, AllocError> {
     Ok(input)
 }
 
-/// How many of the lines are answered, what stands behind the answers, and the status.
+/// Which call fails, how many of the lines are answered, what stands behind the answers, and the status.
 #[derive(Clone, Copy)]
 struct Cut {
+    call: u64,
     answers: usize,
     end: &'static str,
     status: u8,
@@ -49,26 +50,31 @@ fn is_cut(alloc: Global, reads: &[u64], writes: &[u64], cut: &Cut) -> Result<boo
 /// line is answered, and the fourth meets it once more.
 const READS: [Cut; 5] = [
     Cut {
+        call: 1,
         answers: 0,
         end: "fault read\n",
         status: 2,
     },
     Cut {
+        call: 2,
         answers: 1,
         end: "fault read\n",
         status: 2,
     },
     Cut {
+        call: 3,
         answers: 3,
         end: "fault read\n",
         status: 2,
     },
     Cut {
+        call: 4,
         answers: 4,
         end: "fault read\n",
         status: 2,
     },
     Cut {
+        call: 5,
         answers: 4,
         end: "",
         status: 0,
@@ -77,11 +83,9 @@ const READS: [Cut; 5] = [
 
 #[test]
 fn lines_that_ended_are_answered_before_a_failed_read(rt: HostRuntime) -> Result<(), Fail> {
-    let mut call = 0;
     for cut in &READS {
-        call += 1;
-        let is_right = is_cut(rt.alloc(), &[call], &[], cut)?;
-        assert!(rt; is_right, "read {call}");
+        let is_right = is_cut(rt.alloc(), &[cut.call], &[], cut)?;
+        assert!(rt; is_right, "read {}", cut.call);
     }
     Ok(())
 }
@@ -89,26 +93,31 @@ fn lines_that_ended_are_answered_before_a_failed_read(rt: HostRuntime) -> Result
 /// A failed write, from the first call on. Each answer is one write.
 const WRITES: [Cut; 5] = [
     Cut {
+        call: 1,
         answers: 0,
         end: "",
         status: 3,
     },
     Cut {
+        call: 2,
         answers: 1,
         end: "",
         status: 3,
     },
     Cut {
+        call: 3,
         answers: 2,
         end: "",
         status: 3,
     },
     Cut {
+        call: 4,
         answers: 3,
         end: "",
         status: 3,
     },
     Cut {
+        call: 5,
         answers: 4,
         end: "",
         status: 0,
@@ -117,11 +126,9 @@ const WRITES: [Cut; 5] = [
 
 #[test]
 fn answers_stand_before_a_failed_write(rt: HostRuntime) -> Result<(), Fail> {
-    let mut call = 0;
     for cut in &WRITES {
-        call += 1;
-        let is_right = is_cut(rt.alloc(), &[], &[call], cut)?;
-        assert!(rt; is_right, "write {call}");
+        let is_right = is_cut(rt.alloc(), &[], &[cut.call], cut)?;
+        assert!(rt; is_right, "write {}", cut.call);
     }
     Ok(())
 }
@@ -129,11 +136,12 @@ fn answers_stand_before_a_failed_write(rt: HostRuntime) -> Result<(), Fail> {
 #[test]
 fn a_failed_write_of_a_failed_read(rt: HostRuntime) -> Result<(), Fail> {
     let cut = Cut {
+        call: 2,
         answers: 1,
         end: "",
         status: 3,
     };
-    let is_right = is_cut(rt.alloc(), &[2], &[2], &cut)?;
+    let is_right = is_cut(rt.alloc(), &[cut.call], &[cut.call], &cut)?;
     assert!(rt; is_right);
     Ok(())
 }
@@ -159,14 +167,11 @@ fn check_tells_a_failed_read_alone(rt: HostRuntime) -> Result<(), Fail> {
 
 #[test]
 fn check_answers_before_a_failed_write(rt: HostRuntime) -> Result<(), Fail> {
-    let texts = [
-        "",
-        "agents 2 stps 2 sdps 0\n",
-        "agents 2 stps 2 sdps 0\nbad\n",
-    ];
-    let mut call = 0;
-    for text in &texts {
-        call += 1;
+    for (call, text) in [
+        (1, ""),
+        (2, "agents 2 stps 2 sdps 0\n"),
+        (3, "agents 2 stps 2 sdps 0\nbad\n"),
+    ] {
         let written = checked(rt.alloc(), &[], &[call])?;
         assert!(rt; written.is(3, text.as_bytes()), "write {call}");
     }
