@@ -1,7 +1,7 @@
 -- The bookings as they are kept, each at the number of its record.
 use Rattle.std.proofs.Common.{◌≡◌, ◌≢◌, ◌≤◌, ◌<◌, ◌+◌, ℕ, zero, suc, List, [], ◌∷◌, ◌++◌, Bool, true, false, cond, not, eqb, ltb, filter, length, take, set, get_or, replicate, Option, Some, None, arith, refl, sym, ap, ◌∙◌, subst}
 use Rattle.std.proofs.lemmas.Bool.Decides.{nat_tests}
-use Rattle.std.proofs.lemmas.List.{take_all}
+use Rattle.std.proofs.lemmas.List.{take_all, length-set}
 use Rattle.capacity_calendar.specs.declared.booking.Booking.{Booking}
 use Rattle.capacity_calendar.specs.Load.{others}
 use Rattle.capacity_calendar.specs.Plan.{HasOneEach, booking_of, changed, placed}
@@ -226,3 +226,13 @@ numbered_changed k g xs b keeps e h = numbered_set 0 k xs (g b) (keeps ∙ numbe
 
 pub unchanged_at : (k : ℕ) (g : Booking → Booking) (xs : List (Option Booking)) → get_or xs k None ≡ None → IsNumbered 0 xs → changed k g (present xs) ≡ present xs
 unchanged_at k g xs e h = changed_none k g (present xs) (found_at k xs h ∙ e)
+
+-- no more are there than there are places
+pub present_fewer : (xs : List (Option Booking)) → length (present xs) ≤ length xs
+present_fewer [] = omega arith
+present_fewer (None ∷ xs) = omega (arith, present_fewer xs)
+present_fewer (Some b ∷ xs) = omega (arith, present_fewer xs)
+
+-- nor does a place that is set add one
+pub set_few : (xs : List (Option Booking)) (k m : ℕ) (o : Option Booking) → length xs ≤ m → length (set xs k o) ≤ m
+set_few xs k m o h = omega (arith, h, length-set xs k o)

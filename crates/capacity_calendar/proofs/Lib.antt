@@ -1,4 +1,3 @@
-pub mod First
 pub mod FirstLack
 pub mod Places
 pub mod Function
@@ -12,6 +11,12 @@ pub mod Sums
 pub mod LoadByNumber
 pub mod Kept
 pub mod ByPoint
-pub mod Indexed
-pub mod Listed
+pub mod Steady
+pub mod Points
+pub mod Turns
+pub mod Walk
+pub mod Owned
+pub mod Halves
+pub mod Few
+pub mod Quick
 pub mod Rows

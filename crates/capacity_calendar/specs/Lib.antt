@@ -4,4 +4,8 @@ pub mod Plan
 pub mod Kept
 pub mod ByPoint
 pub mod Search
+pub mod Index
+pub mod Changes
+pub mod Tables
+pub mod Steps
 pub mod Sums

@@ -54,11 +54,28 @@ pub(crate) struct PointCapacities {
     pub(crate) outward: Option<Mbps>,
 }
 
-/// A record that books at a point, and an interval within which all its slots there lie.
+/// A second at which slots start or end, how many they are, and the load from it to the next.
 #[derive(Clone, Copy, Debug, PartialEq, Eq)]
-pub(crate) struct Listed {
+pub(crate) struct Point {
+    pub(crate) second: Second,
+    pub(crate) load: u64,
+    pub(crate) ends: u32,
+}
+
+/// A slot that comes to the other slot of its record, or goes from it.
+#[derive(Clone, Copy, Debug, PartialEq, Eq)]
+pub(crate) struct Change {
     pub(crate) number: RecordNo,
-    pub(crate) span: Interval,
+    pub(crate) slot: Slot,
+    pub(crate) other: Option<Slot>,
+    pub(crate) comes: bool,
+}
+
+/// A second at which bandwidth is lacking, and the load of the other records there.
+#[derive(Clone, Copy, Debug, PartialEq, Eq)]
+pub(crate) struct Shortage {
+    pub(crate) second: Second,
+    pub(crate) load: u64,
 }
 
 /// What a record asks for.

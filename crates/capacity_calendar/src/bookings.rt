@@ -1,6 +1,6 @@
 //! The bookings of records, each found by the number of its record.
 
-ghost use Rattle.std.specs.Prelude.{◌≡◌, ◌<◌, ◌+◌, OnOk, OnErr, get_or, slice_set, length, None, []};
+ghost use Rattle.std.specs.Prelude.{◌≡◌, ◌≤◌, ◌<◌, ◌+◌, OnOk, OnErr, get_or, slice_set, length, None, []};
 ghost use Rattle.std.specs.Option.{option_copied};
 ghost use Rattle.capacity_calendar.specs.Kept.{present, IsNumbered};
 ghost use Rattle.capacity_calendar.specs.Load.{others};
@@ -18,7 +18,7 @@ pub(crate) struct Bookings {
 }
 
 impl Model for Bookings {
-    ghost use Rattle.std.specs.Prelude.{List};
+    ghost use Rattle.std.specs.Prelude.{◌≤◌, List, length};
     ghost use Rattle.capacity_calendar.specs.declared.booking.Booking.{Booking};
     ghost use Rattle.capacity_calendar.specs.Kept.{present, IsNumbered};
 
@@ -26,7 +26,7 @@ impl Model for Bookings {
 
     ghost view = { λ b. present b.by_number.items };
 
-    ghost invariant = { λ b. IsNumbered 0 b.by_number.items };
+    ghost invariant = { λ b. IsNumbered 0 b.by_number.items × (length b.by_number.items ≤ 4194304) };
 }
 
 impl Bookings {
@@ -36,6 +36,14 @@ impl Bookings {
         Bookings {
             by_number: Vec::new(alloc),
         }
+    }
+
+    /// It costs nothing, and tells what is true of all bookings.
+    pub(crate) fn facts(&self)
+        ensures one_each { HasOneEach self.now }
+        ensures few { length self.now ≤ 4194304 }
+    {
+        let _bookings = &self.by_number;
     }
 
     pub(crate) fn of(&self, number: RecordNo) -> Option<&Booking>
@@ -120,6 +128,7 @@ fn make_room(by_number: &mut Vec<Option<Booking>>, number: RecordNo) -> Result<(
     ensures same { present by_number.new.items ≡ present by_number.old.items }
     ensures numbered { IsNumbered 0 by_number.old.items → IsNumbered 0 by_number.new.items }
     ensures room { OnOk result (number < length by_number.new.items) }
+    ensures few { length by_number.old.items ≤ 4194304 → length by_number.new.items ≤ 4194304 }
 {
     let end = number.get() as usize + 1;
     if by_number.len() < end {

@@ -2,30 +2,35 @@
 
 ghost use Rattle.std.specs.Prelude.{◌≡◌, ℕ, ◌≤◌, ◌<◌, IfSome, IfNone, IsSome, OnOk, OnErr, IfOk, Some, None, true, [], ◌∷◌, ◌++◌};
 ghost use Rattle.std.specs.Option.{option_copied};
+ghost use Rattle.capacity_calendar.specs.Changes.{booking_with};
+ghost use Rattle.capacity_calendar.specs.Steps.{IsQuick};
+ghost use Rattle.capacity_calendar.specs.Tables.{AreIndexed, StayWithin};
 ghost use Rattle.capacity_calendar.specs.Load.{load, others};
 ghost use Rattle.capacity_calendar.specs.Lack.{first_lack_among};
 ghost use Rattle.capacity_calendar.specs.Plan.{capacity_at, booked_place, places_at, booking_of, committed_of, pending_of, pending_set, with_pending, settled};
 
-use crate::booking::{Booking, Capacity, Demand, Lack, Place, Slot, Wish};
+use crate::booking::{Booking, Capacity, Change, Demand, Lack, Place, Slot, Wish};
 use crate::bookings::Bookings;
 use crate::capacities::Capacities;
 use crate::lack::{first_second, sooner};
-use crate::load::{books, load, load_of_others};
-use crate::points::{Points, forget};
+use crate::load::{after, books, own};
+use crate::steps::Steps;
+use crate::tables::Tables;
 use nsi_base::{Flow, Interval, List, Mbps, RecordNo, Second, StpNo};
 use std::alloc::{AllocError, Global};
 use std::marker::Model;
+use std::sync::ledger::Ledger;
 
 /// The capacities of service termination points, and bookings within them.
 #[derive(Debug, Drop)]
 pub struct Calendar {
     capacities: Capacities,
     bookings: Bookings,
-    points: Points,
+    tables: Tables,
 }
 
 impl Model for Calendar {
-    ghost use Rattle.capacity_calendar.specs.Kept.{IsIndexed};
+    ghost use Rattle.capacity_calendar.specs.Tables.{AreIndexed};
     ghost use Rattle.capacity_calendar.specs.Plan.{Plan, IsSound};
 
     ghost Value = { Plan };
@@ -33,7 +38,7 @@ impl Model for Calendar {
     ghost view = { λ c. record { capacities = c.capacities; bookings = c.bookings } };
 
     ghost invariant = { λ c. IsSound (record { capacities = c.capacities; bookings = c.bookings })
-        × IsIndexed c.bookings c.points };
+        × AreIndexed c.capacities c.bookings c.tables };
 }
 
 impl Calendar {
@@ -46,7 +51,7 @@ impl Calendar {
         Ok(Calendar {
             capacities: Capacities::new(alloc, capacities)?,
             bookings: Bookings::new(alloc),
-            points: Points::new(alloc)?,
+            tables: Tables::new(alloc)?,
         })
     }
 
@@ -77,15 +82,10 @@ impl Calendar {
         ensures none { IfNone (capacity_at self.now.capacities stp flow) (result ≡ 0) }
         ensures within { IfSome (capacity_at self.now.capacities stp flow) (λ c. result ≤ c) }
     {
-        let Some(capacity) = self.capacities.of(stp, flow) else {
+        if self.capacities.of(stp, flow).is_none() {
             return 0;
-        };
-        let place = Place {
-            stp,
-            flow,
-            capacity,
-        };
-        load(&self.bookings, self.points.at(stp), &place, t)
+        }
+        self.tables.of(flow).at(stp).load(t)
     }
 
     /// The first second at which the other records leave too little of a flow for what a record asks.
@@ -102,6 +102,25 @@ impl Calendar {
         ensures first { IfSome result (IsFirstLack self.now number stp flow interval mbps) }
         ensures function { result ≡ first_lack_at self.now number stp flow interval mbps }
     {
+        self.check_counted(stp, flow, interval, mbps, number, &mut Steps::new())
+    }
+
+    /// The same, and counts the points that are read: those of a search by halves, those inside the interval, and two.
+    pub fn check_counted<L: Ledger>(
+        &self,
+        stp: StpNo,
+        flow: Flow,
+        interval: Interval,
+        mbps: Mbps,
+        number: RecordNo,
+        steps: &mut Steps<L>,
+    ) -> Option<Lack>
+        requires { IsSome (capacity_at self.now.capacities stp flow) }
+        ensures none { IfNone result (Fits self.now number stp flow interval mbps) }
+        ensures first { IfSome result (IsFirstLack self.now number stp flow interval mbps) }
+        ensures function { result ≡ first_lack_at self.now number stp flow interval mbps }
+        ensures quick { IsQuick flow stp self.now.bookings interval steps.old steps.new }
+    {
         let capacity = self.capacities.of(stp, flow)?;
         let place = Place {
             stp,
@@ -114,14 +133,13 @@ impl Calendar {
             interval,
             mbps,
         };
-        let listed = self.points.at(stp);
-        let second = first_second(&self.bookings, listed, &demand)?;
-        let load = load_of_others(&self.bookings, listed, &demand, second);
+        let index = self.tables.of(flow).at(stp);
+        let found = first_second(&self.bookings, index, &demand, steps)?;
         Some(Lack {
             stp,
             flow,
-            second,
-            load,
+            second: found.second,
+            load: found.load,
             capacity,
         })
     }
@@ -200,18 +218,22 @@ impl Calendar {
         ensures err { OnErr result (self.new ≡ self.old) }
         ensures sound { IsSound self.new }
     {
-        let slot = Slot {
-            source,
-            dest,
-            both_ways,
-            interval,
-            mbps,
+        let change = Change {
+            number,
+            slot: Slot {
+                source,
+                dest,
+                both_ways,
+                interval,
+                mbps,
+            },
+            other: self.bookings.committed_of(number),
+            comes: true,
         };
-        self.points.add(source, number, interval)?;
-        self.points.add(dest, number, interval)?;
-        let wish = Wish { number, slot };
-        let booking = booking_with(&self.bookings, &wish);
-        self.bookings.put(&booking)?;
+        self.tables.make_room(source)?;
+        self.tables.make_room(dest)?;
+        self.bookings.put(&after(&change))?;
+        self.tables.turn(&self.capacities, &change, &self.bookings);
         Ok(())
     }
 
@@ -221,9 +243,16 @@ impl Calendar {
         ensures settled { self.new ≡ record self.old { bookings = settled number self.old.bookings } }
         ensures sound { IsSound self.new }
     {
-        let former = self.bookings.committed_of(number);
+        let former = own(&self.bookings, number);
         self.bookings.settle(number);
-        forget(&mut self.points, &self.bookings, number, &former);
+        release(
+            &mut self.tables,
+            &self.capacities,
+            &self.bookings,
+            number,
+            &former.committed,
+            &former.pending,
+        );
     }
 
     /// Takes the pending slot of a record away, where it has one. The booking stays.
@@ -231,9 +260,16 @@ impl Calendar {
         ensures taken { self.new ≡ record self.old { bookings = pending_set number None self.old.bookings } }
         ensures sound { IsSound self.new }
     {
-        let former = self.bookings.pending_of(number);
+        let former = own(&self.bookings, number);
         self.bookings.take_pending(number);
-        forget(&mut self.points, &self.bookings, number, &former);
+        release(
+            &mut self.tables,
+            &self.capacities,
+            &self.bookings,
+            number,
+            &former.pending,
+            &former.committed,
+        );
     }
 
     /// Takes the booking of a record away, where it has one.
@@ -241,22 +277,50 @@ impl Calendar {
         ensures taken { self.new ≡ record self.old { bookings = others number self.old.bookings } }
         ensures sound { IsSound self.new }
     {
-        let committed = self.bookings.committed_of(number);
-        let pending = self.bookings.pending_of(number);
+        let former = own(&self.bookings, number);
         self.bookings.take_all(number);
-        forget(&mut self.points, &self.bookings, number, &committed);
-        forget(&mut self.points, &self.bookings, number, &pending);
+        release(
+            &mut self.tables,
+            &self.capacities,
+            &self.bookings,
+            number,
+            &former.committed,
+            &former.pending,
+        );
+        release(
+            &mut self.tables,
+            &self.capacities,
+            &self.bookings,
+            number,
+            &former.pending,
+            &None,
+        );
     }
 }
 
-/// The booking of a record with a slot more.
-fn booking_with(bookings: &Bookings, wish: &Wish) -> Booking
-    ensures { let committed = committed_of wish.now.number bookings.now in
-        result ≡ record { number = wish.now.number; committed = committed; pending = Some wish.now.slot } }
+/// Follows a slot that goes, where there is one, beside the other slot of its record.
+fn release(
+    tables: &mut Tables,
+    capacities: &Capacities,
+    bookings: &Bookings,
+    number: RecordNo,
+    slot: &Option<Slot>,
+    other: &Option<Slot>,
+)
+    requires within { let all = booking_with number other.now None ∷ others number bookings.now in
+        StayWithin capacities.now all }
+    requires index { let all = booking_with number other.now slot.now ∷ others number bookings.now in
+        AreIndexed capacities.now all tables.old }
+    ensures { let all = booking_with number other.now None ∷ others number bookings.now in
+        AreIndexed capacities.now all tables.new }
 {
-    Booking {
-        number: wish.number,
-        committed: bookings.committed_of(wish.number),
-        pending: Some(wish.slot),
+    if let Some(slot) = slot {
+        let change = Change {
+            number,
+            slot: *slot,
+            other: *other,
+            comes: false,
+        };
+        tables.turn(capacities, &change, bookings);
     }
 }

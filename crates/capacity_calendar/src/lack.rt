@@ -1,134 +1,76 @@
 //! The first second at which a place lacks bandwidth.
 
-ghost use Rattle.std.specs.Prelude.{◌≡◌, ℕ, ◌≤◌, ◌<◌, MatchOption};
-ghost use Rattle.capacity_calendar.specs.Kept.{IsListed, meets};
-ghost use Rattle.capacity_calendar.specs.Load.{others};
+ghost use Rattle.std.specs.Prelude.{◌≡◌, ◌≤◌, ◌<◌, ◌+◌, ◌-◌, MatchOption, IfSome, nat_lt};
+ghost use Rattle.capacity_calendar.specs.Index.{IsIndexFor};
+ghost use Rattle.capacity_calendar.specs.Load.{claim, load, others};
 ghost use Rattle.capacity_calendar.specs.Lack.{is_lacking};
-ghost use Rattle.capacity_calendar.specs.Plan.{booking_of};
-ghost use Rattle.capacity_calendar.specs.Search.{IsFirst, HasRoom, earlier, start_if, record_start, listed_start, first_start, sooner};
+ghost use Rattle.capacity_calendar.specs.Search.{IsFirst, HasRoom, sooner};
+ghost use Rattle.capacity_calendar.specs.Steps.{IsQuick};
 
-use crate::booking::{Demand, Lack, Listed, Slot};
+use crate::booking::{Booking, Demand, Lack, Point, Shortage};
 use crate::bookings::Bookings;
-use crate::load::{load_of_others, other};
-use nsi_base::{Interval, RecordNo, Second};
+use crate::index::Index;
+use crate::load::{claim, own};
+use crate::steps::Steps;
+use nsi_base::Second;
+use std::sync::ledger::Ledger;
 
-fn is_lacking(bookings: &Bookings, listed: &[Listed], demand: &Demand, t: Second) -> bool
-    requires { IsListed demand.now.place bookings.now listed.now }
-    ensures { let rest = others demand.now.number bookings.now in
-        result ≡ is_lacking demand.now.place rest demand.now.mbps t }
+/// What the other records have booked, of a load that has the record's own bookings in it.
+fn load_of_others(demand: &Demand, own: &Booking, load: u64, t: Second) -> u64
+    requires { let p = demand.now.place in claim p.flow p.stp t own.now ≤ load }
+    ensures { let p = demand.now.place in result ≡ load - claim p.flow p.stp t own.now }
+{
+    load - claim(own, demand.place.flow, demand.place.stp, t)
+}
+
+/// Whether a load and what is asked beside it are more than the capacity.
+fn is_too_much(demand: &Demand, load: u64) -> bool
+    requires { load ≤ demand.now.place.capacity }
+    ensures { result ≡ nat_lt demand.now.place.capacity (load + demand.now.mbps) }
 {
     let capacity = demand.place.capacity.get();
-    load_of_others(bookings, listed, demand, t) + demand.mbps.get() > capacity
+    load + demand.mbps.get() > capacity
 }
 
-fn earlier(first: Option<Second>, other: Option<Second>) -> Option<Second>
-    ensures { result ≡ earlier first other }
-{
-    match (first, other) {
-        (None, other) => other,
-        (Some(a), None) => Some(a),
-        (Some(a), Some(b)) => Some(if a <= b { a } else { b }),
-    }
-}
-
-#[tactic(auto, unfolding(crate::specs::Search::start_if))]
-fn start_if(
+/// The first second of the interval at which the bookings of the other records leave too little.
+pub(crate) fn first_second<L: Ledger>(
     bookings: &Bookings,
-    listed: &[Listed],
+    index: &Index,
     demand: &Demand,
-    slot: &Option<Slot>,
-) -> Option<Second>
-    requires { IsListed demand.now.place bookings.now listed.now }
-    ensures { let rest = others demand.now.number bookings.now in
-        let lacks = is_lacking demand.now.place rest demand.now.mbps in
-        result ≡ start_if lacks demand.now.interval slot.now }
-{
-    match slot {
-        None => None,
-        Some(slot) => {
-            let start = slot.interval.start();
-            if demand.interval.covers(start) && is_lacking(bookings, listed, demand, start) {
-                Some(start)
-            } else {
-                None
-            }
-        }
-    }
-}
-
-fn record_start(
-    bookings: &Bookings,
-    listed: &[Listed],
-    demand: &Demand,
-    n: RecordNo,
-) -> Option<Second>
-    requires { IsListed demand.now.place bookings.now listed.now }
-    ensures { let rest = others demand.now.number bookings.now in
-        let lacks = is_lacking demand.now.place rest demand.now.mbps in
-        result ≡ record_start lacks demand.now.interval (booking_of n rest) }
-{
-    let booking = other(bookings, demand.number, n)?;
-    let committed = start_if(bookings, listed, demand, &booking.committed);
-    let pending = start_if(bookings, listed, demand, &booking.pending);
-    earlier(committed, pending)
-}
-
-fn listed_start(
-    bookings: &Bookings,
-    listed: &[Listed],
-    demand: &Demand,
-    l: &Listed,
-) -> Option<Second>
-    requires { IsListed demand.now.place bookings.now listed.now }
-    ensures { let rest = others demand.now.number bookings.now in
-        let lacks = is_lacking demand.now.place rest demand.now.mbps in
-        result ≡ listed_start lacks demand.now.interval rest l.now }
-{
-    if meets(&l.span, &demand.interval) {
-        record_start(bookings, listed, demand, l.number)
-    } else {
-        None
-    }
-}
-
-fn meets(a: &Interval, b: &Interval) -> bool
-    ensures { result ≡ meets a.now b.now }
-{
-    a.start() < b.end() && b.start() < a.end()
-}
-
-#[tactic(auto, unfolding(crate::specs::Search::first_start))]
-fn first_start(bookings: &Bookings, listed: &[Listed], demand: &Demand) -> Option<Second>
-    requires { IsListed demand.now.place bookings.now listed.now }
-    ensures { let rest = others demand.now.number bookings.now in
-        let lacks = is_lacking demand.now.place rest demand.now.mbps in
-        result ≡ first_start lacks demand.now.interval rest listed.now }
-{
-    let mut first = None;
-    for l in listed {
-        first = earlier(first, listed_start(bookings, listed, demand, l));
-    }
-    first
-}
-
-/// The first second of the interval at which the bookings of the other records leave too little, where these
-/// records book.
-pub(crate) fn first_second(
-    bookings: &Bookings,
-    listed: &[Listed],
-    demand: &Demand,
-) -> Option<Second>
-    requires { IsListed demand.now.place bookings.now listed.now }
+    steps: &mut Steps<L>,
+) -> Option<Shortage>
+    requires { IsIndexFor demand.now.place bookings.now index.now.points }
     ensures ordered { demand.now.interval.start < demand.now.interval.end }
     ensures first { let rest = others demand.now.number bookings.now in
         let lacks = is_lacking demand.now.place rest demand.now.mbps in
-        MatchOption result (HasRoom lacks demand.now.interval) (λ t. IsFirst lacks demand.now.interval t) }
+        MatchOption result (HasRoom lacks demand.now.interval) (λ s. IsFirst lacks demand.now.interval s.second) }
+    ensures load { let p = demand.now.place in
+        IfSome result (λ s. s.load ≡ load p.flow p.stp s.second (others demand.now.number bookings.now)) }
+    ensures quick { let p = demand.now.place in
+        IsQuick p.flow p.stp bookings.now demand.now.interval steps.old steps.new }
 {
+    let own = own(bookings, demand.number);
     let start = demand.interval.start();
-    if is_lacking(bookings, listed, demand, start) {
-        return Some(start);
+    let mut place = index.count_before(start.get() + 1, steps);
+    let load = load_of_others(demand, &own, index.load_before(place, steps), start);
+    if is_too_much(demand, load) {
+        return Some(Shortage {
+            second: start,
+            load,
+        });
     }
-    first_start(bookings, listed, demand)
+    while place < index.len() {
+        let Point { second, load, .. } = index.point(place, steps);
+        if second >= demand.interval.end() {
+            return None;
+        }
+        let load = load_of_others(demand, &own, load, second);
+        if is_too_much(demand, load) {
+            return Some(Shortage { second, load });
+        }
+        place += 1;
+    }
+    None
 }
 
 /// The lack at the lesser second, the first where both are at the same.

@@ -5,11 +5,14 @@ pub mod booking;
 mod bookings;
 mod calendar;
 mod capacities;
+mod index;
 mod lack;
 mod load;
-mod points;
+mod steps;
+mod tables;
 #[cfg(test)]
 mod tests;
 
 pub use booking::{Booking, Capacity, Lack, Place, Slot};
 pub use calendar::Calendar;
+pub use steps::Steps;

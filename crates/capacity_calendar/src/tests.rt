@@ -3,7 +3,7 @@
 ghost use Rattle.std.specs.Prelude.{◌≡◌, IsTrue, None};
 ghost use Rattle.capacity_calendar.specs.Plan.{pending_of};
 
-use crate::{Booking, Calendar, Capacity, Lack};
+use crate::{Booking, Calendar, Capacity, Lack, Steps};
 use nsi_base::{Flow, Interval, List, Mbps, RecordNo, Second, StpNo};
 use std::alloc::Global;
 use std::process::Abort;
@@ -328,4 +328,135 @@ fn takes_records_in_any_order(rt: HostRuntime) -> Result<(), Fail> {
     expect_answers(&rt, &mut calendar, &[(asked(9, 200, 150, 160), None)])?;
     let loads = [(0, Flow::Both, 120, 0), (1, Flow::Both, 150, 800)];
     expect_loads(&rt, &calendar, &loads)
+}
+
+#[test]
+fn keeps_a_second_that_two_bookings_share(rt: HostRuntime) -> Result<(), Fail> {
+    let mut calendar = calendar(rt.alloc(), &SHARED)?;
+    let first = record_no(0)?;
+    let rows = [
+        (asked(0, 600, 100, 200), None),
+        (asked(1, 700, 200, 300), None),
+        (asked(2, 300, 100, 300), None),
+    ];
+    expect_answers(&rt, &mut calendar, &rows)?;
+    calendar.take_all(first);
+    let left = [
+        (0, Flow::Both, 150, 300),
+        (0, Flow::Both, 199, 300),
+        (0, Flow::Both, 200, 1000),
+        (1, Flow::Both, 300, 0),
+    ];
+    expect_loads(&rt, &calendar, &left)?;
+    let rows = [
+        (
+            asked(3, 701, 199, 200),
+            Some((0, Flow::Both, 199, 300, 1000)),
+        ),
+        (asked(3, 700, 100, 200), None),
+    ];
+    expect_answers(&rt, &mut calendar, &rows)
+}
+
+#[test]
+fn lets_a_modification_pass_its_own_booking(rt: HostRuntime) -> Result<(), Fail> {
+    let mut calendar = calendar(rt.alloc(), &SHARED)?;
+    let number = record_no(0)?;
+    book(&mut calendar, asked(0, 800, 100, 200))?;
+    settle(&mut calendar, number)?;
+    let rows = [
+        (
+            asked(1, 300, 50, 150),
+            Some((0, Flow::Both, 100, 800, 1000)),
+        ),
+        (asked(1, 100, 150, 250), None),
+        (
+            asked(0, 901, 150, 300),
+            Some((0, Flow::Both, 150, 100, 1000)),
+        ),
+        (asked(0, 900, 150, 300), None),
+    ];
+    expect_answers(&rt, &mut calendar, &rows)?;
+    let held = [
+        (0, Flow::Both, 149, 800),
+        (0, Flow::Both, 150, 1000),
+        (0, Flow::Both, 200, 1000),
+        (0, Flow::Both, 250, 900),
+        (0, Flow::Both, 300, 0),
+    ];
+    expect_loads(&rt, &calendar, &held)
+}
+
+#[test]
+fn books_from_the_first_second_to_the_last(rt: HostRuntime) -> Result<(), Fail> {
+    let mut calendar = calendar(rt.alloc(), &SHARED)?;
+    let number = record_no(0)?;
+    let rows = [
+        (asked(0, 600, 0, 253_370_764_799), None),
+        (asked(1, 401, 0, 1), Some((0, Flow::Both, 0, 600, 1000))),
+        (
+            asked(1, 401, 253_370_764_798, 253_370_764_799),
+            Some((0, Flow::Both, 253_370_764_798, 600, 1000)),
+        ),
+    ];
+    expect_answers(&rt, &mut calendar, &rows)?;
+    let booked = [
+        (0, Flow::Both, 0, 600),
+        (1, Flow::Both, 253_370_764_798, 600),
+        (1, Flow::Both, 253_370_764_799, 0),
+    ];
+    expect_loads(&rt, &calendar, &booked)?;
+    calendar.take_all(number);
+    let free = [(0, Flow::Both, 0, 0), (1, Flow::Both, 253_370_764_798, 0)];
+    expect_loads(&rt, &calendar, &free)
+}
+
+/// What a check answers, and how many points it reads.
+fn counted(
+    calendar: &Calendar,
+    amount: u64,
+    start: u64,
+    end: u64,
+) -> Result<(Option<Lacking>, u64), Fail> {
+    let stp = stp_no(0)?;
+    let interval = interval(start, end)?;
+    let mbps = mbps(amount)?;
+    let number = record_no(4_000_000)?;
+    let mut steps = Steps::new();
+    let lack = match calendar.capacity(stp, Flow::Both) {
+        None => return Err(Fail::from("no such flow")),
+        Some(_) => calendar.check_counted(stp, Flow::Both, interval, mbps, number, &mut steps),
+    };
+    Ok((lack.map(numbers), steps.count()))
+}
+
+#[test]
+fn reads_few_points_of_many(rt: HostRuntime) -> Result<(), Fail> {
+    let mut calendar = calendar(rt.alloc(), &SHARED)?;
+    for n in 0u32..100_000 {
+        let start = n as u64 * 10;
+        book(&mut calendar, asked(n, 1, start, start + 5))?;
+    }
+    let (full, steps) = counted(&calendar, 1000, 0, 10)?;
+    assert_eq!(rt; full, Some((0, Flow::Both, 0, 1, 1000)));
+    assert!(rt; steps <= 21, "{steps}");
+    let (free, steps) = counted(&calendar, 999, 0, 10)?;
+    assert_eq!(rt; free, None);
+    assert!(rt; steps <= 21, "{steps}");
+    Ok(())
+}
+
+#[test]
+fn reads_nothing_of_an_empty_index(rt: HostRuntime) -> Result<(), Fail> {
+    let mut calendar = calendar(rt.alloc(), &SHARED)?;
+    let none = counted(&calendar, 1000, 0, 10)?;
+    assert_eq!(rt; none, (None, 0));
+    let number = record_no(7)?;
+    book(&mut calendar, asked(7, 600, 2, 8))?;
+    let one = counted(&calendar, 401, 0, 10)?;
+    assert_eq!(rt; one.0, Some((0, Flow::Both, 2, 600, 1000)));
+    calendar.take_pending(number);
+    let none = counted(&calendar, 1000, 0, 10)?;
+    assert_eq!(rt; none, (None, 0));
+    Ok(())
 }
