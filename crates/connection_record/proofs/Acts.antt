@@ -1,5 +1,5 @@
 -- What a record does by itself is one move of the reservation machine, or none, and nothing else under correlations that no other machine owes.
-use Rattle.std.proofs.Common.{ℕ, ◌≡◌, Bool, true, false, List, [], ◌∷◌, ◌++◌, Option, Some, None, ◌⊎◌, inl, inr, ◌==◌, ◌&&◌, refl, ap, ◌∙◌, arith, if◌then◌else◌, append-nil, option_map}
+use Rattle.std.proofs.Common.{ℕ, ◌≡◌, Bool, true, false, List, [], ◌∷◌, ◌++◌, Option, Some, None, ◌==◌, ◌&&◌, refl, ap, ◌∙◌, arith, if◌then◌else◌, append-nil, option_map}
 use Rattle.nsi_primitive.specs.declared.kind.ErrorName.{ErrorName}
 use Rattle.nsi_primitive.specs.declared.kind.Kind.{Kind}
 use Rattle.nsi_primitive.specs.declared.state.Rsm.{Rsm}
@@ -7,22 +7,23 @@ use Rattle.nsi_primitive.specs.declared.state.Psm.{Psm}
 use Rattle.nsi_primitive.specs.declared.state.Lsm.{Lsm}
 use Rattle.nsi_primitive.specs.declared.state.Machine.{Machine}
 use Rattle.nsi_primitive.specs.declared.state.Side.{Side}
-use Rattle.nsi_primitive.specs.declared.message.Body.{Body}
 use Rattle.nsi_primitive.specs.declared.message.Cause.{Cause}
 use Rattle.nsi_primitive.specs.declared.message.Criteria.{Criteria}
 use Rattle.nsi_primitive.specs.declared.plane.Plane.{Plane}
+use Rattle.provision_machine.specs.Table.{step as provision_step}
+use Rattle.lifecycle_machine.specs.Table.{step as lifecycle_step}
 use Rattle.connection_record.specs.declared.record.Record.{Record}
 use Rattle.connection_record.specs.declared.moves.Origin.{Origin}
 use Rattle.connection_record.specs.declared.moves.Reply.{Reply}
 use Rattle.connection_record.specs.declared.moves.ReservationMove.{ReservationMove}
 use Rattle.connection_record.specs.declared.provisioning.ProvisionMove.{ProvisionMove}
 use Rattle.connection_record.specs.declared.life.LifecycleMove.{LifecycleMove}
-use Rattle.connection_record.specs.declared.turn.Move.{Move}
+use Rattle.connection_record.specs.declared.apply.Move.{Move}
 use Rattle.connection_record.specs.Replies.{Moved, stays, then_moves, plain}
 use Rattle.connection_record.specs.Demand.{last}
 use Rattle.connection_record.specs.Moves.{reserves, reserves_if, hold_end, worked, is_due}
-use Rattle.connection_record.specs.Lives.{provisions, provisions_if, lives, lives_if}
-use Rattle.connection_record.specs.Turns.{closes, closes_reservation, closes_provision, reservation_closing, provision_closing, moves, moves_if, work_of, provided, ticks, schedule_end, end_of, tells_plane, tells, is_told, status_of}
+use Rattle.connection_record.specs.Lives.{provision_event, lifecycle_event, provisions, provisions_if, lives, lives_if}
+use Rattle.connection_record.specs.Applied.{closes, closes_reservation, closes_provision, reservation_closing, provision_closing, moves, moves_if, work_of, provided, ticks, schedule_end, end_of, tells_plane, tells, is_told, status_of}
 use Rattle.connection_record.specs.Courses.{IsOwn, IsOwnProvision, IsReservationSame, answering, IsAlone, Acts}
 use Rattle.connection_record.specs.Speaking.{one, is_id, kind_number, is_asking, is_noting, is_answering, owed_provision, owed_life, provision_begins, lifecycle_begins}
 use Rattle.connection_record.proofs.Frames.{provisions_core, lives_core, plane_core}
@@ -87,7 +88,7 @@ besides_stays r = record { same = same_self r; says = λ c a. refl; alone = λ c
 
 -- what is said of the provision machine was owed by it
 provisions_silent : (side : Side) (k : Psm) (move : ProvisionMove) (now : ℕ) (r : Record) (c : ℕ) → r.psm ≡ k → IsOwnProvision (Some move) → ((n : ℕ) → owed_provision k c n r ≡ 0) → answering c (provisions side k move now r).out ≡ []
-unfolding provisions owed_provision answering is_answering is_asking is_noting kind_number
+unfolding provisions provision_step provision_event owed_provision answering is_answering is_asking is_noting kind_number
 provisions_silent side k move now r c e h o = let a = o (kind_number Kind.ProvisionConfirmed) in let b = o (kind_number Kind.ReleaseConfirmed) in let d = o (kind_number Kind.Error) in grind (arith, a, b, d, h)
 
 own_none : (move : ProvisionMove) → IsOwnProvision (Some move) → (c : ℕ) → one (is_id (provision_begins move) c) ≡ 0
@@ -110,7 +111,7 @@ abbrev pub IsOwnLife : LifecycleMove → Type 0
 IsOwnLife move = lifecycle_begins move ≡ None
 
 lives_silent : (k : Lsm) (move : LifecycleMove) (now : ℕ) (r : Record) (c : ℕ) → r.lsm ≡ k → ((n : ℕ) → owed_life k c n r ≡ 0) → answering c (lives k move now r).out ≡ []
-unfolding lives owed_life answering is_answering is_asking is_noting kind_number
+unfolding lives lifecycle_step lifecycle_event owed_life answering is_answering is_asking is_noting kind_number
 lives_silent k move now r c e o = let a = o (kind_number Kind.TerminateConfirmed) in grind (arith, a)
 
 pub lives_besides : (move : LifecycleMove) (now : ℕ) (r : Record) → IsOwnLife move → Besides r (lives r.lsm move now r)

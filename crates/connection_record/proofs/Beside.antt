@@ -1,20 +1,22 @@
 -- What a request leaves alone.
-use Rattle.std.proofs.Common.{ℕ, ◌+◌, ◌≡◌, ◌∙◌, Bool, true, false, List, [], ◌∷◌, Option, Some, None, ◌==◌, ◌&&◌, if◌then◌else◌, refl, ap, arith}
+use Rattle.std.proofs.Common.{ℕ, ◌≡◌, ◌∙◌, Bool, true, false, List, [], ◌∷◌, Option, Some, None, ◌==◌, ◌&&◌, if◌then◌else◌, refl, ap, arith}
 use Rattle.nsi_primitive.specs.declared.kind.Kind.{Kind}
 use Rattle.nsi_primitive.specs.declared.state.Lsm.{Lsm}
 use Rattle.nsi_primitive.specs.declared.state.Psm.{Psm}
 use Rattle.nsi_primitive.specs.declared.state.Side.{Side}
 use Rattle.nsi_primitive.specs.declared.message.Body.{Body}
+use Rattle.provision_machine.specs.Table.{step as provision_step}
+use Rattle.lifecycle_machine.specs.Table.{step as lifecycle_step}
 use Rattle.connection_record.specs.declared.record.Record.{Record}
 use Rattle.connection_record.specs.declared.life.LifecycleMove.{LifecycleMove}
 use Rattle.connection_record.specs.declared.moves.Reply.{Reply}
 use Rattle.connection_record.specs.declared.provisioning.ProvisionMove.{ProvisionMove}
-use Rattle.connection_record.specs.declared.turn.Move.{Move}
-use Rattle.connection_record.specs.Courses.{answering, IsAlone, is_reservation_request, IsBeside}
-use Rattle.connection_record.specs.Lives.{provisions, lives}
+use Rattle.connection_record.specs.declared.apply.Move.{Move}
+use Rattle.connection_record.specs.Courses.{answering, is_reservation_request, IsBeside}
+use Rattle.connection_record.specs.Lives.{provision_event, lifecycle_event, provisions, lives}
 use Rattle.connection_record.specs.Replies.{Moved}
 use Rattle.connection_record.specs.Speaking.{one, tally, is_id, kind_number, number_of, is_asking, is_noting, is_answering, answers_as, owed_provision, owed_life, owed, provision_begins, lifecycle_begins, Speaks}
-use Rattle.connection_record.specs.Turns.{moves, moves_if, requested}
+use Rattle.connection_record.specs.Applied.{moves, moves_if, requested}
 use Rattle.connection_record.proofs.Acts.{same_self}
 use Rattle.connection_record.proofs.Frames.{provisions_core, lives_core}
 use Rattle.connection_record.proofs.Saying.{provisions_owed, provisions_others, lives_owed, lives_others}
@@ -22,7 +24,7 @@ use Rattle.connection_record.proofs.Saying.{provisions_owed, provisions_others, 
 -- neither of the machines answers under another correlation
 provisions_quiet : (side : Side) (k : Psm) (move : ProvisionMove) (now : ℕ) (r : Record) (c : ℕ) → r.psm ≡ k → is_id (provision_begins move) c ≡ false →
     ((n : ℕ) → owed_provision k c n r ≡ 0) → answering c (provisions side k move now r).out ≡ []
-unfolding provisions owed_provision answering is_answering is_asking is_noting kind_number
+unfolding provisions provision_step provision_event owed_provision answering is_answering is_asking is_noting kind_number
 provisions_quiet side k move now r c e h o =
     let a = o (kind_number Kind.ProvisionConfirmed) in
     let b = o (kind_number Kind.ReleaseConfirmed) in
@@ -31,7 +33,7 @@ provisions_quiet side k move now r c e h o =
 
 lives_quiet : (k : Lsm) (move : LifecycleMove) (now : ℕ) (r : Record) (c : ℕ) → r.lsm ≡ k → is_id (lifecycle_begins move) c ≡ false →
     ((n : ℕ) → owed_life k c n r ≡ 0) → answering c (lives k move now r).out ≡ []
-unfolding lives owed_life answering is_answering is_asking is_noting kind_number
+unfolding lives lifecycle_step lifecycle_event owed_life answering is_answering is_asking is_noting kind_number
 lives_quiet k move now r c e h o = let a = o (kind_number Kind.TerminateConfirmed) in grind (arith, a, h)
 
 -- a move of another machine than that of the reservation

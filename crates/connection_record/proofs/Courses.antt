@@ -1,16 +1,17 @@
 -- What is true of a record behind all that it did by itself.
-use Rattle.std.proofs.Common.{ℕ, ◌+◌, ◌≤◌, ◌≡◌, ◌∙◌, Bool, List, [], ◌∷◌, ◌++◌, Contains, Option, Some, None, ◌⊎◌, inl, inr, arith, refl, sym, ap, subst, append-nil}
+use Rattle.std.proofs.Common.{ℕ, List, [], ◌++◌, Contains, Option, Some, None, ◌⊎◌, inl, inr, arith, refl, sym, ap, subst, append-nil}
 use Rattle.std.proofs.lemmas.List.Elements.{Contains-append_left, Contains-append_right, Contains-append_cases}
 use Rattle.nsi_primitive.specs.declared.message.Criteria.{Criteria}
 use Rattle.nsi_primitive.specs.declared.state.Rsm.{Rsm}
+use Rattle.reserve_machine.specs.Table.{step as reserve_step}
 use Rattle.connection_record.specs.declared.record.Record.{Record}
 use Rattle.connection_record.specs.declared.moves.Reply.{Reply}
 use Rattle.connection_record.specs.declared.moves.ReservationMove.{ReservationMove}
 use Rattle.connection_record.specs.Courses.{IsOwn, IsReservationSame, IsAct, Merges, Course, Rises, IsAfter}
-use Rattle.connection_record.specs.Moves.{reserves, reserves_if, committed_with}
+use Rattle.connection_record.specs.Moves.{event_of, reserves, reserves_if, committed_with}
 use Rattle.connection_record.specs.Replies.{Moved}
 use Rattle.connection_record.specs.Rising.{AreRising, IsAboveLast}
-use Rattle.connection_record.specs.Speaking.{tally, answers_as, misnames, owed, reservation_begins}
+use Rattle.connection_record.specs.Speaking.{tally, answers_as, misnames}
 use Rattle.connection_record.proofs.Growing.{later_refl, later_trans}
 use Rattle.connection_record.proofs.Rising.{rising_more}
 use Rattle.connection_record.proofs.Saying.{tally_append}
@@ -22,12 +23,12 @@ rising_with committed None rising above = subst AreRising (sym (append-nil commi
 rising_with committed (Some c) rising above = rising_more committed c rising above
 
 own_rising : (k : Rsm) (move : ReservationMove) (now : ℕ) (r : Record) → IsOwn (Some move) → Rises r → AreRising (reserves k move now r).rec.committed
-unfolding reserves
+unfolding reserves reserve_step event_of
 own_rising k move now r o h = let a = h.rising in let b = h.above in grind (arith, rising_with, a, b)
 
 own_above : (k : Rsm) (move : ReservationMove) (now : ℕ) (r : Record) → IsOwn (Some move) → Rises r →
     IsAboveLast (reserves k move now r).rec.pending (reserves k move now r).rec.committed
-unfolding reserves
+unfolding reserves reserve_step event_of
 own_above k move now r o h = let a = h.rising in let b = h.above in grind (arith, o, a, b)
 
 own_rises : (o : Option ReservationMove) (now : ℕ) (r : Record) → IsOwn o → Rises r → Rises (reserves_if o now r).rec

@@ -9,13 +9,13 @@ use Rattle.connection_record.specs.declared.life.LifecycleMove.{LifecycleMove}
 use Rattle.connection_record.specs.declared.moves.Origin.{Origin}
 use Rattle.connection_record.specs.declared.moves.ReservationMove.{ReservationMove}
 use Rattle.connection_record.specs.declared.provisioning.ProvisionMove.{ProvisionMove}
-use Rattle.connection_record.specs.declared.turn.Move.{Move}
+use Rattle.connection_record.specs.declared.apply.Move.{Move}
 use Rattle.connection_record.specs.Courses.{IsOwn, IsOwnProvision, IsAct}
 use Rattle.connection_record.specs.Lives.{provisions_if}
 use Rattle.connection_record.specs.Moves.{reserves_if}
 use Rattle.connection_record.specs.Replies.{Moved}
 use Rattle.connection_record.specs.Speaking.{drawn_of, no_ids, drawn_if}
-use Rattle.connection_record.specs.Turns.{closes, moves, moves_if, work_of, ticks, is_told, tells}
+use Rattle.connection_record.specs.Applied.{closes, moves, moves_if, work_of, ticks, is_told, tells}
 use Rattle.connection_record.proofs.Acts.{reserves_acts, provisions_besides, besides_acts, closes_acts, works_act, force_acts, ticks_act, tells_act}
 use Rattle.connection_record.proofs.Growing.{reserves_if_later, provisions_if_later, closes_later, moves_later, moves_if_later, ticks_later, tells_later}
 use Rattle.connection_record.proofs.InOrder.{reserves_if_in_order, provisions_if_in_order, closes_in_order, moves_in_order, moves_if_in_order, ticks_in_order, tells_in_order}

@@ -8,18 +8,21 @@ use Rattle.nsi_primitive.specs.declared.state.Rsm.{Rsm}
 use Rattle.nsi_primitive.specs.declared.state.Psm.{Psm}
 use Rattle.nsi_primitive.specs.declared.state.Lsm.{Lsm}
 use Rattle.nsi_primitive.specs.declared.state.Side.{Side}
+use Rattle.reserve_machine.specs.Table.{step as reserve_step}
+use Rattle.provision_machine.specs.Table.{step as provision_step}
+use Rattle.lifecycle_machine.specs.Table.{step as lifecycle_step}
 use Rattle.connection_record.specs.declared.record.Record.{Record}
 use Rattle.connection_record.specs.declared.moves.Origin.{Origin}
 use Rattle.connection_record.specs.declared.moves.ReservationMove.{ReservationMove}
 use Rattle.connection_record.specs.declared.provisioning.ProvisionMove.{ProvisionMove}
 use Rattle.connection_record.specs.declared.life.LifecycleMove.{LifecycleMove}
-use Rattle.connection_record.specs.declared.turn.Move.{Move}
+use Rattle.connection_record.specs.declared.apply.Move.{Move}
 use Rattle.connection_record.specs.Later.{IsLater}
 use Rattle.connection_record.specs.Demand.{last}
 use Rattle.connection_record.specs.Replies.{Moved, plain}
-use Rattle.connection_record.specs.Moves.{reserves, reserves_if, hold_end}
-use Rattle.connection_record.specs.Lives.{provisions, provisions_if, lives, lives_if}
-use Rattle.connection_record.specs.Turns.{reservation_closing, provision_closing, closes_reservation, closes_provision, closes, moves, moves_if, schedule_end, ticks, is_told, status_of, tells_plane, tells}
+use Rattle.connection_record.specs.Moves.{event_of, reserves, reserves_if, hold_end}
+use Rattle.connection_record.specs.Lives.{provision_event, lifecycle_event, provisions, provisions_if, lives, lives_if}
+use Rattle.connection_record.specs.Applied.{reservation_closing, provision_closing, closes_reservation, closes_provision, closes, moves, moves_if, schedule_end, ticks, is_told, status_of, tells_plane, tells}
 
 take_self : {X : Type 0} (xs : List X) → take (length xs) xs ≡ xs
 take_self xs = take_all (length xs) xs (omega arith)
@@ -48,15 +51,15 @@ later_trans a b c e f =
     }
 
 pub reserves_later : (k : Rsm) (move : ReservationMove) (now : ℕ) (r : Record) → IsLater r (reserves k move now r).rec
-unfolding reserves
+unfolding reserves reserve_step event_of
 reserves_later k move now r = grind (arith, take-append_seam, take_self)
 
 pub provisions_later : (side : Side) (k : Psm) (move : ProvisionMove) (now : ℕ) (r : Record) → IsLater r (provisions side k move now r).rec
-unfolding provisions
+unfolding provisions provision_step provision_event
 provisions_later side k move now r = grind (arith, take-append_seam, take_self)
 
 pub lives_later : (k : Lsm) (move : LifecycleMove) (now : ℕ) (r : Record) → IsLater r (lives k move now r).rec
-unfolding lives
+unfolding lives lifecycle_step lifecycle_event
 lives_later k move now r = grind (arith, take-append_seam, take_self)
 
 pub reserves_if_later : (move : Option ReservationMove) (now : ℕ) (r : Record) → IsLater r (reserves_if move now r).rec

@@ -1,5 +1,5 @@
 -- Whatever is done to a record leaves it in order.
-use Rattle.std.proofs.Common.{ℕ, ◌≡◌, Bool, true, false, List, Option, Some, None, arith, refl, sym, ap, subst, ◌∙◌, if◌then◌else◌}
+use Rattle.std.proofs.Common.{ℕ, ◌≡◌, Bool, true, false, List, Option, Some, None, arith, refl, sym, ap, ◌∙◌}
 use Rattle.std.specs.Prelude.{is_some}
 use Rattle.nsi_primitive.specs.declared.kind.ErrorName.{ErrorName}
 use Rattle.nsi_primitive.specs.declared.plane.Plane.{Plane}
@@ -7,25 +7,25 @@ use Rattle.nsi_primitive.specs.declared.state.Lsm.{Lsm}
 use Rattle.nsi_primitive.specs.declared.state.Psm.{Psm}
 use Rattle.nsi_primitive.specs.declared.state.Rsm.{Rsm}
 use Rattle.nsi_primitive.specs.declared.state.Side.{Side}
-use Rattle.nsi_primitive.specs.declared.message.Criteria.{Criteria}
 use Rattle.nsi_primitive.specs.declared.message.Exception.{Exception}
-use Rattle.nsi_primitive.specs.declared.message.ReserveRequest.{ReserveRequest}
 use Rattle.nsi_primitive.specs.declared.message.Service.{Service}
+use Rattle.reserve_machine.specs.Table.{step as reserve_step}
+use Rattle.provision_machine.specs.Table.{step as provision_step}
+use Rattle.lifecycle_machine.specs.Table.{step as lifecycle_step}
 use Rattle.connection_record.specs.declared.record.Record.{Record}
 use Rattle.connection_record.specs.declared.life.LifecycleMove.{LifecycleMove}
 use Rattle.connection_record.specs.declared.moves.Origin.{Origin}
 use Rattle.connection_record.specs.declared.moves.ReservationMove.{ReservationMove}
 use Rattle.connection_record.specs.declared.provisioning.ProvisionMove.{ProvisionMove}
-use Rattle.connection_record.specs.declared.turn.Move.{Move}
+use Rattle.connection_record.specs.declared.apply.Move.{Move}
 use Rattle.connection_record.specs.Courses.{IsReservationSame}
 use Rattle.connection_record.specs.Demand.{last}
 use Rattle.connection_record.specs.Later.{IsLater}
-use Rattle.connection_record.specs.Lives.{provisions, provisions_if, lives, lives_if}
-use Rattle.connection_record.specs.Moves.{reserves, reserves_if, hold_end, is_working, fresh, service_of}
+use Rattle.connection_record.specs.Lives.{provision_event, lifecycle_event, provisions, provisions_if, lives, lives_if}
+use Rattle.connection_record.specs.Moves.{event_of, reserves, reserves_if, hold_end, is_working, fresh}
 use Rattle.connection_record.specs.Order.{is_pending, IsInOrder, HasPoints}
-use Rattle.connection_record.specs.Refusal.{points_of}
 use Rattle.connection_record.specs.Replies.{Moved, plain}
-use Rattle.connection_record.specs.Turns.{closes_reservation, closes_provision, reservation_closing, provision_closing, closes, moves, moves_if, is_provisioning, is_terminating, schedule_end, ticks, is_told, status_of, tells_plane, tells}
+use Rattle.connection_record.specs.Applied.{closes_reservation, closes_provision, reservation_closing, provision_closing, closes, moves, moves_if, is_provisioning, is_terminating, schedule_end, ticks, is_told, status_of, tells_plane, tells}
 use Rattle.connection_record.proofs.Frames.{provisions_core, lives_core}
 
 pub fresh_in_order : (id : ℕ) (owner : List ℕ) (service : Service) (source dest : ℕ) → IsInOrder (fresh id owner service source dest)
@@ -37,17 +37,17 @@ fresh_in_order id owner service source dest =
 
 reserves_request : (k : Rsm) (move : ReservationMove) (now : ℕ) (r : Record) → r.rsm ≡ k → is_some r.reserve_request ≡ is_working r.rsm →
     is_some (reserves k move now r).rec.reserve_request ≡ is_working (reserves k move now r).rec.rsm
-unfolding reserves is_working
+unfolding reserves reserve_step event_of is_working
 reserves_request k move now r e h = grind (arith, e, h)
 
 reserves_pending : (k : Rsm) (move : ReservationMove) (now : ℕ) (r : Record) → r.rsm ≡ k → is_some r.pending ≡ is_pending r.rsm →
     is_some (reserves k move now r).rec.pending ≡ is_pending (reserves k move now r).rec.rsm
-unfolding reserves is_pending
+unfolding reserves reserve_step event_of is_pending
 reserves_pending k move now r e h = grind (arith, e, h)
 
 reserves_attempt : (k : Rsm) (move : ReservationMove) (now : ℕ) (r : Record) → r.rsm ≡ k → (is_pending r.rsm ≡ true → is_some r.attempt ≡ true) →
     is_pending (reserves k move now r).rec.rsm ≡ true → is_some (reserves k move now r).rec.attempt ≡ true
-unfolding reserves is_pending
+unfolding reserves reserve_step event_of is_pending
 reserves_attempt k move now r e h p = grind (arith, e, h, p)
 
 -- what the other machines have of a record
@@ -58,7 +58,7 @@ record AreOthersSame (r q : Record) : Type 0 where
   lifecycle_request : q.lifecycle_request ≡ r.lifecycle_request
 
 reserves_others : (k : Rsm) (move : ReservationMove) (now : ℕ) (r : Record) → AreOthersSame r (reserves k move now r).rec
-unfolding reserves
+unfolding reserves reserve_step event_of
 reserves_others k move now r = grind arith
 
 pub reserves_in_order : (k : Rsm) (move : ReservationMove) (now : ℕ) (r : Record) → r.rsm ≡ k → IsInOrder r → IsInOrder (reserves k move now r).rec
@@ -90,12 +90,12 @@ same_reservation r q same provision life h =
 
 provisions_request : (side : Side) (k : Psm) (move : ProvisionMove) (now : ℕ) (r : Record) → r.psm ≡ k → is_some r.provision_request ≡ is_provisioning r.psm →
     is_some (provisions side k move now r).rec.provision_request ≡ is_provisioning (provisions side k move now r).rec.psm
-unfolding provisions is_provisioning
+unfolding provisions provision_step provision_event is_provisioning
 provisions_request side k move now r e h = grind (arith, e, h)
 
 provisions_life : (side : Side) (k : Psm) (move : ProvisionMove) (now : ℕ) (r : Record) → is_some r.lifecycle_request ≡ is_terminating r.lsm →
     is_some (provisions side k move now r).rec.lifecycle_request ≡ is_terminating (provisions side k move now r).rec.lsm
-unfolding provisions
+unfolding provisions provision_step provision_event
 provisions_life side k move now r h = grind (arith, h)
 
 pub provisions_in_order : (side : Side) (k : Psm) (move : ProvisionMove) (now : ℕ) (r : Record) → r.psm ≡ k → IsInOrder r → IsInOrder (provisions side k move now r).rec
@@ -109,12 +109,12 @@ provisions_if_in_order side (Some move) now r h = provisions_in_order side r.psm
 
 lives_provision : (k : Lsm) (move : LifecycleMove) (now : ℕ) (r : Record) → is_some r.provision_request ≡ is_provisioning r.psm →
     is_some (lives k move now r).rec.provision_request ≡ is_provisioning (lives k move now r).rec.psm
-unfolding lives
+unfolding lives lifecycle_step lifecycle_event
 lives_provision k move now r h = grind (arith, h)
 
 lives_request : (k : Lsm) (move : LifecycleMove) (now : ℕ) (r : Record) → r.lsm ≡ k → is_some r.lifecycle_request ≡ is_terminating r.lsm →
     is_some (lives k move now r).rec.lifecycle_request ≡ is_terminating (lives k move now r).rec.lsm
-unfolding lives is_terminating
+unfolding lives lifecycle_step lifecycle_event is_terminating
 lives_request k move now r e h = grind (arith, e, h)
 
 pub lives_in_order : (k : Lsm) (move : LifecycleMove) (now : ℕ) (r : Record) → r.lsm ≡ k → IsInOrder r → IsInOrder (lives k move now r).rec

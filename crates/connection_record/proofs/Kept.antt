@@ -1,5 +1,5 @@
 -- What a record in order owes is under a correlation that it has.
-use Rattle.std.proofs.Common.{ℕ, ◌+◌, ◌≡◌, ◌≤◌, Bool, true, false, Option, Some, None, ◌⊎◌, inl, inr, arith, refl}
+use Rattle.std.proofs.Common.{ℕ, ◌+◌, ◌≡◌, ◌≤◌, true, Some, ◌⊎◌, inl, inr, arith}
 use Rattle.std.specs.Prelude.{is_some}
 use Rattle.nsi_primitive.specs.declared.state.Lsm.{Lsm}
 use Rattle.nsi_primitive.specs.declared.state.Psm.{Psm}
@@ -8,7 +8,7 @@ use Rattle.connection_record.specs.declared.record.Record.{Record}
 use Rattle.connection_record.specs.Moves.{is_working}
 use Rattle.connection_record.specs.Order.{is_pending, IsInOrder}
 use Rattle.connection_record.specs.Speaking.{owed_reserve, owed_provision, owed_life, owed}
-use Rattle.connection_record.specs.Turns.{is_provisioning, is_terminating}
+use Rattle.connection_record.specs.Applied.{is_provisioning, is_terminating}
 
 reserve_kept : (k : Rsm) (c n : ℕ) (r : Record) → is_some r.reserve_request ≡ is_working k → (is_pending k ≡ true → is_some r.attempt ≡ true) → 1 ≤ owed_reserve k c n r →
     (r.reserve_request ≡ Some c) ⊎ (r.attempt ≡ Some c)

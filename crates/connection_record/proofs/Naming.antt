@@ -8,18 +8,20 @@ use Rattle.nsi_primitive.specs.declared.state.Side.{Side}
 use Rattle.nsi_primitive.specs.declared.kind.ErrorName.{ErrorName}
 use Rattle.nsi_primitive.specs.declared.message.Criteria.{Criteria}
 use Rattle.nsi_primitive.specs.declared.plane.Plane.{Plane}
+use Rattle.reserve_machine.specs.Table.{step as reserve_step}
+use Rattle.provision_machine.specs.Table.{step as provision_step}
+use Rattle.lifecycle_machine.specs.Table.{step as lifecycle_step}
 use Rattle.connection_record.specs.declared.record.Record.{Record}
-use Rattle.connection_record.specs.declared.moves.Reply.{Reply}
 use Rattle.connection_record.specs.declared.moves.Origin.{Origin}
 use Rattle.connection_record.specs.declared.moves.ReservationMove.{ReservationMove}
 use Rattle.connection_record.specs.declared.provisioning.ProvisionMove.{ProvisionMove}
 use Rattle.connection_record.specs.declared.life.LifecycleMove.{LifecycleMove}
-use Rattle.connection_record.specs.declared.turn.Move.{Move}
+use Rattle.connection_record.specs.declared.apply.Move.{Move}
 use Rattle.connection_record.specs.Replies.{Moved, stays, then_moves, plain}
 use Rattle.connection_record.specs.Demand.{last}
-use Rattle.connection_record.specs.Moves.{reserves, reserves_if, hold_end, is_due}
-use Rattle.connection_record.specs.Lives.{provisions, provisions_if, lives, lives_if}
-use Rattle.connection_record.specs.Turns.{closes, closes_reservation, closes_provision, reservation_closing, provision_closing, moves, moves_if, ticks, schedule_end, end_of, tells_plane, tells, is_told, status_of}
+use Rattle.connection_record.specs.Moves.{event_of, reserves, reserves_if, hold_end, is_due}
+use Rattle.connection_record.specs.Lives.{provision_event, lifecycle_event, provisions, provisions_if, lives, lives_if}
+use Rattle.connection_record.specs.Applied.{closes, closes_reservation, closes_provision, reservation_closing, provision_closing, moves, moves_if, ticks, schedule_end, end_of, tells_plane, tells, is_told, status_of}
 use Rattle.connection_record.specs.Speaking.{tally, misnames, Names}
 use Rattle.connection_record.proofs.Saying.{tally_append}
 
@@ -35,36 +37,36 @@ unfolding tally
 stays_names r = record { id = refl; names = refl }
 
 reserves_id : (k : Rsm) (move : ReservationMove) (now : ℕ) (r : Record) → (reserves k move now r).rec.id ≡ r.id
-unfolding reserves
+unfolding reserves reserve_step event_of
 reserves_id k move now r = grind arith
 
 same_id : (id : ℕ) → (id == id) ≡ true
 same_id id = grind arith
 
 reserves_misnames : (k : Rsm) (move : ReservationMove) (now : ℕ) (r : Record) → tally (misnames r.id) (reserves k move now r).out ≡ 0
-unfolding reserves tally named_connection
+unfolding reserves reserve_step event_of tally named_connection
 reserves_misnames k move now r = let e = same_id r.id in grind (arith, e)
 
 pub reserves_names : (move : ReservationMove) (now : ℕ) (r : Record) → Names r (reserves r.rsm move now r)
 reserves_names move now r = record { id = reserves_id r.rsm move now r; names = reserves_misnames r.rsm move now r }
 
 provisions_id : (side : Side) (k : Psm) (move : ProvisionMove) (now : ℕ) (r : Record) → (provisions side k move now r).rec.id ≡ r.id
-unfolding provisions
+unfolding provisions provision_step provision_event
 provisions_id side k move now r = grind arith
 
 provisions_misnames : (side : Side) (k : Psm) (move : ProvisionMove) (now : ℕ) (r : Record) → tally (misnames r.id) (provisions side k move now r).out ≡ 0
-unfolding provisions tally named_connection
+unfolding provisions provision_step provision_event tally named_connection
 provisions_misnames side k move now r = grind arith
 
 pub provisions_names : (side : Side) (move : ProvisionMove) (now : ℕ) (r : Record) → Names r (provisions side r.psm move now r)
 provisions_names side move now r = record { id = provisions_id side r.psm move now r; names = provisions_misnames side r.psm move now r }
 
 lives_id : (k : Lsm) (move : LifecycleMove) (now : ℕ) (r : Record) → (lives k move now r).rec.id ≡ r.id
-unfolding lives
+unfolding lives lifecycle_step lifecycle_event
 lives_id k move now r = grind arith
 
 lives_misnames : (k : Lsm) (move : LifecycleMove) (now : ℕ) (r : Record) → tally (misnames r.id) (lives k move now r).out ≡ 0
-unfolding lives tally named_connection
+unfolding lives lifecycle_step lifecycle_event tally named_connection
 lives_misnames k move now r = grind arith
 
 pub lives_names : (move : LifecycleMove) (now : ℕ) (r : Record) → Names r (lives r.lsm move now r)

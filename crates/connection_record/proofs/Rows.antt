@@ -13,6 +13,7 @@ use Rattle.nsi_primitive.specs.declared.message.Body.{Body}
 use Rattle.nsi_primitive.specs.declared.message.Cause.{Cause}
 use Rattle.nsi_primitive.specs.declared.message.Criteria.{Criteria}
 use Rattle.nsi_primitive.specs.declared.message.Exception.{Exception}
+use Rattle.reserve_machine.specs.Table.{step as reserve_step}
 use Rattle.provision_machine.specs.Table.{step as provision_step}
 use Rattle.lifecycle_machine.specs.Table.{step as lifecycle_step}
 use Rattle.dataplane_state.specs.Plane.{status, announces}
@@ -21,11 +22,11 @@ use Rattle.connection_record.specs.declared.moves.Origin.{Origin}
 use Rattle.connection_record.specs.declared.moves.Reply.{Reply}
 use Rattle.connection_record.specs.declared.provisioning.ProvisionMove.{ProvisionMove}
 use Rattle.connection_record.specs.declared.life.LifecycleMove.{LifecycleMove}
-use Rattle.connection_record.specs.declared.turn.Move.{Move}
+use Rattle.connection_record.specs.declared.apply.Move.{Move}
 use Rattle.connection_record.specs.Replies.{Moved, reply}
-use Rattle.connection_record.specs.Moves.{reserves, hold_end, is_live, fresh}
-use Rattle.connection_record.specs.Lives.{provisions, lives}
-use Rattle.connection_record.specs.Turns.{reservation_closing, provision_closing, closes, moves, waits, is_provisioning, is_terminating, first_machine, ticks, ticked, tells_plane, tells, status_of}
+use Rattle.connection_record.specs.Moves.{event_of, reserves, hold_end, is_live, fresh}
+use Rattle.connection_record.specs.Lives.{provision_event, lifecycle_event, provisions, lives}
+use Rattle.connection_record.specs.Applied.{reservation_closing, provision_closing, closes, moves, waits, is_provisioning, is_terminating, first_machine, ticks, ticked, tells_plane, tells, status_of}
 use Rattle.connection_record.specs.Refusal.{has_row, is_in_place, modification_refusal, record_refusal}
 
 abbrev criteria : Criteria
@@ -91,7 +92,7 @@ pub record AreTerminated : Type 0 where
   a_second_terminate_is_refused : record_refusal (Body.Terminate 1) (terminate provisioned).rec ≡ Some ErrorName.Gone
 
 are_terminated : AreTerminated
-unfolding reserves provisions lives reservation_closing provision_closing closes moves waits is_live is_provisioning is_terminating first_machine
+unfolding reserves reserve_step event_of provisions provision_step provision_event lives lifecycle_step lifecycle_event reservation_closing provision_closing closes moves waits is_live is_provisioning is_terminating first_machine
 are_terminated = record {
   a_terminate_is_silent = refl;
   nothing_is_asked = refl;
@@ -125,7 +126,7 @@ pub record AreForced : Type 0 where
   a_terminate_is_taken_then : record_refusal (Body.Terminate 1) (fail committed).rec ≡ None
 
 are_forced : AreForced
-unfolding lives moves is_live has_row is_in_place modification_refusal provision_step lifecycle_step
+unfolding lives lifecycle_step lifecycle_event moves is_live has_row is_in_place modification_refusal provision_step
 are_forced = record {
   the_owner_is_told = refl;
   it_is_told_once = refl;
@@ -158,7 +159,7 @@ pub record AreProvisioned : Type 0 where
   a_provision_in_the_work_is_refused : record_refusal (Body.Provision 1) (provision committed).rec ≡ Some ErrorName.InvalidTransition
 
 are_provisioned : AreProvisioned
-unfolding provisions moves is_live has_row is_in_place provision_step
+unfolding provisions provision_step provision_event moves is_live has_row is_in_place
 are_provisioned = record {
   a_provision_waits = refl;
   it_is_confirmed = refl;
@@ -200,7 +201,7 @@ pub record AreTicked : Type 0 where
   what_ends_is_let_be : (tick 199 200 (record (held 200 committed) { lsm = Lsm.Terminating })).out ≡ []
 
 are_ticked : AreTicked
-unfolding reserves hold_end is_live lives ticks tells_plane tells status announces
+unfolding reserves reserve_step event_of hold_end is_live lives lifecycle_step lifecycle_event ticks tells_plane tells status announces
 are_ticked = record {
   a_schedule_ends_with_its_last_second = refl;
   it_does_not_end_before = refl;
@@ -216,8 +217,8 @@ are_ticked = record {
 ---- The data plane
 
 -- a move, and what is told of the data plane
-abbrev turn : Move → ℕ → Record → Moved
-turn move now r = tells (status_of now r) 9 now (moved move now r)
+abbrev applied : Move → ℕ → Record → Moved
+applied move now r = tells (status_of now r) 9 now (moved move now r)
 
 pub record AreTold : Type 0 where
   before_the_first_second_nothing_is_told : (tick 98 99 provisioned).out ≡ []
@@ -227,13 +228,13 @@ pub record AreTold : Type 0 where
   it_is_not_active_past_it : (tick 199 200 provisioned).out ≡ changes false 1 200 ∷ []
   a_schedule_between_two_ticks_is_not_told : (tick 99 200 provisioned).out ≡ []
   the_hold_is_told_first : (tick 199 200 (held 200 provisioned)).out ≡ times_out 200 ∷ changes false 2 200 ∷ []
-  the_answer_is_told_first : (turn (Move.Provision ProvisionMove.Done) 150 (provision committed).rec).out
+  the_answer_is_told_first : (applied (Move.Provision ProvisionMove.Done) 150 (provision committed).rec).out
       ≡ reply 5 (Body.ProvisionConfirmed 1) ∷ changes true 1 150 ∷ []
-  asking_for_the_release_ends_it : (turn (Move.Provision (ProvisionMove.Release 5)) 150 provisioned).out ≡ changes false 1 150 ∷ []
-  asking_for_the_end_ends_it : (turn (Move.Lifecycle (LifecycleMove.Terminate 6)) 150 provisioned).out ≡ changes false 1 150 ∷ []
+  asking_for_the_release_ends_it : (applied (Move.Provision (ProvisionMove.Release 5)) 150 provisioned).out ≡ changes false 1 150 ∷ []
+  asking_for_the_end_ends_it : (applied (Move.Lifecycle (LifecycleMove.Terminate 6)) 150 provisioned).out ≡ changes false 1 150 ∷ []
 
 are_told : AreTold
-unfolding reserves hold_end is_live provisions lives moves ticks tells_plane tells status announces
+unfolding reserves reserve_step event_of hold_end is_live provisions provision_step provision_event lives lifecycle_step lifecycle_event moves ticks tells_plane tells status announces
 are_told = record {
   before_the_first_second_nothing_is_told = refl;
   it_is_active_from_the_first_second = refl;

@@ -1,96 +1,99 @@
 -- What a record says, it owed: each move answers once, and only what was asked.
-use Rattle.std.proofs.Common.{ℕ, ◌+◌, ◌≤◌, ◌≡◌, Bool, true, false, List, [], ◌∷◌, ◌++◌, Option, Some, None, ◌==◌, refl, subst, ◌∙◌, arith, if◌then◌else◌}
+use Rattle.std.proofs.Common.{ℕ, ◌+◌, ◌≤◌, ◌≡◌, Bool, true, false, List, [], ◌∷◌, ◌++◌, Option, Some, None, refl, subst, ◌∙◌, arith, if◌then◌else◌}
 use Rattle.nsi_primitive.specs.declared.state.Rsm.{Rsm}
 use Rattle.nsi_primitive.specs.declared.state.Psm.{Psm}
 use Rattle.nsi_primitive.specs.declared.state.Lsm.{Lsm}
 use Rattle.nsi_primitive.specs.declared.state.Side.{Side}
 use Rattle.nsi_primitive.specs.declared.message.Body.{Body}
+use Rattle.reserve_machine.specs.Table.{step as reserve_step}
+use Rattle.provision_machine.specs.Table.{step as provision_step}
+use Rattle.lifecycle_machine.specs.Table.{step as lifecycle_step}
 use Rattle.connection_record.specs.declared.record.Record.{Record}
 use Rattle.connection_record.specs.declared.moves.ReservationMove.{ReservationMove}
 use Rattle.connection_record.specs.declared.provisioning.ProvisionMove.{ProvisionMove}
 use Rattle.connection_record.specs.declared.life.LifecycleMove.{LifecycleMove}
-use Rattle.connection_record.specs.declared.turn.Move.{Move}
+use Rattle.connection_record.specs.declared.apply.Move.{Move}
 use Rattle.connection_record.specs.declared.moves.Origin.{Origin}
 use Rattle.connection_record.specs.Replies.{Moved, stays, then_moves, plain}
 use Rattle.connection_record.specs.Demand.{last}
-use Rattle.connection_record.specs.Turns.{closes, closes_reservation, closes_provision, reservation_closing, provision_closing, moves, moves_if, requested, work_of, provided, ticks, schedule_end, end_of, tells_plane, tells, is_told, status_of}
+use Rattle.connection_record.specs.Applied.{closes, closes_reservation, closes_provision, reservation_closing, provision_closing, moves, moves_if, requested, work_of, provided, ticks, schedule_end, end_of, tells_plane, tells, is_told, status_of}
 use Rattle.nsi_primitive.specs.declared.kind.ErrorName.{ErrorName}
 use Rattle.nsi_primitive.specs.declared.message.Cause.{Cause}
 use Rattle.nsi_primitive.specs.declared.message.Criteria.{Criteria}
 use Rattle.nsi_primitive.specs.declared.message.Exception.{Exception}
 use Rattle.nsi_primitive.specs.declared.plane.Plane.{Plane}
 use Rattle.nsi_primitive.specs.declared.state.Machine.{Machine}
-use Rattle.connection_record.specs.Moves.{reserves, reserves_if, hold_end, worked, is_due}
-use Rattle.connection_record.specs.Lives.{provisions, provisions_if, lives, lives_if}
+use Rattle.connection_record.specs.Moves.{event_of, reserves, reserves_if, hold_end, worked, is_due}
+use Rattle.connection_record.specs.Lives.{provision_event, lifecycle_event, provisions, provisions_if, lives, lives_if}
 use Rattle.connection_record.specs.Courses.{IsOwn, IsOwnProvision}
 use Rattle.connection_record.specs.Speaking.{one, tally, is_id, kind_number, number_of, is_asking, is_noting, is_answering, answers_as, notes_as, asks_for, owed_reserve, owed_provision, owed_life, owed, reservation_begins, provision_begins, lifecycle_begins, begun_of, lifecycle_draws, drawn_of, no_ids, drawn_if, Speaks}
 
 pub reserves_owed : (k : Rsm) (move : ReservationMove) (now : ℕ) (r : Record) (c n : ℕ) → r.rsm ≡ k →
     tally (answers_as c n) (reserves k move now r).out + owed_reserve (reserves k move now r).rec.rsm c n (reserves k move now r).rec ≤ owed_reserve k c n r + one (is_id (reservation_begins move) c)
-unfolding reserves owed_reserve tally is_answering is_asking is_noting number_of kind_number
+unfolding reserves reserve_step event_of owed_reserve tally is_answering is_asking is_noting number_of kind_number
 reserves_owed k move now r c n e = grind arith
 
 -- the other machines' part stays
 pub reserves_others : (k : Rsm) (move : ReservationMove) (now : ℕ) (r : Record) (c n : ℕ) →
     (owed_provision (reserves k move now r).rec.psm c n (reserves k move now r).rec ≡ owed_provision r.psm c n r) × (owed_life (reserves k move now r).rec.lsm c n (reserves k move now r).rec ≡ owed_life r.lsm c n r)
-unfolding reserves owed_provision owed_life
+unfolding reserves reserve_step event_of owed_provision owed_life
 reserves_others k move now r c n = grind arith
 
 pub provisions_owed : (side : Side) (k : Psm) (move : ProvisionMove) (now : ℕ) (r : Record) (c n : ℕ) → r.psm ≡ k →
     tally (answers_as c n) (provisions side k move now r).out + owed_provision (provisions side k move now r).rec.psm c n (provisions side k move now r).rec ≤ owed_provision k c n r + one (is_id (provision_begins move) c)
-unfolding provisions owed_provision tally is_answering is_asking is_noting number_of kind_number
+unfolding provisions provision_step provision_event owed_provision tally is_answering is_asking is_noting number_of kind_number
 provisions_owed side k move now r c n e = grind arith
 
 pub provisions_others : (side : Side) (k : Psm) (move : ProvisionMove) (now : ℕ) (r : Record) (c n : ℕ) →
     (owed_reserve (provisions side k move now r).rec.rsm c n (provisions side k move now r).rec ≡ owed_reserve r.rsm c n r) × (owed_life (provisions side k move now r).rec.lsm c n (provisions side k move now r).rec ≡ owed_life r.lsm c n r)
-unfolding provisions owed_reserve owed_life
+unfolding provisions provision_step provision_event owed_reserve owed_life
 provisions_others side k move now r c n = grind arith
 
 pub lives_owed : (k : Lsm) (move : LifecycleMove) (now : ℕ) (r : Record) (c n : ℕ) → r.lsm ≡ k →
     tally (answers_as c n) (lives k move now r).out + owed_life (lives k move now r).rec.lsm c n (lives k move now r).rec ≤ owed_life k c n r + one (is_id (lifecycle_begins move) c)
-unfolding lives owed_life tally is_answering is_asking is_noting number_of kind_number
+unfolding lives lifecycle_step lifecycle_event owed_life tally is_answering is_asking is_noting number_of kind_number
 lives_owed k move now r c n e = grind arith
 
 pub lives_others : (k : Lsm) (move : LifecycleMove) (now : ℕ) (r : Record) (c n : ℕ) →
     (owed_reserve (lives k move now r).rec.rsm c n (lives k move now r).rec ≡ owed_reserve r.rsm c n r) × (owed_provision (lives k move now r).rec.psm c n (lives k move now r).rec ≡ owed_provision r.psm c n r)
-unfolding lives owed_reserve owed_provision
+unfolding lives lifecycle_step lifecycle_event owed_reserve owed_provision
 lives_others k move now r c n = grind arith
 
 -- notifications: only a forced end and an announcement have an id of their own
 reserves_notes : (k : Rsm) (move : ReservationMove) (now : ℕ) (r : Record) (c : ℕ) → tally (notes_as c) (reserves k move now r).out ≡ 0
-unfolding reserves tally is_noting
+unfolding reserves reserve_step event_of tally is_noting
 reserves_notes k move now r c = grind arith
 
 provisions_notes : (side : Side) (k : Psm) (move : ProvisionMove) (now : ℕ) (r : Record) (c : ℕ) → tally (notes_as c) (provisions side k move now r).out ≡ 0
-unfolding provisions tally is_noting
+unfolding provisions provision_step provision_event tally is_noting
 provisions_notes side k move now r c = grind arith
 
 lives_notes : (k : Lsm) (move : LifecycleMove) (now : ℕ) (r : Record) (c : ℕ) → tally (notes_as c) (lives k move now r).out ≤ lifecycle_draws move c
-unfolding lives tally is_noting
+unfolding lives lifecycle_step lifecycle_event tally is_noting
 lives_notes k move now r c = grind arith
 
 reserves_asks : (k : Rsm) (move : ReservationMove) (now : ℕ) (r : Record) → tally asks_for (reserves k move now r).out ≡ 0
-unfolding reserves tally is_asking
+unfolding reserves reserve_step event_of tally is_asking
 reserves_asks k move now r = grind arith
 
 provisions_asks : (side : Side) (k : Psm) (move : ProvisionMove) (now : ℕ) (r : Record) → tally asks_for (provisions side k move now r).out ≡ 0
-unfolding provisions tally is_asking
+unfolding provisions provision_step provision_event tally is_asking
 provisions_asks side k move now r = grind arith
 
 lives_asks : (k : Lsm) (move : LifecycleMove) (now : ℕ) (r : Record) → tally asks_for (lives k move now r).out ≡ 0
-unfolding lives tally is_asking
+unfolding lives lifecycle_step lifecycle_event tally is_asking
 lives_asks k move now r = grind arith
 
 reserves_owner : (k : Rsm) (move : ReservationMove) (now : ℕ) (r : Record) → (reserves k move now r).rec.owner ≡ r.owner
-unfolding reserves
+unfolding reserves reserve_step event_of
 reserves_owner k move now r = grind arith
 
 provisions_owner : (side : Side) (k : Psm) (move : ProvisionMove) (now : ℕ) (r : Record) → (provisions side k move now r).rec.owner ≡ r.owner
-unfolding provisions
+unfolding provisions provision_step provision_event
 provisions_owner side k move now r = grind arith
 
 lives_owner : (k : Lsm) (move : LifecycleMove) (now : ℕ) (r : Record) → (lives k move now r).rec.owner ≡ r.owner
-unfolding lives
+unfolding lives lifecycle_step lifecycle_event
 lives_owner k move now r = grind arith
 
 ---- What a move of a record says

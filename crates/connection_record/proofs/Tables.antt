@@ -1,7 +1,6 @@
 -- Each machine of a record moves as its table says, and says what the table says; where the table has no row nothing changes.
-use Rattle.std.proofs.Common.{ℕ, ◌≡◌, List, [], ◌∷◌, Option, Some, None, arith, option_to_list}
+use Rattle.std.proofs.Common.{ℕ, ◌≡◌, Option, Some, None, arith}
 use Rattle.std.specs.Prelude.{is_some}
-use Rattle.nsi_primitive.specs.declared.kind.Kind.{Kind}
 use Rattle.nsi_primitive.specs.declared.state.Rsm.{Rsm}
 use Rattle.nsi_primitive.specs.declared.state.Psm.{Psm}
 use Rattle.nsi_primitive.specs.declared.state.Lsm.{Lsm}
@@ -11,7 +10,6 @@ use Rattle.reserve_machine.specs.Table.{step as reserve_step}
 use Rattle.provision_machine.specs.Table.{step as provision_step}
 use Rattle.lifecycle_machine.specs.Table.{step as lifecycle_step}
 use Rattle.connection_record.specs.declared.record.Record.{Record}
-use Rattle.connection_record.specs.declared.moves.Reply.{Reply}
 use Rattle.connection_record.specs.declared.moves.ReservationMove.{ReservationMove}
 use Rattle.connection_record.specs.declared.provisioning.ProvisionMove.{ProvisionMove}
 use Rattle.connection_record.specs.declared.life.LifecycleMove.{LifecycleMove}

@@ -1,5 +1,5 @@
 -- The laws of a record.
-use Rattle.std.specs.Prelude.{ℕ, ◌≡◌, ◌≤◌, ◌+◌, Bool, true, false, List, [], Option, Some, None, ◌⊎◌}
+use Rattle.std.specs.Prelude.{ℕ, ◌≡◌, ◌≤◌, ◌+◌, false, List, [], Option, Some, None, ◌⊎◌}
 use Rattle.nsi_primitive.specs.Messages.{connection_of}
 use Rattle.nsi_primitive.specs.declared.plane.Plane.{Plane}
 use Rattle.nsi_primitive.specs.declared.state.Machine.{Machine}
@@ -18,7 +18,7 @@ use Rattle.connection_record.specs.declared.moves.Origin.{Origin}
 use Rattle.connection_record.specs.declared.moves.Reply.{Reply}
 use Rattle.connection_record.specs.declared.moves.ReservationMove.{ReservationMove}
 use Rattle.connection_record.specs.declared.provisioning.ProvisionMove.{ProvisionMove}
-use Rattle.connection_record.specs.declared.turn.Move.{Move}
+use Rattle.connection_record.specs.declared.apply.Move.{Move}
 use Rattle.connection_record.specs.Courses.{answering, is_reservation_request, IsBeside, IsAct, Course, IsAfter}
 use Rattle.connection_record.specs.Lives.{provision_event, provisions, lifecycle_event, lives}
 use Rattle.connection_record.specs.Moves.{event_of, reserves, fresh, asked_criteria}
@@ -27,7 +27,7 @@ use Rattle.connection_record.specs.Refusal.{refusal, record_refusal, modificatio
 use Rattle.connection_record.specs.Replies.{Moved}
 use Rattle.connection_record.specs.Speaking.{is_id, owed, begun_of, drawn_of, no_ids, drawn_if, Speaks, Names}
 use Rattle.connection_record.specs.Tabled.{FollowsRow}
-use Rattle.connection_record.specs.Turns.{moves, moves_if, requested, work_of, closes, ticks, ticked, is_told, tells}
+use Rattle.connection_record.specs.Applied.{moves, moves_if, requested, work_of, closes, ticked, is_told, tells}
 use Rattle.connection_record.specs.Unrefused.{IsFitFor, IsTakenAt}
 
 ---- Order
@@ -35,8 +35,8 @@ use Rattle.connection_record.specs.Unrefused.{IsFitFor, IsTakenAt}
 abbrev pub FreshIsInOrder : Type 0
 FreshIsInOrder = (id : ℕ) (owner : List ℕ) (service : Service) (source dest : ℕ) → IsInOrder (fresh id owner service source dest)
 
-abbrev pub TurnsKeepOrder : Type 0
-TurnsKeepOrder = (side : Side) (move : Move) (before : Plane) (c now : ℕ) (r : Record) → IsInOrder r → IsInOrder (tells before c now (moves side move now r)).rec
+abbrev pub MovesKeepOrder : Type 0
+MovesKeepOrder = (side : Side) (move : Move) (before : Plane) (c now : ℕ) (r : Record) → IsInOrder r → IsInOrder (tells before c now (moves side move now r)).rec
 
 abbrev pub TicksKeepOrder : Type 0
 TicksKeepOrder = (origin : Origin) (before : Plane) (c now : ℕ) (r : Record) → IsInOrder r → IsInOrder (tells before c now (ticked origin now r)).rec
@@ -48,8 +48,8 @@ OwedIsKept = (c n : ℕ) (r : Record) → IsInOrder r → 1 ≤ owed c n r →
 
 ---- Points
 
-abbrev pub TurnsKeepPoints : Type 0
-TurnsKeepPoints =
+abbrev pub MovesKeepPoints : Type 0
+MovesKeepPoints =
     (stp_of : List ℕ → Option ℕ) (side : Side) (move : Move) (before : Plane) (c now : ℕ) (r : Record) → HasPoints stp_of r →
     HasPoints stp_of (tells before c now (moves side move now r)).rec
 

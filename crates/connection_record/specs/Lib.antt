@@ -3,7 +3,7 @@ pub mod Demand
 pub mod Rising
 pub mod Moves
 pub mod Lives
-pub mod Turns
+pub mod Applied
 pub mod Later
 pub mod Refusal
 pub mod Order

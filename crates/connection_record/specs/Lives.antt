@@ -8,13 +8,15 @@ use Rattle.nsi_primitive.specs.declared.state.Side.{Side}
 use Rattle.nsi_primitive.specs.declared.message.Body.{Body}
 use Rattle.nsi_primitive.specs.declared.message.Exception.{Exception}
 use Rattle.provision_machine.specs.declared.table.PsmEvent.{PsmEvent}
+use Rattle.provision_machine.specs.Table.{step as provision_step}
 use Rattle.lifecycle_machine.specs.declared.table.LsmEvent.{LsmEvent}
+use Rattle.lifecycle_machine.specs.Table.{step as lifecycle_step}
 use Rattle.connection_record.specs.declared.record.Record.{Record}
 use Rattle.connection_record.specs.declared.moves.Origin.{Origin}
 use Rattle.connection_record.specs.declared.moves.Reply.{Reply}
 use Rattle.connection_record.specs.declared.provisioning.ProvisionMove.{ProvisionMove}
 use Rattle.connection_record.specs.declared.life.LifecycleMove.{LifecycleMove}
-use Rattle.connection_record.specs.Replies.{Moved, stays, reply, counted, noted, id_or}
+use Rattle.connection_record.specs.Replies.{Moved, stays, by_row, reply, counted, noted, id_or}
 use Rattle.connection_record.specs.Moves.{silently}
 
 ---- The provision machine
@@ -28,44 +30,48 @@ provision_event (ProvisionMove.Spoiled _) = PsmEvent.Spoiled
 
 -- a request under this correlation is in the work
 abbrev pub provision_asked : ℕ → Psm → Record → Moved
-provision_asked c state r = silently (record r { psm = state; provision_request = Some c })
+provision_asked c next r = silently (record r { psm = next; provision_request = Some c })
 
--- it is confirmed, which counts as an outcome
-abbrev pub provisioned : ℕ → ℕ → Record → Moved
-provisioned c now r =
+-- the outcome as which a state is confirmed: that it is provisioned, or released
+abbrev pub confirmed_kind : Psm → Kind
+confirmed_kind Psm.Provisioned = Kind.ProvisionConfirmed
+confirmed_kind _ = Kind.ReleaseConfirmed
+
+abbrev pub confirmed_body : Psm → ℕ → Body
+confirmed_body Psm.Provisioned id = Body.ProvisionConfirmed id
+confirmed_body _ id = Body.ReleaseConfirmed id
+
+-- a state is confirmed, which counts as an outcome
+abbrev pub provision_confirmed : ℕ → Psm → ℕ → Record → Moved
+provision_confirmed c next now r =
     record {
-      rec = record r { psm = Psm.Provisioned; provision_request = None; results = counted Kind.ProvisionConfirmed c now r.results };
-      out = reply c (Body.ProvisionConfirmed r.id) ∷ [];
+      rec = record r { psm = next; provision_request = None; results = counted (confirmed_kind next) c now r.results };
+      out = reply c (confirmed_body next r.id) ∷ [];
     }
 
-abbrev pub released : ℕ → ℕ → Record → Moved
-released c now r =
-    record {
-      rec = record r { psm = Psm.Released; provision_request = None; results = counted Kind.ReleaseConfirmed c now r.results };
-      out = reply c (Body.ReleaseConfirmed r.id) ∷ [];
-    }
+-- a request is confirmed at once where its row says something, and kept until it is answered where the row says nothing yet
+abbrev pub provision_taken : ℕ → Psm → Option Kind → ℕ → Record → Moved
+provision_taken c next None now r = provision_asked c next r
+provision_taken c next (Some said) now r = provision_confirmed c next now r
 
 -- it can't be carried out, which counts as no outcome
-abbrev pub provision_spoiled : Exception → Record → Moved
-provision_spoiled exception r =
+abbrev pub provision_spoiled : Exception → Psm → Record → Moved
+provision_spoiled exception next r =
     record {
-      rec = record r { psm = Psm.Released; provision_request = None };
+      rec = record r { psm = next; provision_request = None };
       out = reply (id_or r.provision_request) (Body.Error (Some r.id) exception) ∷ [];
     }
 
--- a row of the table, done to a record; a row of one side only is a row there
+-- what a move does to a record, whose machine then has the next state, and the row's message is said, if it has one
+abbrev pub provision_does : Psm → Option Kind → ProvisionMove → ℕ → Record → Moved
+provision_does next said (ProvisionMove.Provision c) now r = provision_taken c next said now r
+provision_does next said (ProvisionMove.Release c) now r = provision_taken c next said now r
+provision_does next said ProvisionMove.Done now r = provision_confirmed (id_or r.provision_request) next now r
+provision_does next said (ProvisionMove.Spoiled exception) now r = provision_spoiled exception next r
+
+-- the table's row of a side for a state and a move, done to a record
 unfoldable pub provisions : Side → Psm → ProvisionMove → ℕ → Record → Moved
-provisions side Psm.Released (ProvisionMove.Provision c) now r = provision_asked c Psm.Provisioning r
-provisions side Psm.Provisioning ProvisionMove.Done now r = provisioned (id_or r.provision_request) now r
-provisions side Psm.Provisioned (ProvisionMove.Release c) now r = provision_asked c Psm.Releasing r
-provisions side Psm.Releasing ProvisionMove.Done now r = released (id_or r.provision_request) now r
-provisions side Psm.Provisioning (ProvisionMove.Spoiled exception) now r = provision_spoiled exception r
-provisions side Psm.Releasing (ProvisionMove.Spoiled exception) now r = provision_spoiled exception r
-provisions Side.Provider Psm.Provisioned (ProvisionMove.Provision c) now r = provisioned c now r
-provisions Side.Provider Psm.Released (ProvisionMove.Release c) now r = released c now r
-provisions Side.Aggregator Psm.Provisioned (ProvisionMove.Provision c) now r = provision_asked c Psm.Provisioning r
-provisions Side.Aggregator Psm.Released (ProvisionMove.Release c) now r = provision_asked c Psm.Releasing r
-provisions side state move now r = stays r
+provisions side state move now r = by_row (provision_step side state (provision_event move)) (λ next said. provision_does next said move now r) r
 
 abbrev pub provisions_if : Side → Option ProvisionMove → ℕ → Record → Moved
 provisions_if side None now r = stays r
@@ -79,8 +85,8 @@ lifecycle_event LifecycleMove.EndTime = LsmEvent.EndTime
 lifecycle_event (LifecycleMove.Terminate _) = LsmEvent.Terminate
 lifecycle_event LifecycleMove.Done = LsmEvent.Done
 
-abbrev pub terminating : ℕ → Record → Moved
-terminating c r = silently (record r { lsm = Lsm.Terminating; lifecycle_request = Some c })
+abbrev pub terminating : ℕ → Lsm → Record → Moved
+terminating c next r = silently (record r { lsm = next; lifecycle_request = Some c })
 
 -- what the owner is told when the connection is ended by force
 abbrev pub forced_reply : ℕ → Origin → ℕ → Record → Reply
@@ -97,28 +103,29 @@ forced_reply c origin now r =
     }))
 
 -- the connection ends by force, of which the owner is notified
-abbrev pub forced : ℕ → Origin → ℕ → Record → Moved
-forced c origin now r = record { rec = record r { lsm = Lsm.Failed; notices = noted Kind.ErrorEvent c now r.notices }; out = forced_reply c origin now r ∷ [] }
+abbrev pub forced : ℕ → Origin → Lsm → ℕ → Record → Moved
+forced c origin next now r = record { rec = record r { lsm = next; notices = noted Kind.ErrorEvent c now r.notices }; out = forced_reply c origin now r ∷ [] }
 
-abbrev pub passed : Record → Record
-passed r = record r { lsm = Lsm.PassedEndTime }
+abbrev pub passed : Lsm → Record → Record
+passed next r = record r { lsm = next }
 
-abbrev pub terminated : ℕ → Record → Moved
-terminated now r =
+abbrev pub terminated : Lsm → ℕ → Record → Moved
+terminated next now r =
     record {
-      rec = record r { lsm = Lsm.Terminated; lifecycle_request = None; results = counted Kind.TerminateConfirmed (id_or r.lifecycle_request) now r.results };
+      rec = record r { lsm = next; lifecycle_request = None; results = counted Kind.TerminateConfirmed (id_or r.lifecycle_request) now r.results };
       out = reply (id_or r.lifecycle_request) (Body.TerminateConfirmed r.id) ∷ [];
     }
 
--- a row of the table, done to a record
+-- what a move does to a record, whose machine then has the next state
+abbrev pub lifecycle_does : Lsm → LifecycleMove → ℕ → Record → Moved
+lifecycle_does next (LifecycleMove.Force c origin) now r = forced c origin next now r
+lifecycle_does next LifecycleMove.EndTime now r = silently (passed next r)
+lifecycle_does next (LifecycleMove.Terminate c) now r = terminating c next r
+lifecycle_does next LifecycleMove.Done now r = terminated next now r
+
+-- the table's row for a state and a move, done to a record
 unfoldable pub lives : Lsm → LifecycleMove → ℕ → Record → Moved
-lives Lsm.Created (LifecycleMove.Force c origin) now r = forced c origin now r
-lives Lsm.Created LifecycleMove.EndTime now r = silently (passed r)
-lives Lsm.Created (LifecycleMove.Terminate c) now r = terminating c r
-lives Lsm.Failed (LifecycleMove.Terminate c) now r = terminating c r
-lives Lsm.PassedEndTime (LifecycleMove.Terminate c) now r = terminating c r
-lives Lsm.Terminating LifecycleMove.Done now r = terminated now r
-lives _ _ now r = stays r
+lives state move now r = by_row (lifecycle_step state (lifecycle_event move)) (λ next said. lifecycle_does next move now r) r
 
 abbrev pub lives_if : Option LifecycleMove → ℕ → Record → Moved
 lives_if None now r = stays r

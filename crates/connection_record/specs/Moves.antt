@@ -13,11 +13,12 @@ use Rattle.nsi_primitive.specs.declared.message.Exception.{Exception}
 use Rattle.nsi_primitive.specs.declared.message.ReserveRequest.{ReserveRequest}
 use Rattle.nsi_primitive.specs.declared.message.Service.{Service}
 use Rattle.reserve_machine.specs.declared.table.RsmEvent.{RsmEvent}
+use Rattle.reserve_machine.specs.Table.{step as reserve_step}
 use Rattle.connection_record.specs.declared.record.Record.{Record}
 use Rattle.connection_record.specs.declared.moves.Origin.{Origin}
 use Rattle.connection_record.specs.declared.moves.ReservationMove.{ReservationMove}
 use Rattle.connection_record.specs.declared.moves.Reply.{Reply}
-use Rattle.connection_record.specs.Replies.{Moved, stays, reply, counted, noted, confirmation, id_or}
+use Rattle.connection_record.specs.Replies.{Moved, stays, by_row, reply, counted, noted, confirmation, id_or}
 use Rattle.connection_record.specs.Demand.{last}
 
 ---- The reservation machine
@@ -36,39 +37,42 @@ event_of ReservationMove.Freed = RsmEvent.Freed
 
 -- a request under this correlation is in the work
 abbrev pub asked : ℕ → Rsm → Record → Record
-asked correlation state r = record r { rsm = state; reserve_request = Some correlation }
+asked correlation next r = record r { rsm = next; reserve_request = Some correlation }
 
 -- pending criteria are dropped where the state is neither of checking, holding nor committing
 abbrev pub dropped : Record → Record
 dropped r = record r { pending = None }
 
-abbrev pub checking : ℕ → Criteria → Record → Record
-checking correlation criteria r = record (asked correlation Rsm.ReserveChecking r) { pending = Some criteria; attempt = Some correlation }
+-- criteria are pending, and the reserve is remembered
+abbrev pub attempted : ℕ → Criteria → Record → Record
+attempted correlation criteria r = record r { pending = Some criteria; attempt = Some correlation }
 
 -- the request in the work is answered, which counts as an outcome
-abbrev pub answered : Kind → ℕ → Rsm → Record → Record
-answered kind now state r =
-    record r { rsm = state; reserve_request = None; results = counted kind (id_or r.reserve_request) now r.results }
+abbrev pub answered : Kind → Rsm → ℕ → Record → Record
+answered kind next now r = record r { rsm = next; reserve_request = None; results = counted kind (id_or r.reserve_request) now r.results }
 
 abbrev pub answers : Body → Record → Record → Moved
 answers body old new = record { rec = new; out = reply (id_or old.reserve_request) body ∷ [] }
 
--- the criteria are held until the deadline
-abbrev pub fits : Option Criteria → Option ℕ → ℕ → Record → Moved
-fits None deadline now r = stays r
-fits (Some criteria) deadline now r =
-    answers (Body.ReserveConfirmed (confirmation r.id r.service criteria)) r (record (answered Kind.ReserveConfirmed now Rsm.ReserveHeld r) { deadline = deadline })
+abbrev pub checks : ℕ → Criteria → Rsm → Record → Moved
+checks c criteria next r = record { rec = attempted c criteria (asked c next r); out = reply c (Body.ReserveResponse r.id) ∷ [] }
 
-abbrev pub fails : Exception → ℕ → Record → Moved
-fails exception now r = answers (Body.ReserveFailed r.id exception) r (dropped (answered Kind.ReserveFailed now Rsm.ReserveFailed r))
+-- the criteria are held until the deadline
+abbrev pub fits : Option Criteria → Option ℕ → Rsm → ℕ → Record → Moved
+fits None deadline next now r = stays r
+fits (Some criteria) deadline next now r =
+    answers (Body.ReserveConfirmed (confirmation r.id r.service criteria)) r (record (answered Kind.ReserveConfirmed next now r) { deadline = deadline })
+
+abbrev pub fails : Exception → Rsm → ℕ → Record → Moved
+fails exception next now r = answers (Body.ReserveFailed r.id exception) r (dropped (answered Kind.ReserveFailed next now r))
 
 -- the end of a hold is counted as a notice
 abbrev pub notified : ℕ → Record → Record
 notified now r = record r { notices = noted Kind.ReserveTimeout (id_or r.attempt) now r.notices }
 
 -- what was held isn't any more
-abbrev pub lapsed : Record → Record
-lapsed r = record (dropped r) { rsm = Rsm.ReserveTimeout }
+abbrev pub lapsed : Rsm → Record → Record
+lapsed next r = record (dropped r) { rsm = next }
 
 -- what the owner is told when the hold ends
 abbrev pub timeout_reply : Origin → ℕ → Record → Reply
@@ -85,43 +89,44 @@ timeout_reply origin now r =
     }))
 
 -- the hold ends, of which the owner is notified
-abbrev pub times_out : Origin → ℕ → Record → Moved
-times_out origin now r = record { rec = lapsed (notified now r); out = timeout_reply origin now r ∷ [] }
+abbrev pub times_out : Origin → Rsm → ℕ → Record → Moved
+times_out origin next now r = record { rec = lapsed next (notified now r); out = timeout_reply origin now r ∷ [] }
 
 -- the pending criteria join the committed
 abbrev pub committed_with : List Criteria → Option Criteria → List Criteria
 committed_with committed pending = committed ++ option_to_list pending
 
-abbrev pub commits : ℕ → Record → Moved
-commits now r =
+abbrev pub commits : Rsm → ℕ → Record → Moved
+commits next now r =
     answers (Body.ReserveCommitConfirmed r.id) r
-    (record (dropped (answered Kind.ReserveCommitConfirmed now Rsm.ReserveStart r)) { committed = committed_with r.committed r.pending })
+    (record (dropped (answered Kind.ReserveCommitConfirmed next now r)) { committed = committed_with r.committed r.pending })
 
-abbrev pub spoils : Exception → Bool → ℕ → Record → Moved
-spoils exception mixed now r =
+abbrev pub spoils : Exception → Bool → Rsm → ℕ → Record → Moved
+spoils exception mixed next now r =
     answers (Body.ReserveCommitFailed r.id exception) r
-    (record (dropped (answered Kind.ReserveCommitFailed now Rsm.ReserveStart r)) { mixed = r.mixed || mixed })
+    (record (dropped (answered Kind.ReserveCommitFailed next now r)) { mixed = r.mixed || mixed })
 
-abbrev pub frees : ℕ → Record → Moved
-frees now r = answers (Body.ReserveAbortConfirmed r.id) r (answered Kind.ReserveAbortConfirmed now Rsm.ReserveStart r)
+abbrev pub frees : Rsm → ℕ → Record → Moved
+frees next now r = answers (Body.ReserveAbortConfirmed r.id) r (answered Kind.ReserveAbortConfirmed next now r)
 
 abbrev pub silently : Record → Moved
 silently r = record { rec = r; out = [] }
 
--- a row of the table, done to a record: a request is kept until it is answered; pending criteria are there in ReserveChecking, ReserveHeld and ReserveCommitting
+-- what a move does to a record, whose machine then has the next state: a request is kept until it is answered; pending criteria are there in ReserveChecking, ReserveHeld and ReserveCommitting
+abbrev pub reservation_does : Rsm → ReservationMove → ℕ → Record → Moved
+reservation_does next (ReservationMove.Reserve c criteria) now r = checks c criteria next r
+reservation_does next (ReservationMove.Fit deadline) now r = fits r.pending deadline next now r
+reservation_does next (ReservationMove.Lack exception) now r = fails exception next now r
+reservation_does next (ReservationMove.Commit c) now r = silently (asked c next r)
+reservation_does next (ReservationMove.Abort c) now r = silently (dropped (asked c next r))
+reservation_does next (ReservationMove.HoldEnd origin) now r = times_out origin next now r
+reservation_does next ReservationMove.Done now r = commits next now r
+reservation_does next (ReservationMove.Spoiled exception mixed) now r = spoils exception mixed next now r
+reservation_does next ReservationMove.Freed now r = frees next now r
+
+-- the table's row for a state and a move, done to a record
 unfoldable pub reserves : Rsm → ReservationMove → ℕ → Record → Moved
-reserves Rsm.ReserveStart (ReservationMove.Reserve c criteria) now r = record { rec = checking c criteria r; out = reply c (Body.ReserveResponse r.id) ∷ [] }
-reserves Rsm.ReserveChecking (ReservationMove.Fit deadline) now r = fits r.pending deadline now r
-reserves Rsm.ReserveChecking (ReservationMove.Lack exception) now r = fails exception now r
-reserves Rsm.ReserveHeld (ReservationMove.Commit c) now r = silently (asked c Rsm.ReserveCommitting r)
-reserves Rsm.ReserveHeld (ReservationMove.Abort c) now r = silently (dropped (asked c Rsm.ReserveAborting r))
-reserves Rsm.ReserveFailed (ReservationMove.Abort c) now r = silently (dropped (asked c Rsm.ReserveAborting r))
-reserves Rsm.ReserveTimeout (ReservationMove.Abort c) now r = silently (dropped (asked c Rsm.ReserveAborting r))
-reserves Rsm.ReserveHeld (ReservationMove.HoldEnd origin) now r = times_out origin now r
-reserves Rsm.ReserveCommitting ReservationMove.Done now r = commits now r
-reserves Rsm.ReserveCommitting (ReservationMove.Spoiled exception mixed) now r = spoils exception mixed now r
-reserves Rsm.ReserveAborting ReservationMove.Freed now r = frees now r
-reserves _ _ now r = stays r
+reserves state move now r = by_row (reserve_step state (event_of move)) (λ next said. reservation_does next move now r) r
 
 abbrev pub reserves_if : Option ReservationMove → ℕ → Record → Moved
 reserves_if None now r = stays r

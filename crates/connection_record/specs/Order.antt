@@ -3,7 +3,7 @@ use Rattle.std.specs.Prelude.{ℕ, ◌≡◌, Bool, true, false, List, Option, S
 use Rattle.nsi_primitive.specs.declared.state.Rsm.{Rsm}
 use Rattle.connection_record.specs.declared.record.Record.{Record}
 use Rattle.connection_record.specs.Moves.{is_working}
-use Rattle.connection_record.specs.Turns.{is_provisioning, is_terminating}
+use Rattle.connection_record.specs.Applied.{is_provisioning, is_terminating}
 
 -- whether something is asked that is checked, held or being committed
 unfoldable pub is_pending : Rsm → Bool

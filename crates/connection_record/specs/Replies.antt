@@ -1,5 +1,5 @@
 -- What a record says, and what it counts.
-use Rattle.std.specs.Prelude.{ℕ, ◌+◌, List, [], ◌∷◌, ◌++◌, length, Option, unwrap_or}
+use Rattle.std.specs.Prelude.{ℕ, ◌+◌, List, [], ◌∷◌, ◌++◌, length, Option, Some, None, unwrap_or}
 use Rattle.nsi_primitive.specs.declared.kind.Kind.{Kind}
 use Rattle.nsi_primitive.specs.declared.kind.ErrorName.{ErrorName}
 use Rattle.nsi_primitive.specs.declared.message.Body.{Body}
@@ -21,6 +21,11 @@ pub record Moved : Type 0 where
 
 abbrev pub stays : Record → Moved
 stays r = record { rec = r; out = [] }
+
+-- what a row of a table does, and nothing without a row
+abbrev pub by_row : {S : Type 0} → Option (S × Option Kind) → (S → Option Kind → Moved) → Record → Moved
+by_row None f r = stays r
+by_row (Some row) f r = f row.0 row.1
 
 -- more is said behind what was said
 abbrev pub behind : List Reply → Moved → Moved

@@ -8,29 +8,23 @@ use nsi_primitive::{Criteria, copy_notices, copy_outcomes};
 use std::alloc::AllocError;
 
 impl Record {
+    /// The same record, in memory of its own.
     pub fn copy(&self) -> Result<Record, AllocError>
         ensures { IfOk result (λ r. r ≡ self.now) }
     {
-        Ok(Record {
-            id: self.id,
-            owner: self.owner.copy()?,
-            service: self.service.copy()?,
-            source: self.source,
-            dest: self.dest,
-            committed: copy_criteria(&self.committed)?,
-            pending: self.pending,
-            attempt: self.attempt,
-            rsm: self.rsm,
-            psm: self.psm,
-            lsm: self.lsm,
-            mixed: self.mixed,
-            reserve_request: self.reserve_request,
-            provision_request: self.provision_request,
-            lifecycle_request: self.lifecycle_request,
-            deadline: self.deadline,
-            notices: copy_notices(&self.notices)?,
-            results: copy_outcomes(&self.results)?,
-        })
+        let mut copy = Record::new(
+            self.committed.allocator(),
+            self.id,
+            self.owner.copy()?,
+            self.service.copy()?,
+            self.source,
+            self.dest,
+        );
+        copy.committed = copy_criteria(&self.committed)?;
+        copy.notices = copy_notices(&self.notices)?;
+        copy.results = copy_outcomes(&self.results)?;
+        copy.restore(&self.save());
+        Ok(copy)
     }
 }
 

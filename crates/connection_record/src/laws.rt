@@ -1,19 +1,19 @@
 //! The laws of a record. Each function is its contract.
 
-ghost use Rattle.connection_record.specs.Laws.{FreshIsInOrder, TurnsKeepOrder, TicksKeepOrder, OwedIsKept, TurnsKeepPoints, TicksKeepPoints, MovesSpeak, RequestsSpeak, WorksSpeak, TicksSpeak, TellingSpeaks, MovesName, TicksName, TellingNames, WorksAct, ForcesAct, ClosesAct, TicksAct, TellingActs, CoursesKeep, RequestsLeave, OwingIsSaying, UnrefusedFits, ModificationAsks, FirstAsks, UnrefusedNamesAgent, UnrefusedIsTaken, ReservesByTable, ProvisionsByTable, LivesByTable};
+ghost use Rattle.connection_record.specs.Laws.{FreshIsInOrder, MovesKeepOrder, TicksKeepOrder, OwedIsKept, MovesKeepPoints, TicksKeepPoints, MovesSpeak, RequestsSpeak, WorksSpeak, TicksSpeak, TellingSpeaks, MovesName, TicksName, TellingNames, WorksAct, ForcesAct, ClosesAct, TicksAct, TellingActs, CoursesKeep, RequestsLeave, OwingIsSaying, UnrefusedFits, ModificationAsks, FirstAsks, UnrefusedNamesAgent, UnrefusedIsTaken, ReservesByTable, ProvisionsByTable, LivesByTable};
 
 /// A record is in order as it is made, and whatever is done to it leaves it so. What it still has to answer is under a
 /// correlation that it has, so no answer is ever under the nil id.
 pub fn order()
     ensures fresh { FreshIsInOrder }
-    ensures turns { TurnsKeepOrder }
+    ensures moves { MovesKeepOrder }
     ensures ticks { TicksKeepOrder }
     ensures owed { OwedIsKept }
 {}
 
 /// Whatever is done to a record leaves its points those of the names in its service.
 pub fn points()
-    ensures turns { TurnsKeepPoints }
+    ensures moves { MovesKeepPoints }
     ensures ticks { TicksKeepPoints }
 {}
 

@@ -1,6 +1,7 @@
 //! What an agent keeps of a connection, and what its machines do to it.
 #![tactic(auto)]
 
+pub mod apply;
 mod copies;
 pub mod laws;
 pub mod life;
@@ -10,14 +11,13 @@ pub mod record;
 pub mod refusal;
 mod reply;
 pub mod savepoint;
-pub mod turn;
 
+pub use apply::Move;
 pub use life::LifecycleMove;
 pub use moves::{Origin, Reply, ReservationMove};
 pub use provisioning::ProvisionMove;
 pub use record::Record;
 pub use savepoint::Savepoint;
-pub use turn::Move;
 
 #[cfg(test)]
 mod tests;

@@ -1,14 +1,15 @@
 //! The moves of the reservation machine, done to a record.
 
-ghost use Rattle.std.specs.Prelude.{◌≡◌, IfOk, OnErr, option_to_list};
+ghost use Rattle.std.specs.Prelude.{◌≡◌, [], ◌∷◌, IfOk, OnErr, option_to_list};
 ghost use Rattle.connection_record.specs.Demand.{last};
 ghost use Rattle.connection_record.specs.Replies.{Moved, stays, id_or};
-ghost use Rattle.connection_record.specs.Moves.{asked, dropped, checking, answered, fits, fails, times_out, commits, committed_with, spoils, frees, asked_criteria, asked_version};
+ghost use Rattle.connection_record.specs.Moves.{event_of, asked, checks, answered, fits, fails, times_out, commits, committed_with, spoils, frees, asked_criteria, asked_version};
 
 use crate::record::Record;
 use crate::reply::{confirmation, id_or};
 use nsi_base::{HoldTime, Interval, Name, Second, Version};
 use nsi_primitive::{Body, Criteria, Exception, HoldTimeout, Id, Kind, Lsm, ReserveRequest, Rsm};
+use reserve_machine::{RsmEvent, step};
 use std::alloc::AllocError;
 
 /// What a record says: the header is put on by the agent.
@@ -42,13 +43,33 @@ pub enum ReservationMove {
     Freed,
 }
 
+impl ReservationMove {
+    /// The event of the table that it is.
+    #[tactic(auto, unfolding(crate::specs::Moves::event_of))]
+    fn event(&self) -> RsmEvent
+        ensures { result ≡ event_of self.now }
+    {
+        match self {
+            ReservationMove::Reserve { .. } => RsmEvent::Reserve,
+            ReservationMove::Fit { .. } => RsmEvent::Fit,
+            ReservationMove::Lack { .. } => RsmEvent::Lack,
+            ReservationMove::Commit { .. } => RsmEvent::Commit,
+            ReservationMove::Abort { .. } => RsmEvent::Abort,
+            ReservationMove::HoldEnd { .. } => RsmEvent::HoldEnd,
+            ReservationMove::Done => RsmEvent::Done,
+            ReservationMove::Spoiled { .. } => RsmEvent::Spoiled,
+            ReservationMove::Freed => RsmEvent::Freed,
+        }
+    }
+}
+
 impl Record {
     ghost use Rattle.connection_record.specs.Moves.{reserves, is_live, is_working};
 
     /// Does what the table's row for its state and the move says, and gives what is then said. Where the table has no
     /// row, or memory is wanting, nothing changes.
     #[tactic(auto, unfolding(crate::specs::Moves::reserves))]
-    pub fn advance(
+    pub fn apply_reservation(
         &mut self,
         event: ReservationMove,
         now: Second,
@@ -57,53 +78,49 @@ impl Record {
         ensures out { IfOk result (λ out. option_to_list out ≡ (reserves self.old.rsm event now self.old).out) }
         ensures err { OnErr result (self.new ≡ self.old) }
     {
-        match (self.rsm, event) {
-            (
-                Rsm::ReserveStart,
-                ReservationMove::Reserve {
-                    correlation,
-                    criteria,
-                },
-            ) => Ok(Some(self.check(correlation, criteria))),
-            (Rsm::ReserveChecking, ReservationMove::Fit { deadline }) => self.fit(deadline, now),
-            (Rsm::ReserveChecking, ReservationMove::Lack { exception }) => {
-                self.fail(exception, now)
-            }
-            (Rsm::ReserveHeld, ReservationMove::Commit { correlation }) => {
-                self.rsm = Rsm::ReserveCommitting;
-                self.reserve_request = Some(correlation);
+        let Some((next, _)) = step(self.rsm, event.event()) else {
+            return Ok(None);
+        };
+        match event {
+            ReservationMove::Reserve {
+                correlation,
+                criteria,
+            } => Ok(Some(self.check(correlation, criteria, next))),
+            ReservationMove::Fit { deadline } => self.fit(deadline, next, now),
+            ReservationMove::Lack { exception } => self.fail(exception, next, now),
+            ReservationMove::Commit { correlation } => {
+                self.ask(correlation, next);
                 Ok(None)
             }
-            (Rsm::ReserveHeld, ReservationMove::Abort { correlation }) => {
-                self.abort(correlation);
+            ReservationMove::Abort { correlation } => {
+                self.ask(correlation, next);
+                self.pending = None;
                 Ok(None)
             }
-            (Rsm::ReserveFailed, ReservationMove::Abort { correlation }) => {
-                self.abort(correlation);
-                Ok(None)
+            ReservationMove::HoldEnd { origin } => self.time_out(origin, next, now),
+            ReservationMove::Done => self.commit(next, now),
+            ReservationMove::Spoiled { exception, mixed } => {
+                self.spoil(exception, mixed, next, now)
             }
-            (Rsm::ReserveTimeout, ReservationMove::Abort { correlation }) => {
-                self.abort(correlation);
-                Ok(None)
-            }
-            (Rsm::ReserveHeld, ReservationMove::HoldEnd { origin }) => self.time_out(origin, now),
-            (Rsm::ReserveCommitting, ReservationMove::Done) => self.commit(now),
-            (Rsm::ReserveCommitting, ReservationMove::Spoiled { exception, mixed }) => {
-                self.spoil(exception, mixed, now)
-            }
-            (Rsm::ReserveAborting, ReservationMove::Freed) => self.free(now),
-            _ => Ok(None),
+            ReservationMove::Freed => self.free(next, now),
         }
     }
 
-    fn check(&mut self, correlation: Id, criteria: Criteria) -> Reply
-        ensures rec { self.new ≡ checking correlation criteria self.old }
-        ensures out { result ≡ record { correlation = correlation; body = Body.ReserveResponse self.old.id } }
+    /// Keeps the request until it is answered.
+    fn ask(&mut self, correlation: Id, next: Rsm)
+        ensures { self.new ≡ asked correlation next self.old }
     {
-        self.rsm = Rsm::ReserveChecking;
+        self.rsm = next;
+        self.reserve_request = Some(correlation);
+    }
+
+    fn check(&mut self, correlation: Id, criteria: Criteria, next: Rsm) -> Reply
+        ensures rec { self.new ≡ (checks correlation criteria next self.old).rec }
+        ensures out { result ∷ [] ≡ (checks correlation criteria next self.old).out }
+    {
+        self.ask(correlation, next);
         self.pending = Some(criteria);
         self.attempt = Some(correlation);
-        self.reserve_request = Some(correlation);
         Reply {
             correlation,
             body: Body::ReserveResponse {
@@ -113,28 +130,33 @@ impl Record {
     }
 
     /// Answers the request in the work, and counts the outcome.
-    fn answer(&mut self, kind: Kind, now: Second, state: Rsm) -> Result<Id, AllocError>
-        ensures rec { IfOk result (λ _. self.new ≡ answered kind now state self.old) }
+    fn answer(&mut self, kind: Kind, next: Rsm, now: Second) -> Result<Id, AllocError>
+        ensures rec { IfOk result (λ _. self.new ≡ answered kind next now self.old) }
         ensures correlation { IfOk result (λ c. c ≡ id_or self.old.reserve_request) }
         ensures err { OnErr result (self.new ≡ self.old) }
     {
         let correlation = id_or(self.reserve_request);
         self.add_outcome(kind, correlation, now)?;
-        self.rsm = state;
+        self.rsm = next;
         self.reserve_request = None;
         Ok(correlation)
     }
 
-    fn fit(&mut self, deadline: Option<u64>, now: Second) -> Result<Option<Reply>, AllocError>
-        ensures rec { IfOk result (λ _. self.new ≡ (fits self.old.pending deadline now self.old).rec) }
-        ensures out { IfOk result (λ out. option_to_list out ≡ (fits self.old.pending deadline now self.old).out) }
+    fn fit(
+        &mut self,
+        deadline: Option<u64>,
+        next: Rsm,
+        now: Second,
+    ) -> Result<Option<Reply>, AllocError>
+        ensures rec { IfOk result (λ _. self.new ≡ (fits self.old.pending deadline next now self.old).rec) }
+        ensures out { IfOk result (λ out. option_to_list out ≡ (fits self.old.pending deadline next now self.old).out) }
         ensures err { OnErr result (self.new ≡ self.old) }
     {
         let Some(criteria) = self.pending else {
             return Ok(None);
         };
         let confirmed = confirmation(self.id, &self.service, criteria)?;
-        let correlation = self.answer(Kind::ReserveConfirmed, now, Rsm::ReserveHeld)?;
+        let correlation = self.answer(Kind::ReserveConfirmed, next, now)?;
         self.deadline = deadline;
         Ok(Some(Reply {
             correlation,
@@ -142,12 +164,17 @@ impl Record {
         }))
     }
 
-    fn fail(&mut self, exception: Exception, now: Second) -> Result<Option<Reply>, AllocError>
-        ensures rec { IfOk result (λ _. self.new ≡ (fails exception now self.old).rec) }
-        ensures out { IfOk result (λ out. option_to_list out ≡ (fails exception now self.old).out) }
+    fn fail(
+        &mut self,
+        exception: Exception,
+        next: Rsm,
+        now: Second,
+    ) -> Result<Option<Reply>, AllocError>
+        ensures rec { IfOk result (λ _. self.new ≡ (fails exception next now self.old).rec) }
+        ensures out { IfOk result (λ out. option_to_list out ≡ (fails exception next now self.old).out) }
         ensures err { OnErr result (self.new ≡ self.old) }
     {
-        let correlation = self.answer(Kind::ReserveFailed, now, Rsm::ReserveFailed)?;
+        let correlation = self.answer(Kind::ReserveFailed, next, now)?;
         self.pending = None;
         Ok(Some(Reply {
             correlation,
@@ -158,23 +185,20 @@ impl Record {
         }))
     }
 
-    fn abort(&mut self, correlation: Id)
-        ensures { self.new ≡ dropped (asked correlation Rsm.ReserveAborting self.old) }
-    {
-        self.rsm = Rsm::ReserveAborting;
-        self.pending = None;
-        self.reserve_request = Some(correlation);
-    }
-
     /// The hold ends, of which the owner is notified.
-    fn time_out(&mut self, origin: Origin, now: Second) -> Result<Option<Reply>, AllocError>
-        ensures rec { IfOk result (λ _. self.new ≡ (times_out origin now self.old).rec) }
-        ensures out { IfOk result (λ out. option_to_list out ≡ (times_out origin now self.old).out) }
+    fn time_out(
+        &mut self,
+        origin: Origin,
+        next: Rsm,
+        now: Second,
+    ) -> Result<Option<Reply>, AllocError>
+        ensures rec { IfOk result (λ _. self.new ≡ (times_out origin next now self.old).rec) }
+        ensures out { IfOk result (λ out. option_to_list out ≡ (times_out origin next now self.old).out) }
         ensures err { OnErr result (self.new ≡ self.old) }
     {
         let correlation = id_or(self.attempt);
         let notification = self.add_notice(Kind::ReserveTimeout, correlation, now)?;
-        self.rsm = Rsm::ReserveTimeout;
+        self.rsm = next;
         self.pending = None;
         Ok(Some(Reply {
             correlation,
@@ -189,13 +213,13 @@ impl Record {
         }))
     }
 
-    fn commit(&mut self, now: Second) -> Result<Option<Reply>, AllocError>
-        ensures rec { IfOk result (λ _. self.new ≡ (commits now self.old).rec) }
-        ensures out { IfOk result (λ out. option_to_list out ≡ (commits now self.old).out) }
+    fn commit(&mut self, next: Rsm, now: Second) -> Result<Option<Reply>, AllocError>
+        ensures rec { IfOk result (λ _. self.new ≡ (commits next now self.old).rec) }
+        ensures out { IfOk result (λ out. option_to_list out ≡ (commits next now self.old).out) }
         ensures err { OnErr result (self.new ≡ self.old) }
     {
         self.push_pending()?;
-        match self.answer(Kind::ReserveCommitConfirmed, now, Rsm::ReserveStart) {
+        match self.answer(Kind::ReserveCommitConfirmed, next, now) {
             Ok(correlation) => {
                 self.pending = None;
                 Ok(Some(Reply {
@@ -234,13 +258,14 @@ impl Record {
         &mut self,
         exception: Exception,
         mixed: bool,
+        next: Rsm,
         now: Second,
     ) -> Result<Option<Reply>, AllocError>
-        ensures rec { IfOk result (λ _. self.new ≡ (spoils exception mixed now self.old).rec) }
-        ensures out { IfOk result (λ out. option_to_list out ≡ (spoils exception mixed now self.old).out) }
+        ensures rec { IfOk result (λ _. self.new ≡ (spoils exception mixed next now self.old).rec) }
+        ensures out { IfOk result (λ out. option_to_list out ≡ (spoils exception mixed next now self.old).out) }
         ensures err { OnErr result (self.new ≡ self.old) }
     {
-        let correlation = self.answer(Kind::ReserveCommitFailed, now, Rsm::ReserveStart)?;
+        let correlation = self.answer(Kind::ReserveCommitFailed, next, now)?;
         self.pending = None;
         self.mixed = self.mixed || mixed;
         Ok(Some(Reply {
@@ -252,12 +277,12 @@ impl Record {
         }))
     }
 
-    fn free(&mut self, now: Second) -> Result<Option<Reply>, AllocError>
-        ensures rec { IfOk result (λ _. self.new ≡ (frees now self.old).rec) }
-        ensures out { IfOk result (λ out. option_to_list out ≡ (frees now self.old).out) }
+    fn free(&mut self, next: Rsm, now: Second) -> Result<Option<Reply>, AllocError>
+        ensures rec { IfOk result (λ _. self.new ≡ (frees next now self.old).rec) }
+        ensures out { IfOk result (λ out. option_to_list out ≡ (frees next now self.old).out) }
         ensures err { OnErr result (self.new ≡ self.old) }
     {
-        let correlation = self.answer(Kind::ReserveAbortConfirmed, now, Rsm::ReserveStart)?;
+        let correlation = self.answer(Kind::ReserveAbortConfirmed, next, now)?;
         Ok(Some(Reply {
             correlation,
             body: Body::ReserveAbortConfirmed {

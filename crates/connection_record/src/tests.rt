@@ -41,7 +41,7 @@ fn criteria() -> Result<Criteria, Fail> {
 
 /// A move of a provider, whose notification has the correlationId 9.
 fn play(own: &mut Record, replies: &mut Vec<Reply>, event: Move, now: u64) -> Result<(), Fail> {
-    let _told = own.turn(replies, Side::Provider, event, id(9)?, second(now)?)?;
+    let _told = own.apply(replies, Side::Provider, event, id(9)?, second(now)?)?;
     Ok(())
 }
 
@@ -280,14 +280,14 @@ fn ask(own: &mut Record) -> Result<Option<Reply>, Fail> {
         correlation: id(2)?,
         criteria: criteria()?,
     };
-    Ok(own.advance(event, second(0)?)?)
+    Ok(own.apply_reservation(event, second(0)?)?)
 }
 
 fn release(own: &mut Record, side: Side) -> Result<Option<Reply>, Fail> {
     let event = ProvisionMove::Release {
         correlation: id(3)?,
     };
-    Ok(own.provision(side, event, second(0)?)?)
+    Ok(own.apply_provision(side, event, second(0)?)?)
 }
 
 fn force(alloc: Global, own: &mut Record) -> Result<Option<Reply>, Fail> {
@@ -299,7 +299,7 @@ fn force(alloc: Global, own: &mut Record) -> Result<Option<Reply>, Fail> {
             value: HoldTime::new(60).ok_or("a hold")?,
         },
     };
-    Ok(own.live(event, second(0)?)?)
+    Ok(own.apply_lifecycle(event, second(0)?)?)
 }
 
 #[test]

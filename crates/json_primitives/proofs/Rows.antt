@@ -1,5 +1,5 @@
 -- Lines that the definitions themselves compute.
-use Rattle.std.proofs.Common.{◌≡◌, codes, refl, Err}
+use Rattle.std.proofs.Common.{◌≡◌, codes, refl, Err, Some}
 use Rattle.serde_json.proofs.OnLiterals.{serde_json_on_literals}
 use Rattle.std.specs.Fmt.{digits}
 use Rattle.std.specs.Str.{is_utf8, chars}
@@ -11,12 +11,11 @@ use Rattle.json_fields.specs.declared.key.Key.{Key}
 use Rattle.json_fields.specs.declared.fault.LineFault.{LineFault}
 use Rattle.json_primitives.specs.Lines.{object_of}
 use Rattle.json_primitives.specs.Requests.{reserve_from}
-use Rattle.json_primitives.specs.Payload.{payload_spelling, payload_name}
-use Rattle.json_primitives.specs.declared.payload.PayloadFault.{PayloadFault}
+use Rattle.json_primitives.specs.Payload.{payload_spelling}
 
 -- the answer to a sixth line with a capacity of 0
-payload : payload_spelling (PayloadFault.Line (LineFault.Bad Key.Capacity)) 6 ≡ codes "{\"errorId\":\"PAYLOAD\",\"fault\":\"Bad\",\"key\":\"capacity\",\"kind\":\"error\",\"line\":6}"
-unfolding serde_json_on_literals digits name_of error_text kind_name payload_name fault_name
+payload : payload_spelling (fault_name (LineFault.Bad Key.Capacity)) (Some Key.Capacity) 6 ≡ codes "{\"errorId\":\"PAYLOAD\",\"fault\":\"Bad\",\"key\":\"capacity\",\"kind\":\"error\",\"line\":6}"
+unfolding serde_json_on_literals digits name_of error_text kind_name fault_name
 payload = refl
 
 -- a capacity of 0

@@ -6,21 +6,7 @@ use Rattle.nsi_primitive.specs.Kinds.{kind_name, error_text}
 use Rattle.nsi_primitive.specs.declared.kind.Kind.{Kind}
 use Rattle.nsi_primitive.specs.declared.kind.ErrorName.{ErrorName}
 use Rattle.json_fields.specs.Keys.{name_of}
-use Rattle.json_fields.specs.Faults.{fault_name, fault_key}
 use Rattle.json_fields.specs.declared.key.Key.{Key}
-use Rattle.json_primitives.specs.declared.payload.PayloadFault.{PayloadFault}
-
--- the name by which a fault is written
-unfoldable pub payload_name : PayloadFault → List ℕ
-payload_name (PayloadFault.Line fault) = fault_name fault
-payload_name PayloadFault.Tick = codes "Tick"
-payload_name PayloadFault.Unbuilt = codes "Unbuilt"
-
--- the key that a fault is about, where it is about one
-abbrev pub payload_key : PayloadFault → Option Key
-payload_key (PayloadFault.Line fault) = fault_key fault
-payload_key PayloadFault.Tick = None
-payload_key PayloadFault.Unbuilt = None
 
 -- the key of a fault before others
 abbrev pub with_key : Option Key → Members → Members
@@ -28,20 +14,17 @@ with_key None others = others
 with_key (Some key) others = member (codes "key") (string (name_of key)) others
 
 -- the fault's name, its key, and the number of the line
-abbrev pub named_data : List ℕ → Option Key → ℕ → Data
-named_data fault key line = object (
+abbrev pub payload_data : List ℕ → Option Key → ℕ → Data
+payload_data fault key line = object (
     member (codes "errorId") (string (error_text ErrorName.Payload))
     (member (codes "fault") (string fault)
     (with_key key
     (member (codes "kind") (string (kind_name Kind.Error))
     (member (codes "line") (number (unsigned line)) no_members)))))
 
-abbrev pub named_spelling : List ℕ → Option Key → ℕ → List ℕ
-named_spelling fault key line = compact_text (named_data fault key line)
-
--- the bytes of the answer to a line that can't be taken
-abbrev pub payload_spelling : PayloadFault → ℕ → List ℕ
-payload_spelling fault line = named_spelling (payload_name fault) (payload_key fault) line
+-- the bytes of the answer
+abbrev pub payload_spelling : List ℕ → Option Key → ℕ → List ℕ
+payload_spelling fault key line = compact_text (payload_data fault key line)
 
 -- the members with the key that a fault is about put to them
 abbrev pub put_key : Option Key → Members → Members

@@ -7,8 +7,8 @@ pub mod printing;
 pub mod reading;
 
 pub use json_fields::{Key, LineFault};
-pub use payload::{PayloadFault, print_payload};
-pub use printing::{print_line, print_message};
+pub use payload::print_payload;
+pub use printing::{print_ack, print_line, print_message};
 pub use reading::{read_line, read_object};
 
 #[cfg(test)]

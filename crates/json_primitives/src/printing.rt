@@ -48,7 +48,8 @@ pub fn print_message(alloc: Global, message: &Message) -> Result<Vec<u8>, AllocE
     }
 }
 
-fn print_ack(alloc: Global, identity: &Identity) -> Result<Vec<u8>, AllocError>
+/// Writes an acknowledgement of a message of this identity, without a line's end.
+pub fn print_ack(alloc: Global, identity: &Identity) -> Result<Vec<u8>, AllocError>
     ensures spelled { IfOk result (λ b. b.items ≡ parcel_spelling (Parcel.Ack identity.now)) }
     ensures again { IfOk result (λ b. object_of b.items ≡ Ok (Parcel.Ack identity.now)) }
 {

@@ -1,5 +1,6 @@
 //! Lines by hand.
 
+mod copies;
 mod kinds;
 mod printing;
 mod reading;

@@ -6,7 +6,7 @@ use Rattle.nsi_base.specs.Lines.{lines_to, lines_of, feed_at, without_return}
 use Rattle.nsi_base.proofs.LineCuts.{lines_end, lines_last, ended_none}
 use Rattle.stp_topology.specs.Network.{nothing}
 use Rattle.stp_topology.specs.declared.network.Network.{Network}
-use Rattle.provider_agent.specs.Home.{Home, home_of, own_stp}
+use Rattle.provider_agent.specs.Setting.{Setting, setting_of, own_stp}
 use Rattle.line_reader.specs.Given.{Given, given_of, IsSame, TakesLine}
 use Rattle.line_reader.specs.Held.{Held, rest_of, to_come, budget, CutsLine, IsFirstLine}
 use Rattle.nsi_program.specs.Cut.{IsAnswered, IsEnded, AnswersRead, AppendsRead, AnswersSome, IsStopped, TakesOn, StopsAt}
@@ -69,9 +69,9 @@ next_first long number phase (line ∷ back) =
 ---- They are a safe run
 
 -- what is served and done is served whole
-whole_text : (home : Home) (stp_of : List ℕ → Option ℕ) (lines : List (List ℕ)) (status : Status) (text said : List ℕ) → status ≡ Status.Done → said ≡ text → IsServed home stp_of lines status said → IsSafeText home stp_of lines text
-whole_text home stp_of lines status text said done e (served_all is t) = subst (λ x. IsSafeText home stp_of lines x) e t
-whole_text home stp_of lines status text said done e (served_some front back body cut long t w) = absurd (apart (sym long ∙ done))
+whole_text : (setting : Setting) (stp_of : List ℕ → Option ℕ) (lines : List (List ℕ)) (status : Status) (text said : List ℕ) → status ≡ Status.Done → said ≡ text → IsServed setting stp_of lines status said → IsSafeText setting stp_of lines text
+whole_text setting stp_of lines status text said done e (served_all is t) = subst (λ x. IsSafeText setting stp_of lines x) e t
+whole_text setting stp_of lines status text said done e (served_some front back body cut long t w) = absurd (apart (sym long ∙ done))
   where
     apart : Status.Long ≡ Status.Done → ⊥
     apart h = cc
@@ -79,15 +79,15 @@ whole_text home stp_of lines status text said done e (served_some front back bod
 served_whole : (most : ℕ) (lines : List (List ℕ)) (text : List ℕ) → most ≤ 2000000 → (outcome false 1 (begun most) lines).0 ≡ Status.Done → (outcome false 1 (begun most) lines).1 ≡ text → RunsSafely lines text
 served_whole most lines text few done e = λ t n provider h f.
     let end : Status × List ℕ = outcome false 1 (begun most) lines in
-    whole_text (home_of t provider) (own_stp t provider) (drop n lines) end.0 text end.1 done e (serves_safely false most lines few t n provider h f)
+    whole_text (setting_of t provider) (own_stp t provider) (drop n lines) end.0 text end.1 done e (serves_safely false most lines few t n provider h f)
 
 -- a topology without an end serves nobody
-none_served : (home : Home) (stp_of : List ℕ → Option ℕ) (lines : List (List ℕ)) (status : Status) (said : List ℕ) → status ≡ Status.BadTopology → IsServed home stp_of lines status said → ⊥
-none_served home stp_of lines status said bad (served_all done t) = not_done (sym bad ∙ done)
+none_served : (setting : Setting) (stp_of : List ℕ → Option ℕ) (lines : List (List ℕ)) (status : Status) (said : List ℕ) → status ≡ Status.BadTopology → IsServed setting stp_of lines status said → ⊥
+none_served setting stp_of lines status said bad (served_all done t) = not_done (sym bad ∙ done)
   where
     not_done : Status.BadTopology ≡ Status.Done → ⊥
     not_done h = cc
-none_served home stp_of lines status said bad (served_some front back body cut long t w) = not_long (sym bad ∙ long)
+none_served setting stp_of lines status said bad (served_some front back body cut long t w) = not_long (sym bad ∙ long)
   where
     not_long : Status.BadTopology ≡ Status.Long → ⊥
     not_long h = cc
@@ -95,7 +95,7 @@ none_served home stp_of lines status said bad (served_some front back body cut l
 served_none : (most : ℕ) (lines : List (List ℕ)) (text : List ℕ) → most ≤ 2000000 → (outcome false 1 (begun most) lines).0 ≡ Status.BadTopology → RunsSafely lines text
 served_none most lines text few bad = λ t n provider h f.
     let end : Status × List ℕ = outcome false 1 (begun most) lines in
-    absurd (none_served (home_of t provider) (own_stp t provider) (drop n lines) end.0 end.1 bad (serves_safely false most lines few t n provider h f))
+    absurd (none_served (setting_of t provider) (own_stp t provider) (drop n lines) end.0 end.1 bad (serves_safely false most lines few t n provider h f))
 
 runs_safely : (most : ℕ) (lines : List (List ℕ)) (phase : Phase) (text : List ℕ) → most ≤ 2000000 → GoesOn 1 (begun most) lines phase text → RunsSafely lines text
 runs_safely most lines phase text few g = by_phase phase g

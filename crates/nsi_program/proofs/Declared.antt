@@ -8,7 +8,7 @@ use Rattle.stp_topology.specs.declared.fault.TopologyFault.{TopologyFault}
 use Rattle.stp_topology.specs.declared.topology.Taken.{Taken}
 use Rattle.stp_topology.specs.Network.{nothing, first_provider}
 use Rattle.stp_topology.specs.Text.{of_line, onward, read_lines}
-use Rattle.provider_agent.specs.Home.{home_of, own_stp}
+use Rattle.provider_agent.specs.Setting.{setting_of, own_stp}
 use Rattle.provider_agent.specs.State.{blank}
 use Rattle.nsi_program.specs.declared.status.Status.{Status}
 use Rattle.nsi_program.specs.declared.provide.Phase.{Phase}
@@ -131,7 +131,7 @@ is_complete most None left new status limited k = tt
 is_complete most (Some c) None new status limited k = tt
 is_complete most (Some c) (Some bytes) new status limited k = λ t n provider h f.
     let given : Given = given_of greatest_input bytes in
-    let events : ℕ = events_of (home_of t provider) (own_stp t provider) blank (drop n given.lines) in
+    let events : ℕ = events_of (setting_of t provider) (own_stp t provider) blank (drop n given.lines) in
     let e = opened_first given.long most given.lines t n provider h f in
     let by = ends_by given.long (n + 1) (serving_of t provider most) (drop n given.lines) (well_at_first t provider most limited) in
     let none : 0 + 0 + events ≡ events = omega arith in
@@ -143,8 +143,8 @@ pub serves_safely : (long : Bool) (most : ℕ) (lines : List (List ℕ)) → mos
 serves_safely long most lines few = λ t n provider h f.
     let e = opened_first long most lines t n provider h f in
     let from = served_from long (n + 1) (serving_of t provider most) (drop n lines) (well_at_first t provider most few) in
-    let s = served_safely (home_of t provider) (own_stp t provider) (drop n lines) _ _ from in
-    let P : Status × List ℕ → Type 0 = λ x. IsServed (home_of t provider) (own_stp t provider) (drop n lines) x.0 x.1 in
+    let s = served_safely (setting_of t provider) (own_stp t provider) (drop n lines) _ _ from in
+    let P : Status × List ℕ → Type 0 = λ x. IsServed (setting_of t provider) (own_stp t provider) (drop n lines) x.0 x.1 in
     subst P (sym e) s
 
 pub is_safe : (most : ℕ) (content left new : Option (List ℕ)) (status : Status) → most ≤ 2000000 → IsKept (promise_of most content left) status new → IsSafe content left status new

@@ -13,10 +13,10 @@ use Rattle.nsi_primitive.specs.declared.message.Parcel.{Parcel}
 use Rattle.json_fields.specs.declared.fault.LineFault.{LineFault}
 use Rattle.json_fields.specs.declared.key.Key.{Key}
 use Rattle.json_primitives.specs.Lines.{line_of}
-use Rattle.json_primitives.specs.declared.payload.PayloadFault.{PayloadFault}
+use Rattle.nsi_program.specs.declared.payload.PayloadFault.{PayloadFault}
 use Rattle.json_primitives.proofs.ReadParcels.{line_printable}
 use Rattle.stp_topology.specs.declared.network.Network.{Network}
-use Rattle.provider_agent.specs.Home.{Home, home_of}
+use Rattle.provider_agent.specs.Setting.{Setting, setting_of}
 use Rattle.provider_agent.specs.Runs.{after_all}
 use Rattle.provider_agent.specs.Good.{IsGood}
 use Rattle.provider_agent.specs.State.{State, Stepped, blank, unchanged}
@@ -27,14 +27,14 @@ use Rattle.provider_run.specs.Works.{all_works, with_works}
 use Rattle.provider_run.proofs.Working.{taken_after, first_state}
 use Rattle.provider_run.proofs.WorkRuns.{with_works_run}
 use Rattle.provider_run.proofs.Idle.{idle_after}
-use Rattle.nsi_program.specs.Hearing.{heard, read, unserved, heard_unless, requested, ticked, second_in, IsTimely, IsTimelyEntry}
+use Rattle.nsi_program.specs.Receiving.{received, read, unserved, received_unless, requested, ticked, second_in, IsTimely, IsTimelyEntry}
 use Rattle.nsi_program.specs.Lines.{Served, answered, entered, lines_of_messages}
 use Rattle.nsi_program.specs.Runs.{entries_of, run_of, events_of, with_sync, IsSafeText, IsServed}
 use Rattle.nsi_program.specs.Runs.IsServed.{served_all, served_some}
 use Rattle.nsi_program.specs.Serving.{Serving, serving_of, points_at}
 use Rattle.nsi_program.specs.Outcome.{goes_on, move_of, behind, outcome}
 use Rattle.nsi_program.specs.Promise.{EndsBy}
-use Rattle.nsi_program.specs.declared.hearing.Heard.{Heard}
+use Rattle.nsi_program.specs.declared.receiving.Received.{Received}
 use Rattle.nsi_program.specs.declared.provide.Phase.{Phase}
 use Rattle.nsi_program.specs.declared.status.Status.{Status}
 use Rattle.nsi_program.proofs.Served.{taken_all, good_all, woven_none, woven_messages, woven_fault, IsTextOf, text_none, ServedFrom, served_behind}
@@ -46,7 +46,7 @@ ticked_timely : (s : State) (second : Option ℕ) → IsTimely s (ticked second 
 ticked_timely s None = tt
 ticked_timely s (Some second) = by_test (leb s.now second) refl
   where
-    by_test : (b : Bool) → leb s.now second ≡ b → IsTimely s (cond b (Heard.Entry (record { second = second; input = Input.Tick })) (Heard.Fault PayloadFault.Tick))
+    by_test : (b : Bool) → leb s.now second ≡ b → IsTimely s (cond b (Received.Entry (record { second = second; input = Input.Tick })) (Received.Fault PayloadFault.Tick))
     by_test true e = record { own = refl; on_time = e; printable = tt }
     by_test false e = tt
 
@@ -56,7 +56,7 @@ requested_timely s m p q = by_test (is_seen s m)
     now_is : (n : ℕ) → eqb n n ≡ true
     now_is n = grind arith
 
-    by_test : (b : Bool) → IsTimely s (cond b Heard.Nothing (Heard.Entry (record { second = s.now; input = Input.Got m })))
+    by_test : (b : Bool) → IsTimely s (cond b Received.Nothing (Received.Entry (record { second = s.now; input = Input.Got m })))
     by_test true = tt
     by_test false = record { own = ap not q; on_time = now_is s.now; printable = p }
 
@@ -68,7 +68,7 @@ served_query body e = by_tests (is_request body) (is_query body) e
     by_tests true true h = absurd (cc)
     by_tests false b h = absurd (cc)
 
-message_timely : (s : State) (m : Message) (o : Option PayloadFault) → unserved m.body ≡ o → IsPrintable m → IsTimely s (heard_unless o m s)
+message_timely : (s : State) (m : Message) (o : Option PayloadFault) → unserved m.body ≡ o → IsPrintable m → IsTimely s (received_unless o m s)
 message_timely s m (Some fault) e p = tt
 message_timely s m None e p = requested_timely s m p (served_query m.body e)
 
@@ -77,15 +77,15 @@ read_timely s line (Err fault) e = tt
 read_timely s line (Ok (Parcel.Message m)) e = message_timely s m (unserved m.body) refl (line_printable line (Parcel.Message m) e)
 read_timely s line (Ok (Parcel.Ack identity)) e = tt
 
-pub timely : (s : State) (line : List ℕ) → IsTimely s (heard s line)
-unfolding heard
+pub timely : (s : State) (line : List ℕ) → IsTimely s (received s line)
+unfolding received
 timely s line = by_empty (eqb (length line) 0)
   where
     by_tick : (b : Bool) → IsTimely s (cond b (ticked (second_in line) s) (read (line_of line) s))
     by_tick true = ticked_timely s (second_in line)
     by_tick false = read_timely s line (line_of line) refl
 
-    by_empty : (b : Bool) → IsTimely s (cond b Heard.Nothing (cond (starts_with nat_eq line (codes "tick")) (ticked (second_in line) s) (read (line_of line) s)))
+    by_empty : (b : Bool) → IsTimely s (cond b Received.Nothing (cond (starts_with nat_eq line (codes "tick")) (ticked (second_in line) s) (read (line_of line) s)))
     by_empty true = tt
     by_empty false = by_tick (starts_with nat_eq line (codes "tick"))
 
@@ -97,46 +97,46 @@ may_be_taken s e timely few =
     let on_time = timely.on_time in
     grind (arith, nat_tests, own, on_time)
 
-pub entry_text : (home : Home) (stp_of : List ℕ → Option ℕ) (s : State) (e : Entry) → IsGood home s → s.taken ≤ 2000000 → IsTimelyEntry s e
-    → IsTextOf home stp_of s (with_works home stp_of s e) (lines_of_messages (after_all home stp_of s (with_works home stp_of s e)).out)
-entry_text home stp_of s e good few timely =
+pub entry_text : (setting : Setting) (stp_of : List ℕ → Option ℕ) (s : State) (e : Entry) → IsGood setting s → s.taken ≤ 2000000 → IsTimelyEntry s e
+    → IsTextOf setting stp_of s (with_works setting stp_of s e) (lines_of_messages (after_all setting stp_of s (with_works setting stp_of s e)).out)
+entry_text setting stp_of s e good few timely =
     let may = may_be_taken s e timely few in
-    let next : State = (after home stp_of s e).state in
-    let next_good : IsGood home next = good_after home stp_of s e good timely.printable in
+    let next : State = (after setting stp_of s e).state in
+    let next_good : IsGood setting next = good_after setting stp_of s e good timely.printable in
     record {
-      run = with_works_run home stp_of s e good may timely.printable few;
-      idle = λ h. ap waiting_work (first_state home stp_of s e (all_works home stp_of next)) ∙ idle_after home stp_of next next_good (omega (arith, taken_after home stp_of s e may, few));
-      woven = woven_messages (after_all home stp_of s (with_works home stp_of s e)).out;
+      run = with_works_run setting stp_of s e good may timely.printable few;
+      idle = λ h. ap waiting_work (first_state setting stp_of s e (all_works setting stp_of next)) ∙ idle_after setting stp_of next next_good (omega (arith, taken_after setting stp_of s e may, few));
+      woven = woven_messages (after_all setting stp_of s (with_works setting stp_of s e)).out;
     }
 
 ---- Too many events
 
 -- an entry that may not be taken changes nothing
-not_taken : (home : Home) (stp_of : List ℕ → Option ℕ) (s : State) (e : Entry) → may_take s e ≡ false → after home stp_of s e ≡ unchanged s
+not_taken : (setting : Setting) (stp_of : List ℕ → Option ℕ) (s : State) (e : Entry) → may_take s e ≡ false → after setting stp_of s e ≡ unchanged s
 unfolding after
-not_taken home stp_of s e may = ap (λ b. after_if b home stp_of s e) may
+not_taken setting stp_of s e may = ap (λ b. after_if b setting stp_of s e) may
 
 -- what was taken stays so
-taken_stays : (home : Home) (stp_of : List ℕ → Option ℕ) (s : State) (e : Entry) → s.taken ≤ (after home stp_of s e).state.taken
-taken_stays home stp_of s e = by_test (may_take s e) refl
+taken_stays : (setting : Setting) (stp_of : List ℕ → Option ℕ) (s : State) (e : Entry) → s.taken ≤ (after setting stp_of s e).state.taken
+taken_stays setting stp_of s e = by_test (may_take s e) refl
   where
-    by_test : (b : Bool) → may_take s e ≡ b → s.taken ≤ (after home stp_of s e).state.taken
-    by_test true may = omega (arith, taken_after home stp_of s e may)
-    by_test false may = omega (arith, ap (λ (x : Stepped). x.state.taken) (not_taken home stp_of s e may))
+    by_test : (b : Bool) → may_take s e ≡ b → s.taken ≤ (after setting stp_of s e).state.taken
+    by_test true may = omega (arith, taken_after setting stp_of s e may)
+    by_test false may = omega (arith, ap (λ (x : Stepped). x.state.taken) (not_taken setting stp_of s e may))
 
-all_taken_stays : (home : Home) (stp_of : List ℕ → Option ℕ) (s : State) (es : List Entry) → s.taken ≤ (after_all home stp_of s es).state.taken
+all_taken_stays : (setting : Setting) (stp_of : List ℕ → Option ℕ) (s : State) (es : List Entry) → s.taken ≤ (after_all setting stp_of s es).state.taken
 unfolding after_all
-all_taken_stays home stp_of s [] = omega arith
-all_taken_stays home stp_of s (e ∷ es) = omega (arith, taken_stays home stp_of s e, all_taken_stays home stp_of (after home stp_of s e).state es)
+all_taken_stays setting stp_of s [] = omega arith
+all_taken_stays setting stp_of s (e ∷ es) = omega (arith, taken_stays setting stp_of s e, all_taken_stays setting stp_of (after setting stp_of s e).state es)
 
 -- where there were as many events as there may be, an entry is one too many
 pub too_many : (s : Serving) (e : Entry) → s.most ≤ s.standing.state.taken + s.syncs → entered s e ≡ None
 unfolding entered
 too_many s e le =
-    let home : Home = s.standing.home in
-    let x : Stepped = after_all home (points_at s) s.standing.state (with_works home (points_at s) s.standing.state e) in
+    let setting : Setting = s.standing.setting in
+    let x : Stepped = after_all setting (points_at s) s.standing.state (with_works setting (points_at s) s.standing.state e) in
     ap (λ b. cond b (Some (record { serving = record s { standing = record s.standing { state = x.state }; syncs = s.syncs + 1 }; text = lines_of_messages x.out })) None)
-    (fits_not x.state.taken s.standing.state.taken s.syncs s.most le (all_taken_stays home (points_at s) s.standing.state (with_works home (points_at s) s.standing.state e)))
+    (fits_not x.state.taken s.standing.state.taken s.syncs s.most le (all_taken_stays setting (points_at s) s.standing.state (with_works setting (points_at s) s.standing.state e)))
   where
     fits_not : (now was syncs most : ℕ) → most ≤ was + syncs → was ≤ now → leb (now + syncs + 1) most ≡ false
     fits_not now was syncs most a b = grind (arith, nat_tests)
@@ -147,11 +147,11 @@ too_many s e le =
 pub record IsServingWell (s : Serving) : Type 0 where
   pub few : s.standing.state.taken + s.syncs ≤ s.most
   pub most : s.most ≤ 2000000
-  pub good : IsGood s.standing.home s.standing.state
+  pub good : IsGood s.standing.setting s.standing.state
 
 -- the state after an entry and its work, and the messages
 abbrev run_with : Serving → Entry → Stepped
-run_with s e = after_all s.standing.home (points_at s) s.standing.state (with_works s.standing.home (points_at s) s.standing.state e)
+run_with s e = after_all s.standing.setting (points_at s) s.standing.state (with_works s.standing.setting (points_at s) s.standing.state e)
 
 abbrev go_with : Serving → Entry → Serving
 go_with s e = record s { standing = record s.standing { state = (run_with s e).state }; syncs = s.syncs + 1 }
@@ -160,19 +160,19 @@ module _ (s : Serving) (e : Entry) (well : IsServingWell s) (timely : IsTimelyEn
   few_taken : s.standing.state.taken ≤ 2000000
   few_taken = omega (arith, well.few, well.most)
 
-  text_with : IsTextOf s.standing.home (points_at s) s.standing.state (with_works s.standing.home (points_at s) s.standing.state e) (lines_of_messages (run_with s e).out)
-  text_with = entry_text s.standing.home (points_at s) s.standing.state e well.good few_taken timely
+  text_with : IsTextOf s.standing.setting (points_at s) s.standing.state (with_works s.standing.setting (points_at s) s.standing.state e) (lines_of_messages (run_with s e).out)
+  text_with = entry_text s.standing.setting (points_at s) s.standing.state e well.good few_taken timely
 
   -- each entry counts
-  taken_with : (run_with s e).state.taken ≡ s.standing.state.taken + length (with_works s.standing.home (points_at s) s.standing.state e)
-  taken_with = taken_all s.standing.home (points_at s) s.standing.state (with_works s.standing.home (points_at s) s.standing.state e) text_with.run
+  taken_with : (run_with s e).state.taken ≡ s.standing.state.taken + length (with_works s.standing.setting (points_at s) s.standing.state e)
+  taken_with = taken_all s.standing.setting (points_at s) s.standing.state (with_works s.standing.setting (points_at s) s.standing.state e) text_with.run
 
   -- where the events suffice, it goes on as well
   well_with : leb ((run_with s e).state.taken + s.syncs + 1) s.most ≡ true → IsServingWell (go_with s e)
   well_with fits = record {
     few = fits_few ((run_with s e).state.taken) s.syncs s.most fits;
     most = well.most;
-    good = good_all s.standing.home (points_at s) s.standing.state (with_works s.standing.home (points_at s) s.standing.state e) well.good text_with.run;
+    good = good_all s.standing.setting (points_at s) s.standing.state (with_works s.standing.setting (points_at s) s.standing.state e) well.good text_with.run;
   }
     where
       fits_few : (a b c : ℕ) → leb (a + b + 1) c ≡ true → a + (b + 1) ≤ c
@@ -186,14 +186,14 @@ abbrev served_if : Bool → Serving → Entry → Option Served
 served_if b s e = cond b (Some (record { serving = go_with s e; text = lines_of_messages (run_with s e).out })) None
 
 pub served_from : (long : Bool) (number : ℕ) (s : Serving) (lines : List (List ℕ)) → IsServingWell s
-    → ServedFrom s.standing.home (points_at s) s.standing.state lines (outcome long number (Phase.Serving s) lines).0 (outcome long number (Phase.Serving s) lines).1
+    → ServedFrom s.standing.setting (points_at s) s.standing.state lines (outcome long number (Phase.Serving s) lines).0 (outcome long number (Phase.Serving s) lines).1
 unfolding outcome move_of run_of entered after_all
-served_from true number s [] well = some_from [] [] [] refl refl (text_none s.standing.home (points_at s) s.standing.state [] woven_none) refl
-served_from false number s [] well = all_from refl (text_none s.standing.home (points_at s) s.standing.state [] woven_none)
-served_from long number s (line ∷ lines) well = by_heard (heard st line) refl (timely st line) (λ t w. served_from long (number + 1) t lines w)
+served_from true number s [] well = some_from [] [] [] refl refl (text_none s.standing.setting (points_at s) s.standing.state [] woven_none) refl
+served_from false number s [] well = all_from refl (text_none s.standing.setting (points_at s) s.standing.state [] woven_none)
+served_from long number s (line ∷ lines) well = by_received (received st line) refl (timely st line) (λ t w. served_from long (number + 1) t lines w)
   where
-    home : Home
-    home = s.standing.home
+    setting : Setting
+    setting = s.standing.setting
 
     stp_of : List ℕ → Option ℕ
     stp_of = points_at s
@@ -202,37 +202,37 @@ served_from long number s (line ∷ lines) well = by_heard (heard st line) refl 
     st = s.standing.state
 
     Goes : Status × List ℕ → Type 0
-    Goes end = ServedFrom home stp_of st (line ∷ lines) end.0 end.1
+    Goes end = ServedFrom setting stp_of st (line ∷ lines) end.0 end.1
 
     Onward : Type 0
-    Onward = (t : Serving) → IsServingWell t → ServedFrom t.standing.home (points_at t) t.standing.state lines (outcome long (number + 1) (Phase.Serving t) lines).0 (outcome long (number + 1) (Phase.Serving t) lines).1
+    Onward = (t : Serving) → IsServingWell t → ServedFrom t.standing.setting (points_at t) t.standing.state lines (outcome long (number + 1) (Phase.Serving t) lines).0 (outcome long (number + 1) (Phase.Serving t) lines).1
 
-    by_entry : (e : Entry) → Heard.Entry e ≡ heard st line → IsTimelyEntry st e → Onward → (b : Bool) → leb ((run_with s e).state.taken + s.syncs + 1) s.most ≡ b → Goes (comes_of long number lines (served_if b s e))
-    by_entry e h t next true fits = served_behind home stp_of st line (Heard.Entry e) h (lines_of_messages (run_with s e).out) (text_with s e well t) lines _ _ (next (go_with s e) (well_with s e well t fits))
-    by_entry e h t next false fits = some_from [] (line ∷ lines) [] refl refl (text_none home stp_of st [] woven_none) refl
+    by_entry : (e : Entry) → Received.Entry e ≡ received st line → IsTimelyEntry st e → Onward → (b : Bool) → leb ((run_with s e).state.taken + s.syncs + 1) s.most ≡ b → Goes (comes_of long number lines (served_if b s e))
+    by_entry e h t next true fits = served_behind setting stp_of st line (Received.Entry e) h (lines_of_messages (run_with s e).out) (text_with s e well t) lines _ _ (next (go_with s e) (well_with s e well t fits))
+    by_entry e h t next false fits = some_from [] (line ∷ lines) [] refl refl (text_none setting stp_of st [] woven_none) refl
 
-    by_heard : (h : Heard) → h ≡ heard st line → IsTimely st h → Onward → Goes (comes_of long number lines (answered h s number))
-    by_heard Heard.Nothing e t next = served_behind home stp_of st line Heard.Nothing e [] (text_none home stp_of st [] woven_none) lines _ _ (next s well)
-    by_heard (Heard.Fault fault) e t next = served_behind home stp_of st line (Heard.Fault fault) e _ (text_none home stp_of st _ (woven_fault number fault)) lines _ _ (next s well)
-    by_heard (Heard.Entry entry) e t next = by_entry entry e t next (leb ((run_with s entry).state.taken + s.syncs + 1) s.most) refl
+    by_received : (h : Received) → h ≡ received st line → IsTimely st h → Onward → Goes (comes_of long number lines (answered h s number))
+    by_received Received.Nothing e t next = served_behind setting stp_of st line Received.Nothing e [] (text_none setting stp_of st [] woven_none) lines _ _ (next s well)
+    by_received (Received.Fault fault) e t next = served_behind setting stp_of st line (Received.Fault fault) e _ (text_none setting stp_of st _ (woven_fault number fault)) lines _ _ (next s well)
+    by_received (Received.Entry entry) e t next = by_entry entry e t next (leb ((run_with s entry).state.taken + s.syncs + 1) s.most) refl
 
 ---- How it ends
 
 abbrev events_at : Serving → ℕ
 events_at s = s.standing.state.taken + s.syncs
 
-abbrev after_line : Home → (List ℕ → Option ℕ) → State → Heard → List (List ℕ) → ℕ
-after_line home stp_of s h lines = with_sync (entries_of home stp_of s h) + events_of home stp_of (after_all home stp_of s (entries_of home stp_of s h)).state lines
+abbrev after_line : Setting → (List ℕ → Option ℕ) → State → Received → List (List ℕ) → ℕ
+after_line setting stp_of s h lines = with_sync (entries_of setting stp_of s h) + events_of setting stp_of (after_all setting stp_of s (entries_of setting stp_of s h)).state lines
 
 pub ends_by : (long : Bool) (number : ℕ) (s : Serving) (lines : List (List ℕ)) → IsServingWell s
-    → EndsBy long s.most (events_at s + events_of s.standing.home (points_at s) s.standing.state lines) (outcome long number (Phase.Serving s) lines).0
+    → EndsBy long s.most (events_at s + events_of s.standing.setting (points_at s) s.standing.state lines) (outcome long number (Phase.Serving s) lines).0
 unfolding outcome move_of events_of after_all entered
 ends_by true number s [] well = inr (inl refl, refl)
 ends_by false number s [] well = inl (refl, omega (arith, well.few), refl)
-ends_by long number s (line ∷ lines) well = by_heard (heard st line) (timely st line) (λ t w. ends_by long (number + 1) t lines w)
+ends_by long number s (line ∷ lines) well = by_received (received st line) (timely st line) (λ t w. ends_by long (number + 1) t lines w)
   where
-    home : Home
-    home = s.standing.home
+    setting : Setting
+    setting = s.standing.setting
 
     stp_of : List ℕ → Option ℕ
     stp_of = points_at s
@@ -241,7 +241,7 @@ ends_by long number s (line ∷ lines) well = by_heard (heard st line) (timely s
     st = s.standing.state
 
     Onward : Type 0
-    Onward = (t : Serving) → IsServingWell t → EndsBy long t.most (events_at t + events_of t.standing.home (points_at t) t.standing.state lines) (outcome long (number + 1) (Phase.Serving t) lines).0
+    Onward = (t : Serving) → IsServingWell t → EndsBy long t.most (events_at t + events_of t.standing.setting (points_at t) t.standing.state lines) (outcome long (number + 1) (Phase.Serving t) lines).0
 
     plus_none : (a b : ℕ) → a + b ≡ a + (0 + b)
     plus_none a b = omega arith
@@ -253,32 +253,32 @@ ends_by long number s (line ∷ lines) well = by_heard (heard st line) (timely s
     sums now taken k syncs rest e = omega (arith, e)
 
     by_entry : (e : Entry) → IsTimelyEntry st e → Onward → (b : Bool) → leb ((run_with s e).state.taken + s.syncs + 1) s.most ≡ b
-        → EndsBy long s.most (events_at s + after_line home stp_of st (Heard.Entry e) lines) (comes_of long number lines (served_if b s e)).0
+        → EndsBy long s.most (events_at s + after_line setting stp_of st (Received.Entry e) lines) (comes_of long number lines (served_if b s e)).0
     by_entry e t next true fits =
-        let same = sums (run_with s e).state.taken st.taken (length (with_works home stp_of st e)) s.syncs (events_of home stp_of (run_with s e).state lines) (taken_with s e well t) in
+        let same = sums (run_with s e).state.taken st.taken (length (with_works setting stp_of st e)) s.syncs (events_of setting stp_of (run_with s e).state lines) (taken_with s e well t) in
         subst (λ n. EndsBy long s.most n (comes_of long number lines (served_if true s e)).0) same (next (go_with s e) (well_with s e well t fits))
     by_entry e t next false fits =
         let gt : s.most < (run_with s e).state.taken + s.syncs + 1 = fits_not (run_with s e).state.taken s.syncs s.most fits in
         inr (inr (omega (arith, gt, taken_with s e well t)), refl)
 
-    by_heard : (h : Heard) → IsTimely st h → Onward → EndsBy long s.most (events_at s + after_line home stp_of st h lines) (comes_of long number lines (answered h s number)).0
-    by_heard Heard.Nothing t next = subst (λ n. EndsBy long s.most n (outcome long (number + 1) (Phase.Serving s) lines).0) (plus_none (events_at s) _) (next s well)
-    by_heard (Heard.Fault fault) t next = subst (λ n. EndsBy long s.most n (outcome long (number + 1) (Phase.Serving s) lines).0) (plus_none (events_at s) _) (next s well)
-    by_heard (Heard.Entry entry) t next = by_entry entry t next (leb ((run_with s entry).state.taken + s.syncs + 1) s.most) refl
+    by_received : (h : Received) → IsTimely st h → Onward → EndsBy long s.most (events_at s + after_line setting stp_of st h lines) (comes_of long number lines (answered h s number)).0
+    by_received Received.Nothing t next = subst (λ n. EndsBy long s.most n (outcome long (number + 1) (Phase.Serving s) lines).0) (plus_none (events_at s) _) (next s well)
+    by_received (Received.Fault fault) t next = subst (λ n. EndsBy long s.most n (outcome long (number + 1) (Phase.Serving s) lines).0) (plus_none (events_at s) _) (next s well)
+    by_received (Received.Entry entry) t next = by_entry entry t next (leb ((run_with s entry).state.taken + s.syncs + 1) s.most) refl
 
 ---- From the first line on
 
 pub well_at_first : (t : Network) (provider most : ℕ) → most ≤ 2000000 → IsServingWell (serving_of t provider most)
-well_at_first t provider most few = record { few = omega arith; most = few; good = good_blank (home_of t provider) }
+well_at_first t provider most few = record { few = omega arith; most = few; good = good_blank (setting_of t provider) }
 
-safe_text : (home : Home) (stp_of : List ℕ → Option ℕ) (lines : List (List ℕ)) (text : List ℕ) → IsTextOf home stp_of blank (run_of home stp_of blank lines) text → IsSafeText home stp_of lines text
-safe_text home stp_of lines text t = record {
+safe_text : (setting : Setting) (stp_of : List ℕ → Option ℕ) (lines : List (List ℕ)) (text : List ℕ) → IsTextOf setting stp_of blank (run_of setting stp_of blank lines) text → IsSafeText setting stp_of lines text
+safe_text setting stp_of lines text t = record {
   run = t.run;
-  safe = every_run_safe home stp_of blank (run_of home stp_of blank lines) (good_blank home) t.run;
+  safe = every_run_safe setting stp_of blank (run_of setting stp_of blank lines) (good_blank setting) t.run;
   idle = t.idle refl;
   woven = t.woven;
 }
 
-pub served_safely : (home : Home) (stp_of : List ℕ → Option ℕ) (lines : List (List ℕ)) (status : Status) (text : List ℕ) → ServedFrom home stp_of blank lines status text → IsServed home stp_of lines status text
-served_safely home stp_of lines status text (all_from done t) = served_all done (safe_text home stp_of lines text t)
-served_safely home stp_of lines status text (some_from front back body cut long t whole) = served_some front back body cut long (safe_text home stp_of front body t) whole
+pub served_safely : (setting : Setting) (stp_of : List ℕ → Option ℕ) (lines : List (List ℕ)) (status : Status) (text : List ℕ) → ServedFrom setting stp_of blank lines status text → IsServed setting stp_of lines status text
+served_safely setting stp_of lines status text (all_from done t) = served_all done (safe_text setting stp_of lines text t)
+served_safely setting stp_of lines status text (some_from front back body cut long t whole) = served_some front back body cut long (safe_text setting stp_of front body t) whole

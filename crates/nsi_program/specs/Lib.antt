@@ -1,6 +1,7 @@
 pub mod Serving
 pub mod Service
-pub mod Hearing
+pub mod Payload
+pub mod Receiving
 pub mod Lines
 pub mod Runs
 pub mod Outcome

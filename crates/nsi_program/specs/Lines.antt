@@ -5,13 +5,14 @@ use Rattle.nsi_primitive.specs.declared.entry.Entry.{Entry}
 use Rattle.nsi_primitive.specs.declared.message.Message.{Message}
 use Rattle.json_primitives.specs.Spelling.{spelling}
 use Rattle.json_primitives.specs.Payload.{payload_spelling}
-use Rattle.json_primitives.specs.declared.payload.PayloadFault.{PayloadFault}
+use Rattle.nsi_program.specs.Payload.{payload_name, payload_key}
+use Rattle.nsi_program.specs.declared.payload.PayloadFault.{PayloadFault}
 use Rattle.provider_agent.specs.Runs.{after_all}
 use Rattle.provider_agent.specs.State.{Stepped}
 use Rattle.provider_run.specs.Works.{with_works}
-use Rattle.nsi_program.specs.Hearing.{heard}
+use Rattle.nsi_program.specs.Receiving.{received}
 use Rattle.nsi_program.specs.Serving.{Serving, points_at}
-use Rattle.nsi_program.specs.declared.hearing.Heard.{Heard}
+use Rattle.nsi_program.specs.declared.receiving.Received.{Received}
 
 -- bytes as a line
 abbrev pub as_line : List ℕ → List ℕ
@@ -28,7 +29,7 @@ pub record Served : Type 0 where
 
 -- the answer to a line that can't be read or isn't served: its fault, the key of the fault, and the number of the line
 abbrev pub payload : ℕ → PayloadFault → List ℕ
-payload number fault = as_line (payload_spelling fault number)
+payload number fault = as_line (payload_spelling (payload_name fault) (payload_key fault) number)
 
 -- nothing is taken
 abbrev pub says : Serving → List ℕ → Option Served
@@ -42,16 +43,16 @@ served s x =
 
 -- an entry is taken, then all work that waits, and one sync stands behind them
 unfoldable pub entered : Serving → Entry → Option Served
-entered s e = served s (after_all s.standing.home (points_at s) s.standing.state (with_works s.standing.home (points_at s) s.standing.state e))
+entered s e = served s (after_all s.standing.setting (points_at s) s.standing.state (with_works s.standing.setting (points_at s) s.standing.state e))
 
-abbrev pub answered : Heard → Serving → ℕ → Option Served
-answered Heard.Nothing s number = says s []
-answered (Heard.Fault fault) s number = says s (payload number fault)
-answered (Heard.Entry e) s number = entered s e
+abbrev pub answered : Received → Serving → ℕ → Option Served
+answered Received.Nothing s number = says s []
+answered (Received.Fault fault) s number = says s (payload number fault)
+answered (Received.Entry e) s number = entered s e
 
 -- what a line makes of the provider, and its text, where there aren't too many events
 abbrev pub serve : Serving → ℕ → List ℕ → Option Served
-serve s number line = answered (heard s.standing.state line) s number
+serve s number line = answered (received s.standing.state line) s number
 
 abbrev pub long_line : List ℕ
 long_line = as_line (codes "fault long")

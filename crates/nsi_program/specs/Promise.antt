@@ -8,7 +8,7 @@ use Rattle.stp_topology.specs.declared.fault.TopologyFault.{TopologyFault}
 use Rattle.stp_topology.specs.Network.{nothing, first_provider}
 use Rattle.stp_topology.specs.Text.{read_lines}
 use Rattle.nsi_program.specs.Lines.{as_line}
-use Rattle.provider_agent.specs.Home.{home_of, own_stp}
+use Rattle.provider_agent.specs.Setting.{setting_of, own_stp}
 use Rattle.provider_agent.specs.State.{blank}
 use Rattle.nsi_program.specs.Runs.{events_of, ServesSafely}
 use Rattle.nsi_program.specs.Outcome.{outcome, status_of, topology_fault}
@@ -87,7 +87,7 @@ EndsBy long most events status = ((long ≡ false) × (events ≤ most) × (stat
 abbrev pub IsComplete : ℕ → Option (List ℕ) → Option (List ℕ) → Status → Type 0
 IsComplete most content left status =
     IfSome content (λ _. IfSome left (λ bytes. (t : Network) (n provider : ℕ) → read_lines nothing 0 (given_of greatest_input bytes).lines ≡ Ok (t, n) → first_provider t ≡ Some provider
-    → EndsBy (given_of greatest_input bytes).long most (events_of (home_of t provider) (own_stp t provider) blank (drop n (given_of greatest_input bytes).lines)) status))
+    → EndsBy (given_of greatest_input bytes).long most (events_of (setting_of t provider) (own_stp t provider) blank (drop n (given_of greatest_input bytes).lines)) status))
 
 -- What `provide` writes is the text of a safe run.
 abbrev pub IsSafe : Option (List ℕ) → Option (List ℕ) → Status → Option (List ℕ) → Type 0

@@ -3,31 +3,31 @@ use Rattle.std.specs.Prelude.{◌≡◌, ℕ, ◌+◌, List, [], ◌∷◌, ◌+
 use Rattle.std.specs.List.{concat, flat_map}
 use Rattle.nsi_primitive.specs.declared.entry.Entry.{Entry}
 use Rattle.nsi_primitive.specs.declared.message.Message.{Message}
-use Rattle.json_primitives.specs.declared.payload.PayloadFault.{PayloadFault}
+use Rattle.nsi_program.specs.declared.payload.PayloadFault.{PayloadFault}
 use Rattle.json_primitives.specs.Spelling.{spelling}
 use Rattle.stp_topology.specs.declared.network.Network.{Network}
 use Rattle.stp_topology.specs.Network.{nothing, first_provider}
 use Rattle.stp_topology.specs.Text.{read_lines}
-use Rattle.provider_agent.specs.Home.{Home, home_of, own_stp}
+use Rattle.provider_agent.specs.Setting.{Setting, setting_of, own_stp}
 use Rattle.provider_agent.specs.Runs.{after_all}
 use Rattle.provider_agent.specs.Safety.{IsRun, IsSafe}
 use Rattle.provider_agent.specs.State.{State, blank}
 use Rattle.provider_agent.specs.Steps.{waiting_work}
 use Rattle.provider_run.specs.Works.{with_works}
-use Rattle.nsi_program.specs.Hearing.{heard}
+use Rattle.nsi_program.specs.Receiving.{received}
 use Rattle.nsi_program.specs.Lines.{as_line, payload, long_line}
-use Rattle.nsi_program.specs.declared.hearing.Heard.{Heard}
+use Rattle.nsi_program.specs.declared.receiving.Received.{Received}
 use Rattle.nsi_program.specs.declared.status.Status.{Status}
 
 -- the entries of a line: the one that it says, and all work that waits then
-abbrev pub entries_of : Home → (List ℕ → Option ℕ) → State → Heard → List Entry
-entries_of home stp_of s (Heard.Entry e) = with_works home stp_of s e
-entries_of home stp_of s h = []
+abbrev pub entries_of : Setting → (List ℕ → Option ℕ) → State → Received → List Entry
+entries_of setting stp_of s (Received.Entry e) = with_works setting stp_of s e
+entries_of setting stp_of s h = []
 
 -- the entries of lines, one line after another
-unfoldable pub run_of : Home → (List ℕ → Option ℕ) → State → List (List ℕ) → List Entry
-run_of home stp_of s [] = []
-run_of home stp_of s (line ∷ lines) = entries_of home stp_of s (heard s line) ++ run_of home stp_of (after_all home stp_of s (entries_of home stp_of s (heard s line))).state lines
+unfoldable pub run_of : Setting → (List ℕ → Option ℕ) → State → List (List ℕ) → List Entry
+run_of setting stp_of s [] = []
+run_of setting stp_of s (line ∷ lines) = entries_of setting stp_of s (received s line) ++ run_of setting stp_of (after_all setting stp_of s (entries_of setting stp_of s (received s line))).state lines
 
 -- entries and one sync behind them
 abbrev pub with_sync : List Entry → ℕ
@@ -35,10 +35,10 @@ with_sync [] = 0
 with_sync (e ∷ es) = length (e ∷ es) + 1
 
 -- how many events lines make
-unfoldable pub events_of : Home → (List ℕ → Option ℕ) → State → List (List ℕ) → ℕ
-events_of home stp_of s [] = 0
-events_of home stp_of s (line ∷ lines) =
-    with_sync (entries_of home stp_of s (heard s line)) + events_of home stp_of (after_all home stp_of s (entries_of home stp_of s (heard s line))).state lines
+unfoldable pub events_of : Setting → (List ℕ → Option ℕ) → State → List (List ℕ) → ℕ
+events_of setting stp_of s [] = 0
+events_of setting stp_of s (line ∷ lines) =
+    with_sync (entries_of setting stp_of s (received s line)) + events_of setting stp_of (after_all setting stp_of s (entries_of setting stp_of s (received s line))).state lines
 
 ---- The text
 
@@ -60,24 +60,24 @@ IsWoven messages text = (pieces : List Piece) × (messages ≡ flat_map said pie
 
 -- What lines make of a provider is a run in which no load passes a capacity, the versions of each record rise, and a refusal for bandwidth names the first lack;
 -- no work waits at its end, and the text has all its messages.
-pub record IsSafeText (home : Home) (stp_of : List ℕ → Option ℕ) (lines : List (List ℕ)) (text : List ℕ) : Type 0 where
-  pub run : IsRun home stp_of blank (run_of home stp_of blank lines)
-  pub safe : IsSafe home stp_of blank (run_of home stp_of blank lines)
-  pub idle : waiting_work (after_all home stp_of blank (run_of home stp_of blank lines)).state ≡ None
-  pub woven : IsWoven (after_all home stp_of blank (run_of home stp_of blank lines)).out text
+pub record IsSafeText (setting : Setting) (stp_of : List ℕ → Option ℕ) (lines : List (List ℕ)) (text : List ℕ) : Type 0 where
+  pub run : IsRun setting stp_of blank (run_of setting stp_of blank lines)
+  pub safe : IsSafe setting stp_of blank (run_of setting stp_of blank lines)
+  pub idle : waiting_work (after_all setting stp_of blank (run_of setting stp_of blank lines)).state ≡ None
+  pub woven : IsWoven (after_all setting stp_of blank (run_of setting stp_of blank lines)).out text
 
 -- all lines are served, or some of them and then there is too much
-pub data IsServed (home : Home) (stp_of : List ℕ → Option ℕ) (lines : List (List ℕ)) (status : Status) (text : List ℕ) : Type 0 where
-  served_all : status ≡ Status.Done → IsSafeText home stp_of lines text → IsServed home stp_of lines status text
-  served_some : (front back : List (List ℕ)) → (body : List ℕ) → lines ≡ front ++ back → status ≡ Status.Long → IsSafeText home stp_of front body → text ≡ body ++ long_line
-      → IsServed home stp_of lines status text
+pub data IsServed (setting : Setting) (stp_of : List ℕ → Option ℕ) (lines : List (List ℕ)) (status : Status) (text : List ℕ) : Type 0 where
+  served_all : status ≡ Status.Done → IsSafeText setting stp_of lines text → IsServed setting stp_of lines status text
+  served_some : (front back : List (List ℕ)) → (body : List ℕ) → lines ≡ front ++ back → status ≡ Status.Long → IsSafeText setting stp_of front body → text ≡ body ++ long_line
+      → IsServed setting stp_of lines status text
 
 -- So `provide` serves the lines behind a topology that has a provider: what it writes, and how it ends.
 abbrev pub ServesSafely : List (List ℕ) → Status → List ℕ → Type 0
 ServesSafely lines status text =
-    (t : Network) (n provider : ℕ) → read_lines nothing 0 lines ≡ Ok (t, n) → first_provider t ≡ Some provider → IsServed (home_of t provider) (own_stp t provider) (drop n lines) status text
+    (t : Network) (n provider : ℕ) → read_lines nothing 0 lines ≡ Ok (t, n) → first_provider t ≡ Some provider → IsServed (setting_of t provider) (own_stp t provider) (drop n lines) status text
 
 -- Where none of the lines ends the command, and they begin with a topology that has a provider, the others are all served.
 abbrev pub RunsSafely : List (List ℕ) → List ℕ → Type 0
 RunsSafely lines text =
-    (t : Network) (n provider : ℕ) → read_lines nothing 0 lines ≡ Ok (t, n) → first_provider t ≡ Some provider → IsSafeText (home_of t provider) (own_stp t provider) (drop n lines) text
+    (t : Network) (n provider : ℕ) → read_lines nothing 0 lines ≡ Ok (t, n) → first_provider t ≡ Some provider → IsSafeText (setting_of t provider) (own_stp t provider) (drop n lines) text

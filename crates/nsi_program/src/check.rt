@@ -1,13 +1,13 @@
 //! The command `check`: a topology, and then least paths. The whole input is read first.
 
-ghost use Rattle.std.specs.Prelude.{◌≡◌, ◌<◌, ◌≤◌, ◌⊎◌, ◌++◌, ◌∷◌, [], ℕ, List, length, codes, true, false, IfSome, IsErrOf, OnOk, OnErr};
+ghost use Rattle.std.specs.Prelude.{◌≡◌, ◌<◌, ◌≤◌, ◌⊎◌, ◌++◌, ◌∷◌, [], ℕ, List, length, codes, true, false, IfSome, OnOk, OnErr};
 ghost use Rattle.nsi_base.specs.Lines.{lines_of};
 ghost use Rattle.stp_topology.specs.Text.{topology_of};
 ghost use Rattle.nsi_program.specs.Check.{count_line, Answers, AnswersAll, AnswersFront, Counts, ChecksRead, Checks, BeginsRead, Begins};
 ghost use Rattle.nsi_program.specs.Lines.{as_line};
 ghost use Rattle.nsi_program.specs.Outcome.{topology_fault};
 ghost use Rattle.nsi_program.specs.Promise.{is_told, read_fault_line, Writes, WritesFront};
-ghost use Rattle.nsi_program.specs.Writes.{WritesSome, WritesSomeFront};
+ghost use Rattle.nsi_program.specs.Writes.{WritesSome, WritesSomeFront, CountsFaults, TellsFaults};
 
 use crate::output::{Fault, read_fault, write_text};
 use crate::paths::{answer, count_line};
@@ -22,14 +22,18 @@ use stp_topology::{Topology, TopologyFault, TopologyRefusal, read_topology};
 
 /// The command `check`.
 pub(crate) fn check<S: Source, K: Sink>(alloc: Global, input: &mut S, out: &mut K) -> Status
-    ensures ends { is_told result ≡ true → IfSome (S.left input.old) (λ bytes. WritesSome (Checks bytes result) (K.content out.old) (K.content out.new)) }
+    ensures ends { is_told result ≡ true → IfSome (S.left input.old)
+        (λ bytes. WritesSome (Checks bytes result) (K.content out.old) (K.content out.new)) }
     ensures not_usage { result ≡ Status.Usage → ⊥ }
     ensures read_fault { result ≡ Status.ReadFault → S.faults input.old < S.faults input.new }
-    ensures alone { result ≡ Status.ReadFault → Writes (K.content out.old) (K.content out.new) read_fault_line }
+    ensures alone { result ≡ Status.ReadFault →
+        Writes (K.content out.old) (K.content out.new) read_fault_line }
     ensures write_fault { result ≡ Status.WriteFault → K.faults out.old < K.faults out.new }
-    ensures unfinished { (result ≡ Status.WriteFault) ⊎ (result ≡ Status.NoMemory)
-        → ((S.faults input.new ≡ S.faults input.old) × IfSome (S.left input.old) (λ bytes. WritesSomeFront (Begins bytes) (K.content out.old) (K.content out.new)))
-        ⊎ ((S.faults input.old < S.faults input.new) × WritesFront (K.content out.old) (K.content out.new) read_fault_line) }
+    ensures unfinished { (result ≡ Status.WriteFault) ⊎ (result ≡ Status.NoMemory) →
+        ((S.faults input.new ≡ S.faults input.old) × IfSome (S.left input.old)
+        (λ bytes. WritesSomeFront (Begins bytes) (K.content out.old) (K.content out.new))) ⊎
+        ((S.faults input.old < S.faults input.new) ×
+        WritesFront (K.content out.old) (K.content out.new) read_fault_line) }
     ensures quiet_in { is_told result ≡ true → S.faults input.new ≡ S.faults input.old }
     ensures quiet_out { is_told result ≡ true → K.faults out.new ≡ K.faults out.old }
     ensures reading { result ≡ Status.ReadFault → K.faults out.new ≡ K.faults out.old }
@@ -45,8 +49,10 @@ pub(crate) fn check<S: Source, K: Sink>(alloc: Global, input: &mut S, out: &mut 
 
 /// These bytes make `check` end in one way and write one text, of which what is written up to a line is a front.
 pub fn one_check()
-    ensures text { (bytes : List ℕ) (status other : Status) (x y : List ℕ) → Checks bytes status x → Checks bytes other y → (status ≡ other) × (x ≡ y) }
-    ensures front { (bytes : List ℕ) (status : Status) (x y : List ℕ) → Begins bytes x → Checks bytes status y → (rest : List ℕ) × (y ≡ x ++ rest) }
+    ensures text { (bytes : List ℕ) (status other : Status) (x y : List ℕ) →
+        Checks bytes status x → Checks bytes other y → (status ≡ other) × (x ≡ y) }
+    ensures front { (bytes : List ℕ) (status : Status) (x y : List ℕ) →
+        Begins bytes x → Checks bytes status y → (rest : List ℕ) × (y ≡ x ++ rest) }
 {}
 
 /// The status of a fault of writing.
@@ -66,12 +72,12 @@ fn fault_status(fault: Fault) -> Status
 
 /// Writes that there are more bytes than are taken.
 fn long<K: Sink>(out: &mut K) -> Status
-    ensures all { is_told result ≡ true → (result ≡ Status.Long) × Writes (K.content out.old) (K.content out.new) (as_line (codes "fault long")) }
-    ensures front { is_told result ≡ false → WritesFront (K.content out.old) (K.content out.new) (as_line (codes "fault long")) }
-    ensures write { result ≡ Status.WriteFault → K.faults out.old < K.faults out.new }
-    ensures not_read { result ≡ Status.ReadFault → ⊥ }
-    ensures quiet { is_told result ≡ true → K.faults out.new ≡ K.faults out.old }
-    ensures memory { result ≡ Status.NoMemory → K.faults out.new ≡ K.faults out.old }
+    ensures all { let line = as_line (codes "fault long") in
+        is_told result ≡ true →
+        (result ≡ Status.Long) × Writes (K.content out.old) (K.content out.new) line }
+    ensures front { let line = as_line (codes "fault long") in
+        is_told result ≡ false → WritesFront (K.content out.old) (K.content out.new) line }
+    ensures faults { TellsFaults result (K.faults out.old) (K.faults out.new) }
 {
     match write_text(out, b"fault long\n") {
         Ok(()) => Status::Long,
@@ -82,13 +88,13 @@ fn long<K: Sink>(out: &mut K) -> Status
 /// Reads the topology, and answers the lines behind it.
 fn check_bytes<K: Sink>(alloc: Global, out: &mut K, bytes: &[u8]) -> Status
     requires { length bytes.now ≤ 67108864 }
-    ensures all { is_told result ≡ true → WritesSome (ChecksRead (topology_of bytes.now) bytes.now result) (K.content out.old) (K.content out.new) }
-    ensures front { is_told result ≡ false → WritesSomeFront (BeginsRead (topology_of bytes.now) bytes.now) (K.content out.old) (K.content out.new) }
+    ensures all { let read = topology_of bytes.now in
+        let texts = ChecksRead read bytes.now result in
+        is_told result ≡ true → WritesSome texts (K.content out.old) (K.content out.new) }
+    ensures front { let texts = BeginsRead (topology_of bytes.now) bytes.now in
+        is_told result ≡ false → WritesSomeFront texts (K.content out.old) (K.content out.new) }
     ensures not_usage { result ≡ Status.Usage → ⊥ }
-    ensures write { result ≡ Status.WriteFault → K.faults out.old < K.faults out.new }
-    ensures not_read { result ≡ Status.ReadFault → ⊥ }
-    ensures quiet { is_told result ≡ true → K.faults out.new ≡ K.faults out.old }
-    ensures memory { result ≡ Status.NoMemory → K.faults out.new ≡ K.faults out.old }
+    ensures faults { TellsFaults result (K.faults out.old) (K.faults out.new) }
 {
     match read_topology(alloc, bytes) {
         Ok((topology, place)) => {
@@ -102,12 +108,12 @@ fn check_bytes<K: Sink>(alloc: Global, out: &mut K, bytes: &[u8]) -> Status
 
 /// Writes which line of the topology is faulty.
 fn bad_topology<K: Sink>(alloc: Global, out: &mut K, line: u32, fault: TopologyFault) -> Status
-    ensures all { is_told result ≡ true → (result ≡ Status.BadTopology) × Writes (K.content out.old) (K.content out.new) (topology_fault line fault) }
-    ensures front { is_told result ≡ false → WritesFront (K.content out.old) (K.content out.new) (topology_fault line fault) }
-    ensures write { result ≡ Status.WriteFault → K.faults out.old < K.faults out.new }
-    ensures not_read { result ≡ Status.ReadFault → ⊥ }
-    ensures quiet { is_told result ≡ true → K.faults out.new ≡ K.faults out.old }
-    ensures memory { result ≡ Status.NoMemory → K.faults out.new ≡ K.faults out.old }
+    ensures all { let text = topology_fault line fault in
+        is_told result ≡ true →
+        (result ≡ Status.BadTopology) × Writes (K.content out.old) (K.content out.new) text }
+    ensures front { let text = topology_fault line fault in
+        is_told result ≡ false → WritesFront (K.content out.old) (K.content out.new) text }
+    ensures faults { TellsFaults result (K.faults out.old) (K.faults out.new) }
 {
     let Ok(text) = topology_fault(alloc, u64::from(line), fault) else {
         return Status::NoMemory;
@@ -120,12 +126,13 @@ fn bad_topology<K: Sink>(alloc: Global, out: &mut K, line: u32, fault: TopologyF
 
 /// Writes the counts, and the answers to the lines.
 fn answer_all<K: Sink>(alloc: Global, out: &mut K, topology: &Topology, lines: &[u8]) -> Status
-    ensures all { is_told result ≡ true → (result ≡ Status.Done) × WritesSome (Counts topology.now (AnswersAll topology.now (lines_of lines.now))) (K.content out.old) (K.content out.new) }
-    ensures front { is_told result ≡ false → WritesSomeFront (Counts topology.now (AnswersFront topology.now (lines_of lines.now))) (K.content out.old) (K.content out.new) }
-    ensures write { result ≡ Status.WriteFault → K.faults out.old < K.faults out.new }
-    ensures not_read { result ≡ Status.ReadFault → ⊥ }
-    ensures quiet { is_told result ≡ true → K.faults out.new ≡ K.faults out.old }
-    ensures memory { result ≡ Status.NoMemory → K.faults out.new ≡ K.faults out.old }
+    ensures all { let texts = Counts topology.now (AnswersAll topology.now (lines_of lines.now)) in
+        is_told result ≡ true →
+        (result ≡ Status.Done) × WritesSome texts (K.content out.old) (K.content out.new) }
+    ensures front { let answers = AnswersFront topology.now (lines_of lines.now) in
+        let texts = Counts topology.now answers in
+        is_told result ≡ false → WritesSomeFront texts (K.content out.old) (K.content out.new) }
+    ensures faults { TellsFaults result (K.faults out.old) (K.faults out.new) }
 {
     match write_answers(alloc, out, topology, lines) {
         Ok(()) => Status::Done,
@@ -139,12 +146,12 @@ fn write_answers<K: Sink>(
     topology: &Topology,
     lines: &[u8],
 ) -> Result<(), Fault>
-    ensures all { OnOk result (WritesSome (Counts topology.now (AnswersAll topology.now (lines_of lines.now))) (K.content out.old) (K.content out.new)) }
-    ensures front { OnErr result (WritesSomeFront (Counts topology.now (AnswersFront topology.now (lines_of lines.now))) (K.content out.old) (K.content out.new)) }
-    ensures write { IsErrOf result Fault.Write → K.faults out.old < K.faults out.new }
-    ensures not_read { IsErrOf result Fault.Read → ⊥ }
-    ensures quiet { OnOk result (K.faults out.new ≡ K.faults out.old) }
-    ensures memory { IsErrOf result Fault.NoMemory → K.faults out.new ≡ K.faults out.old }
+    ensures all { let texts = Counts topology.now (AnswersAll topology.now (lines_of lines.now)) in
+        OnOk result (WritesSome texts (K.content out.old) (K.content out.new)) }
+    ensures front { let answers = AnswersFront topology.now (lines_of lines.now) in
+        let texts = Counts topology.now answers in
+        OnErr result (WritesSomeFront texts (K.content out.old) (K.content out.new)) }
+    ensures faults { CountsFaults result (K.faults out.old) (K.faults out.new) }
 {
     write_counts(alloc, out, topology)?;
     answer_lines(alloc, out, topology, lines)?;
@@ -152,12 +159,11 @@ fn write_answers<K: Sink>(
 }
 
 fn write_counts<K: Sink>(alloc: Global, out: &mut K, topology: &Topology) -> Result<(), Fault>
-    ensures all { OnOk result (Writes (K.content out.old) (K.content out.new) (count_line topology.now)) }
-    ensures front { OnErr result (WritesFront (K.content out.old) (K.content out.new) (count_line topology.now)) }
-    ensures write { IsErrOf result Fault.Write → K.faults out.old < K.faults out.new }
-    ensures not_read { IsErrOf result Fault.Read → ⊥ }
-    ensures quiet { OnOk result (K.faults out.new ≡ K.faults out.old) }
-    ensures memory { IsErrOf result Fault.NoMemory → K.faults out.new ≡ K.faults out.old }
+    ensures all { let line = count_line topology.now in
+        OnOk result (Writes (K.content out.old) (K.content out.new) line) }
+    ensures front { let line = count_line topology.now in
+        OnErr result (WritesFront (K.content out.old) (K.content out.new) line) }
+    ensures faults { CountsFaults result (K.faults out.old) (K.faults out.new) }
 {
     let Ok(text) = count_line(alloc, topology) else {
         return Err(Fault::NoMemory);
@@ -173,12 +179,11 @@ fn answer_lines<K: Sink>(
     topology: &Topology,
     lines: &[u8],
 ) -> Result<(), Fault>
-    ensures all { OnOk result (WritesSome (AnswersAll topology.now (lines_of lines.now)) (K.content out.old) (K.content out.new)) }
-    ensures front { OnErr result (WritesSomeFront (AnswersFront topology.now (lines_of lines.now)) (K.content out.old) (K.content out.new)) }
-    ensures write { IsErrOf result Fault.Write → K.faults out.old < K.faults out.new }
-    ensures not_read { IsErrOf result Fault.Read → ⊥ }
-    ensures quiet { OnOk result (K.faults out.new ≡ K.faults out.old) }
-    ensures memory { IsErrOf result Fault.NoMemory → K.faults out.new ≡ K.faults out.old }
+    ensures all { let texts = AnswersAll topology.now (lines_of lines.now) in
+        OnOk result (WritesSome texts (K.content out.old) (K.content out.new)) }
+    ensures front { let texts = AnswersFront topology.now (lines_of lines.now) in
+        OnErr result (WritesSomeFront texts (K.content out.old) (K.content out.new)) }
+    ensures faults { CountsFaults result (K.faults out.old) (K.faults out.new) }
 {
     let mut rest = lines;
     'lines: while 0 < rest.len() {
@@ -196,12 +201,11 @@ fn answer_line<K: Sink>(
     topology: &Topology,
     line: &[u8],
 ) -> Result<(), Fault>
-    ensures all { OnOk result (WritesSome (Answers topology.now line.now) (K.content out.old) (K.content out.new)) }
-    ensures front { OnErr result (WritesSomeFront (AnswersFront topology.now (line.now ∷ [])) (K.content out.old) (K.content out.new)) }
-    ensures write { IsErrOf result Fault.Write → K.faults out.old < K.faults out.new }
-    ensures not_read { IsErrOf result Fault.Read → ⊥ }
-    ensures quiet { OnOk result (K.faults out.new ≡ K.faults out.old) }
-    ensures memory { IsErrOf result Fault.NoMemory → K.faults out.new ≡ K.faults out.old }
+    ensures all { let texts = Answers topology.now line.now in
+        OnOk result (WritesSome texts (K.content out.old) (K.content out.new)) }
+    ensures front { let texts = AnswersFront topology.now (line.now ∷ []) in
+        OnErr result (WritesSomeFront texts (K.content out.old) (K.content out.new)) }
+    ensures faults { CountsFaults result (K.faults out.old) (K.faults out.new) }
 {
     let Ok(text) = answer(alloc, topology, line) else {
         return Err(Fault::NoMemory);

@@ -3,10 +3,11 @@
 
 mod asked;
 mod check;
-mod hearing;
 mod output;
 mod paths;
+pub mod payload;
 mod provide;
+mod receiving;
 mod service;
 pub mod status;
 mod top;

@@ -1,7 +1,8 @@
 //! Texts that are written, and faults from outside.
 
-ghost use Rattle.std.specs.Prelude.{◌≡◌, ◌<◌, IsErrOf, OnOk, OnErr, false};
+ghost use Rattle.std.specs.Prelude.{◌≡◌, ◌<◌, OnOk, OnErr, false};
 ghost use Rattle.nsi_program.specs.Promise.{is_told, read_fault_line, Writes, WritesFront};
+ghost use Rattle.nsi_program.specs.Writes.{CountsFaults};
 
 use crate::status::Status;
 use nsi_outside::{Sink, SinkError, write_all};
@@ -18,10 +19,7 @@ pub(crate) enum Fault {
 pub(crate) fn write_text<K: Sink>(out: &mut K, text: &[u8]) -> Result<(), Fault>
     ensures all { OnOk result (Writes (K.content out.old) (K.content out.new) text.now) }
     ensures front { OnErr result (WritesFront (K.content out.old) (K.content out.new) text.now) }
-    ensures write { IsErrOf result Fault.Write → K.faults out.old < K.faults out.new }
-    ensures not_read { IsErrOf result Fault.Read → ⊥ }
-    ensures quiet { OnOk result (K.faults out.new ≡ K.faults out.old) }
-    ensures memory { IsErrOf result Fault.NoMemory → K.faults out.new ≡ K.faults out.old }
+    ensures faults { CountsFaults result (K.faults out.old) (K.faults out.new) }
 {
     match write_all(out, text) {
         Ok(()) => Ok(()),

@@ -3,13 +3,13 @@
 ghost use Rattle.std.specs.Prelude.{◌≡◌, ◌<◌, length, All, IfOk, option_map};
 ghost use Rattle.nsi_primitive.specs.Printable.{IsPrintable};
 ghost use Rattle.stp_topology.specs.Sound.{IsProvider};
-ghost use Rattle.nsi_program.specs.Hearing.{IsTimely, IsTimelyEntry};
-ghost use Rattle.nsi_program.specs.Lines.{payload, entered, answered, serve, lines_of_messages};
+ghost use Rattle.nsi_program.specs.Receiving.{IsTimely, IsTimelyEntry};
+ghost use Rattle.nsi_program.specs.Lines.{entered, answered, serve, lines_of_messages};
 
-use crate::hearing::{Heard, hear};
-use crate::provide::as_line;
+use crate::payload::payload;
+use crate::receiving::{Received, receive};
 use crate::words::EventLimit;
-use json_primitives::{PayloadFault, print_message, print_payload};
+use json_primitives::print_message;
 use nsi_base::AgentNo;
 use nsi_primitive::{Entry, Message};
 use provider_agent::Provider;
@@ -70,8 +70,8 @@ impl Service {
     ) -> Result<Option<Vec<u8>>, AllocError>
         ensures { IfOk result (λ text. serve self.old number line.now ≡ option_map (λ t. record { serving = self.new; text = t.items }) text) }
     {
-        let heard = hear(alloc, &self.provider, line)?;
-        self.answer(alloc, number, &heard)
+        let received = receive(alloc, &self.provider, line)?;
+        self.answer(alloc, number, &received)
     }
 
     /// Answers what a line says.
@@ -79,18 +79,18 @@ impl Service {
         &mut self,
         alloc: Global,
         number: u64,
-        heard: &Heard,
+        received: &Received,
     ) -> Result<Option<Vec<u8>>, AllocError>
-        requires { IsTimely self.old.standing.state heard.now }
-        ensures { IfOk result (λ text. answered heard.now self.old number ≡ option_map (λ t. record { serving = self.new; text = t.items }) text) }
+        requires { IsTimely self.old.standing.state received.now }
+        ensures { IfOk result (λ text. answered received.now self.old number ≡ option_map (λ t. record { serving = self.new; text = t.items }) text) }
     {
-        match heard {
-            Heard::Nothing => Ok(Some(Vec::new(alloc))),
-            Heard::Fault(fault) => {
+        match received {
+            Received::Nothing => Ok(Some(Vec::new(alloc))),
+            Received::Fault(fault) => {
                 let text = payload(alloc, number, *fault)?;
                 Ok(Some(text))
             }
-            Heard::Entry(entry) => self.take(alloc, entry),
+            Received::Entry(entry) => self.take(alloc, entry),
         }
     }
 
@@ -112,14 +112,6 @@ impl Service {
         let text = lines_of_messages(alloc, &run.messages)?;
         Ok(Some(text))
     }
-}
-
-/// The answer to a line that can't be read, or isn't served.
-fn payload(alloc: Global, number: u64, fault: PayloadFault) -> Result<Vec<u8>, AllocError>
-    ensures { IfOk result (λ text. text.items ≡ payload number fault) }
-{
-    let text = print_payload(alloc, fault, number)?;
-    as_line(text)
 }
 
 /// Messages, each as a line.

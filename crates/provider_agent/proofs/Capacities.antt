@@ -1,5 +1,5 @@
 -- The capacities of one point more.
-use Rattle.std.proofs.Common.{◌≡◌, ◌≤◌, ◌<◌, ◌+◌, ℕ, zero, suc, add-one, Bool, true, false, ◌==◌, ◌&&◌, if◌then◌else◌, List, [], ◌∷◌, ◌++◌, length, Option, Some, None, inl, inr, refl, ap, sym, subst, ◌∙◌, arith}
+use Rattle.std.proofs.Common.{◌≡◌, ◌≤◌, ◌<◌, ◌+◌, ℕ, zero, suc, add-one, Bool, true, false, ◌==◌, ◌&&◌, if◌then◌else◌, List, [], ◌∷◌, ◌++◌, length, Option, Some, None, inl, inr, refl, ap, sym, ◌∙◌, arith}
 use Rattle.std.proofs.lemmas.Bool.{cases_eq, cases_lt}
 use Rattle.std.proofs.lemmas.Bool.Decides.{nat_tests}
 use Rattle.nsi_base.specs.Range.{within}
@@ -8,8 +8,7 @@ use Rattle.stp_topology.specs.declared.network.Network.{Network}
 use Rattle.stp_topology.specs.Network.{owner_of, capacity_of}
 use Rattle.capacity_calendar.specs.declared.booking.Capacity.{Capacity}
 use Rattle.capacity_calendar.specs.Plan.{capacity_at, is_same_flow}
-use Rattle.connection_record.specs.Demand.{load}
-use Rattle.provider_agent.specs.Home.{capacities_among, of_own, of_point, of_flow, home_of}
+use Rattle.provider_agent.specs.Setting.{capacities_among, of_own, of_point, of_flow, setting_of}
 use Rattle.provider_agent.specs.State.{State}
 use Rattle.provider_agent.specs.Safety.{IsCapped}
 use Rattle.provider_agent.specs.Points.{IsPointOf, IsWithinTopology}
@@ -122,13 +121,13 @@ own_within t provider (suc n) stp flow l = elim (cases_eq n stp) [
 ---- What the topology declares
 
 -- The provider's points have the capacities that the topology declares.
-pub own_capacity : (t : Network) (provider stp : ℕ) (flow : Flow) → IsPointOf t provider stp → capacity_at (home_of t provider).capacities stp flow ≡ capacity_of t stp flow
+pub own_capacity : (t : Network) (provider stp : ℕ) (flow : Flow) → IsPointOf t provider stp → capacity_at (setting_of t provider).capacities stp flow ≡ capacity_of t stp flow
 own_capacity t provider stp flow own =
     own_within t provider (length t.stps) stp flow own.within
     ∙ ap (λ b. if b then capacity_of t stp flow else None) (ap (λ k. k == provider) own.owner ∙ same_place provider)
 
 -- No other point has a capacity.
-pub no_other : (t : Network) (provider stp : ℕ) (flow : Flow) → (IsPointOf t provider stp → ⊥) → capacity_at (home_of t provider).capacities stp flow ≡ None
+pub no_other : (t : Network) (provider stp : ℕ) (flow : Flow) → (IsPointOf t provider stp → ⊥) → capacity_at (setting_of t provider).capacities stp flow ≡ None
 no_other t provider stp flow none = elim (cases_lt stp (length t.stps)) [
   | inr l ↦ none_before t provider (length t.stps) stp flow l
   | inl l ↦
@@ -136,6 +135,6 @@ no_other t provider stp flow none = elim (cases_lt stp (length t.stps)) [
       ∙ ap (λ b. if b then capacity_of t stp flow else None) (other_place (owner_of t stp) provider (λ e. none (record { within = l; owner = e })))
 ]
 
-pub within_topology : (t : Network) (provider : ℕ) (s : State) → IsCapped (home_of t provider) s → IsWithinTopology t provider s
+pub within_topology : (t : Network) (provider : ℕ) (s : State) → IsCapped (setting_of t provider) s → IsWithinTopology t provider s
 within_topology t provider s capped stp own flow second capacity declared =
     capped flow stp second capacity (own_capacity t provider stp flow own ∙ declared)

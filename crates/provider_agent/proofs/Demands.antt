@@ -14,17 +14,20 @@ use Rattle.nsi_primitive.specs.declared.state.Side.{Side}
 use Rattle.nsi_primitive.specs.declared.message.Criteria.{Criteria}
 use Rattle.nsi_primitive.specs.declared.message.Exception.{Exception}
 use Rattle.nsi_primitive.specs.declared.message.Service.{Service}
+use Rattle.reserve_machine.specs.Table.{step as reserve_step}
+use Rattle.provision_machine.specs.Table.{step as provision_step}
+use Rattle.lifecycle_machine.specs.Table.{step as lifecycle_step}
 use Rattle.connection_record.specs.declared.record.Record.{Record}
 use Rattle.connection_record.specs.declared.life.LifecycleMove.{LifecycleMove}
 use Rattle.connection_record.specs.declared.moves.Origin.{Origin}
 use Rattle.connection_record.specs.declared.moves.ReservationMove.{ReservationMove}
 use Rattle.connection_record.specs.declared.provisioning.ProvisionMove.{ProvisionMove}
-use Rattle.connection_record.specs.declared.turn.Move.{Move}
+use Rattle.connection_record.specs.declared.apply.Move.{Move}
 use Rattle.connection_record.specs.Demand.{last, held, claim, claims, is_booked, is_terminated, demand}
-use Rattle.connection_record.specs.Lives.{provisions, provisions_if, lives, lives_if}
-use Rattle.connection_record.specs.Moves.{reserves, reserves_if, committed_with, hold_end, is_live}
+use Rattle.connection_record.specs.Lives.{provision_event, lifecycle_event, provisions, provisions_if, lives, lives_if}
+use Rattle.connection_record.specs.Moves.{event_of, reserves, reserves_if, committed_with, hold_end, is_live}
 use Rattle.connection_record.specs.Replies.{Moved, plain}
-use Rattle.connection_record.specs.Turns.{closes_reservation, closes_provision, reservation_closing, provision_closing, closes, moves, moves_if, schedule_end, ticks, ticked, tells}
+use Rattle.connection_record.specs.Applied.{closes_reservation, closes_provision, reservation_closing, provision_closing, closes, moves, moves_if, schedule_end, ticks, ticked, tells}
 use Rattle.provider_agent.proofs.RecordPlaces.{last_pushed}
 use Rattle.provider_agent.proofs.Turning.{told_keeps}
 
@@ -74,11 +77,11 @@ IsNoFitReservation (ReservationMove.Fit deadline) = ⊥
 IsNoFitReservation _ = Unit {0}
 
 reserves_claimant : (k : Rsm) (move : ReservationMove) (now : ℕ) (r : Record) → IsClaimant (reserves k move now r).rec r
-unfolding reserves
+unfolding reserves reserve_step event_of
 reserves_claimant k move now r = grind arith
 
 reserves_claims : (k : Rsm) (move : ReservationMove) (now : ℕ) (r : Record) (t : ℕ) → r.rsm ≡ k → IsNoFitReservation move → claims (reserves k move now r).rec t ≤ claims r t
-unfolding reserves
+unfolding reserves reserve_step event_of
 reserves_claims k move now r t e f = grind (arith, nat_tests, claim_committed)
 
 -- but for a fit no move raises a demand
@@ -89,7 +92,7 @@ reserves_demand k move now r flow stp t e f = demand_le (reserves k move now r).
 pub fit_demand : (deadline : Option ℕ) (now : ℕ) (r : Record) (c : Criteria) (flow : Flow) (stp t : ℕ) → r.rsm ≡ Rsm.ReserveChecking → r.pending ≡ Some c
     → (demand flow stp t (reserves Rsm.ReserveChecking (ReservationMove.Fit deadline) now r).rec ≤ demand flow stp t r)
     ⊎ ((is_booked flow stp r ≡ true) × (is_covered c.interval t ≡ true) × (demand flow stp t (reserves Rsm.ReserveChecking (ReservationMove.Fit deadline) now r).rec ≤ c.capacity))
-unfolding reserves demand
+unfolding reserves reserve_step event_of demand
 fit_demand deadline now r c flow stp t e p = grind (arith, nat_tests)
 
 reserves_if_demand : (o : Option ReservationMove) (now : ℕ) (r : Record) (flow : Flow) (stp t : ℕ) → IfSome o IsNoFitReservation → demand flow stp t (reserves_if o now r).rec ≤ demand flow stp t r
@@ -108,19 +111,19 @@ claims_same a b t same =
     grind (arith, committed, pending)
 
 provisions_claimant : (side : Side) (k : Psm) (move : ProvisionMove) (now : ℕ) (r : Record) → IsClaimant (provisions side k move now r).rec r
-unfolding provisions
+unfolding provisions provision_step provision_event
 provisions_claimant side k move now r = grind arith
 
 provisions_claim : (side : Side) (k : Psm) (move : ProvisionMove) (now : ℕ) (r : Record) → IsSameClaim (provisions side k move now r).rec r
-unfolding provisions
+unfolding provisions provision_step provision_event
 provisions_claim side k move now r = grind arith
 
 lives_claimant : (k : Lsm) (move : LifecycleMove) (now : ℕ) (r : Record) → r.lsm ≡ k → IsClaimant (lives k move now r).rec r
-unfolding lives
+unfolding lives lifecycle_step lifecycle_event
 lives_claimant k move now r e = grind arith
 
 lives_claim : (k : Lsm) (move : LifecycleMove) (now : ℕ) (r : Record) → IsSameClaim (lives k move now r).rec r
-unfolding lives
+unfolding lives lifecycle_step lifecycle_event
 lives_claim k move now r = grind arith
 
 provisions_if_demand : (side : Side) (o : Option ProvisionMove) (now : ℕ) (r : Record) (flow : Flow) (stp t : ℕ) → demand flow stp t (provisions_if side o now r).rec ≤ demand flow stp t r

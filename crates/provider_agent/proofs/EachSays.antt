@@ -16,9 +16,9 @@ use Rattle.connection_record.specs.Demand.{last}
 use Rattle.connection_record.specs.Lives.{lives, lives_if}
 use Rattle.connection_record.specs.Moves.{reserves_if, hold_end, is_live}
 use Rattle.connection_record.specs.Replies.{Moved, addressed}
-use Rattle.connection_record.specs.Turns.{closes_reservation, closes_provision, closes, schedule_end, ticks, ticked, status_of, is_told, tells_plane, tells}
+use Rattle.connection_record.specs.Applied.{closes_reservation, closes_provision, closes, schedule_end, ticks, ticked, status_of, is_told, tells_plane, tells}
 use Rattle.provider_agent.specs.declared.agent.Agent.{Agent}
-use Rattle.provider_agent.specs.Home.{Home}
+use Rattle.provider_agent.specs.Setting.{Setting}
 use Rattle.provider_agent.specs.State.{State, record_at}
 use Rattle.provider_agent.specs.Steps.{messages_by, keeps, drawn, is_told_at, told_at, ticks_at, ticks_all}
 
@@ -83,10 +83,10 @@ addressed_each P agent owner (x ∷ xs) p = (p.0, addressed_each P agent owner x
 moved_each : (P : Body → Type 0) (name : List ℕ) (x : Moved) → EachReply P x.out → EachMessage P (messages_by name x)
 moved_each P name x p = All-from_recursion (λ m. P m.body) (messages_by name x) (addressed_each P name x.rec.owner x.out p)
 
-pub kept_each : (P : Body → Type 0) (home : Home) (s : State) (n : ℕ) (x : Moved) → EachPlane P → EachReply P x.out → EachMessage P (keeps home s n x).out
-kept_each P home s n x plane said =
+pub kept_each : (P : Body → Type 0) (setting : Setting) (s : State) (n : ℕ) (x : Moved) → EachPlane P → EachReply P x.out → EachMessage P (keeps setting s n x).out
+kept_each P setting s n x plane said =
     let before : Plane = status_of s.now (record_at n s.records) in
-    moved_each P home.name (tells before (id_of home.number s.next) s.now x) (told_each P before (id_of home.number s.next) s.now x plane said)
+    moved_each P setting.name (tells before (id_of setting.number s.next) s.now x) (told_each P before (id_of setting.number s.next) s.now x plane said)
 
 pub ticks_each : (P : Body → Type 0) (agent : Agent) (before now next : ℕ) (records : List Record) → EachPlane P → ((r : Record) → EachReply P (ticks_at agent now r).out) → EachMessage P (ticks_all agent before now next records).out
 unfolding ticks_all

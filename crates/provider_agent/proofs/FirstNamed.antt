@@ -8,7 +8,7 @@ use Rattle.std.proofs.lemmas.List.{get_or_default}
 use Rattle.std.proofs.lemmas.List.Sums.{position_or_len_is}
 use Rattle.std.proofs.lemmas.Map.Keys.{non_decreasing_from_sorted, sorted_from_strictly_increasing}
 use Rattle.connection_record.specs.declared.record.Record.{Record}
-use Rattle.connection_record.specs.Turns.{has_work}
+use Rattle.connection_record.specs.Applied.{has_work}
 use Rattle.provider_agent.specs.State.{no_record, record_at}
 use Rattle.provider_agent.specs.Indexed.{NamesWork}
 

@@ -8,7 +8,7 @@ use Rattle.connection_record.specs.declared.record.Record.{Record}
 use Rattle.connection_record.specs.Demand.{last}
 use Rattle.connection_record.specs.Moves.{worked}
 use Rattle.connection_record.specs.Refusal.{modification_refusal}
-use Rattle.connection_record.specs.Turns.{requested, provided, work_of}
+use Rattle.connection_record.specs.Applied.{requested, provided, work_of}
 use Rattle.provider_agent.proofs.GoodMoves.{IsFitting}
 use Rattle.provider_agent.proofs.Demands.{IsNoFit}
 

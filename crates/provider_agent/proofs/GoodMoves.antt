@@ -10,19 +10,22 @@ use Rattle.nsi_primitive.specs.declared.state.Side.{Side}
 use Rattle.nsi_primitive.specs.declared.message.Criteria.{Criteria}
 use Rattle.nsi_primitive.specs.declared.message.Exception.{Exception}
 use Rattle.nsi_primitive.specs.declared.message.Service.{Service}
+use Rattle.reserve_machine.specs.Table.{step as reserve_step}
+use Rattle.provision_machine.specs.Table.{step as provision_step}
+use Rattle.lifecycle_machine.specs.Table.{step as lifecycle_step}
 use Rattle.connection_record.specs.declared.record.Record.{Record}
 use Rattle.connection_record.specs.declared.life.LifecycleMove.{LifecycleMove}
 use Rattle.connection_record.specs.declared.moves.Origin.{Origin}
 use Rattle.connection_record.specs.declared.moves.ReservationMove.{ReservationMove}
 use Rattle.connection_record.specs.declared.provisioning.ProvisionMove.{ProvisionMove}
-use Rattle.connection_record.specs.declared.turn.Move.{Move}
+use Rattle.connection_record.specs.declared.apply.Move.{Move}
 use Rattle.connection_record.specs.Demand.{last}
-use Rattle.connection_record.specs.Lives.{provisions, provisions_if, lives, lives_if}
-use Rattle.connection_record.specs.Moves.{reserves, reserves_if, committed_with, hold_end, is_live}
+use Rattle.connection_record.specs.Lives.{provision_event, lifecycle_event, provisions, provisions_if, lives, lives_if}
+use Rattle.connection_record.specs.Moves.{event_of, reserves, reserves_if, committed_with, hold_end, is_live}
 use Rattle.connection_record.specs.Replies.{Moved, plain}
 use Rattle.connection_record.specs.Order.{IsInOrder}
 use Rattle.connection_record.specs.Rising.{AreRising, IsAboveLast}
-use Rattle.connection_record.specs.Turns.{closes_reservation, closes_provision, reservation_closing, provision_closing, closes, moves, moves_if, schedule_end, ticks, ticked, tells}
+use Rattle.connection_record.specs.Applied.{closes_reservation, closes_provision, reservation_closing, provision_closing, closes, moves, moves_if, schedule_end, ticks, ticked, tells}
 use Rattle.connection_record.proofs.Growing.{reserves_later}
 use Rattle.connection_record.proofs.InOrder.{reserves_in_order, provisions_in_order, lives_in_order}
 use Rattle.connection_record.proofs.Rising.{rising_more}
@@ -41,15 +44,15 @@ rising_with committed None rising above = subst AreRising (sym (append-nil commi
 rising_with committed (Some c) rising above = rising_more committed c rising above
 
 reserves_rising : (k : Rsm) (move : ReservationMove) (now : ℕ) (r : Record) → IsGoodRecord r → AreRising (reserves k move now r).rec.committed
-unfolding reserves
+unfolding reserves reserve_step event_of
 reserves_rising k move now r g = grind (arith, rising_with)
 
 reserves_above : (k : Rsm) (move : ReservationMove) (now : ℕ) (r : Record) → IsGoodRecord r → IsFittingReservation move r → IsAboveLast (reserves k move now r).rec.pending (reserves k move now r).rec.committed
-unfolding reserves
+unfolding reserves reserve_step event_of
 reserves_above k move now r g f = grind arith
 
 reserves_asking : (k : Rsm) (move : ReservationMove) (now : ℕ) (r : Record) → r.rsm ≡ k → IsGoodRecord r → is_asking (reserves k move now r).rec.rsm ≡ true → IsSome (reserves k move now r).rec.pending
-unfolding reserves
+unfolding reserves reserve_step event_of
 reserves_asking k move now r e g a = grind arith
 
 pub reserves_good : (k : Rsm) (move : ReservationMove) (now : ℕ) (r : Record) → r.rsm ≡ k → IsGoodRecord r → IsFittingReservation move r → IsGoodRecord (reserves k move now r).rec
@@ -88,11 +91,11 @@ good_same a b same order g = record {
 }
 
 pub provisions_same : (side : Side) (k : Psm) (move : ProvisionMove) (now : ℕ) (r : Record) → IsSameReservation (provisions side k move now r).rec r
-unfolding provisions
+unfolding provisions provision_step provision_event
 provisions_same side k move now r = grind arith
 
 pub lives_same : (k : Lsm) (move : LifecycleMove) (now : ℕ) (r : Record) → IsSameReservation (lives k move now r).rec r
-unfolding lives
+unfolding lives lifecycle_step lifecycle_event
 lives_same k move now r = grind arith
 
 provisions_if_good : (side : Side) (o : Option ProvisionMove) (now : ℕ) (r : Record) → IsGoodRecord r → IsGoodRecord (provisions_if side o now r).rec

@@ -9,13 +9,13 @@ use Rattle.connection_record.specs.declared.life.LifecycleMove.{LifecycleMove}
 use Rattle.connection_record.specs.declared.moves.Origin.{Origin}
 use Rattle.connection_record.specs.declared.moves.ReservationMove.{ReservationMove}
 use Rattle.connection_record.specs.declared.provisioning.ProvisionMove.{ProvisionMove}
-use Rattle.connection_record.specs.declared.turn.Move.{Move}
+use Rattle.connection_record.specs.declared.apply.Move.{Move}
 use Rattle.connection_record.specs.Demand.{last}
 use Rattle.connection_record.specs.Later.{IsLater}
 use Rattle.connection_record.specs.Lives.{provisions_if, lives, lives_if}
 use Rattle.connection_record.specs.Moves.{reserves_if, hold_end, is_live}
 use Rattle.connection_record.specs.Replies.{Moved, plain}
-use Rattle.connection_record.specs.Turns.{closes_reservation, closes_provision, reservation_closing, provision_closing, closes, moves, moves_if, schedule_end, ticks, ticked, status_of, is_told, tells_plane, tells}
+use Rattle.connection_record.specs.Applied.{closes_reservation, closes_provision, reservation_closing, provision_closing, closes, moves, moves_if, schedule_end, ticks, ticked, status_of, is_told, tells_plane, tells}
 use Rattle.connection_record.proofs.Growing.{later_refl, later_trans, reserves_later, provisions_later, lives_later}
 
 pub reserves_if_later : (o : Option ReservationMove) (now : ℕ) (r : Record) → IsLater r (reserves_if o now r).rec

@@ -20,93 +20,96 @@ use Rattle.nsi_primitive.specs.declared.entry.Entry.{Entry}
 use Rattle.nsi_primitive.specs.declared.entry.Input.{Input}
 use Rattle.message_retry.specs.Taken.{is_taken}
 use Rattle.capacity_calendar.specs.declared.booking.Lack.{Lack}
+use Rattle.reserve_machine.specs.Table.{step as reserve_step}
+use Rattle.provision_machine.specs.Table.{step as provision_step}
+use Rattle.lifecycle_machine.specs.Table.{step as lifecycle_step}
 use Rattle.connection_record.specs.declared.record.Record.{Record}
 use Rattle.connection_record.specs.declared.life.LifecycleMove.{LifecycleMove}
 use Rattle.connection_record.specs.declared.moves.Origin.{Origin}
 use Rattle.connection_record.specs.declared.moves.ReservationMove.{ReservationMove}
 use Rattle.connection_record.specs.declared.provisioning.ProvisionMove.{ProvisionMove}
-use Rattle.connection_record.specs.declared.turn.Move.{Move}
+use Rattle.connection_record.specs.declared.apply.Move.{Move}
 use Rattle.connection_record.specs.Demand.{last}
-use Rattle.connection_record.specs.Lives.{provisions, provisions_if, lives, lives_if}
-use Rattle.connection_record.specs.Moves.{reserves, reserves_if, worked, fit_or_lack, hold_end, is_live, is_working}
+use Rattle.connection_record.specs.Lives.{provision_event, lifecycle_event, provisions, provisions_if, lives, lives_if}
+use Rattle.connection_record.specs.Moves.{event_of, reserves, reserves_if, worked, fit_or_lack, hold_end, is_live, is_working}
 use Rattle.connection_record.specs.Replies.{Moved, confirmation, plain}
-use Rattle.connection_record.specs.Turns.{reservation_closing, provision_closing, moves, moves_if, requested, provided, work_of, waits, schedule_end, status_of, tells}
+use Rattle.connection_record.specs.Applied.{reservation_closing, provision_closing, moves, moves_if, requested, provided, work_of, waits, schedule_end, status_of, tells}
 use Rattle.provider_agent.specs.declared.agent.Agent.{Agent}
-use Rattle.provider_agent.specs.Home.{Home}
+use Rattle.provider_agent.specs.Setting.{Setting}
 use Rattle.provider_agent.specs.Others.{first_lack, bandwidth, cause_of, lack_of, lacking}
 use Rattle.provider_agent.specs.State.{State, record_at, no_record}
-use Rattle.provider_agent.specs.Steps.{step, hears, works, work_at, forces, force_move, is_forcible, keeps, ticks, taken_at, with_new, messages_of, error_reply, is_waiting, may_take, after_if, after, agent_of, own_origin}
+use Rattle.provider_agent.specs.Steps.{step, receives, works, work_at, forces, force_move, is_forcible, keeps, ticks, taken_at, with_new, messages_of, error_reply, is_waiting, may_take, after_if, after, agent_of, own_origin}
 use Rattle.provider_agent.specs.Safety.{places_of, others_load, said, is_bandwidth, is_refusal, IsHonestWork, IsChecking, IsHonest}
 use Rattle.provider_agent.specs.Good.{IsGood}
 use Rattle.provider_agent.proofs.Turning.{IsNoCommit, reserves_untold}
 use Rattle.provider_agent.proofs.EachSays.{EachReply, EachMessage, EachPlane, nothing_said, one_said, closes_each, ticked_each, kept_each, ticks_each}
 use Rattle.provider_agent.proofs.FirstIsOne.{first_lack_found, none_where_room}
 use Rattle.provider_agent.proofs.GoodAfter.{waits_within, asked_at}
-use Rattle.provider_agent.proofs.RequestCases.{seen_with, heard_by}
+use Rattle.provider_agent.proofs.RequestCases.{seen_with, received_by}
 
 ---- Work on a reserve
 
 -- what work on a reserve makes of a record, where this lacks
-abbrev tried : Home → (c now deadline : ℕ) → Option Cause → Record → Moved
-tried home c now deadline lack r = tells (status_of now r) c now (moves_if Side.Provider (work_of Machine.Reserve r lack home.name deadline) now r)
+abbrev tried : Setting → (c now deadline : ℕ) → Option Cause → Record → Moved
+tried setting c now deadline lack r = tells (status_of now r) c now (moves_if Side.Provider (work_of Machine.Reserve r lack setting.name deadline) now r)
 
 no_commit : (lack : Option Cause) (agent : List ℕ) (deadline : ℕ) → IsNoCommit (fit_or_lack lack agent deadline)
 no_commit None agent deadline = tt
 no_commit (Some cause) agent deadline = tt
 
 -- nothing is told of the data plane then
-tried_is : (home : Home) (c now deadline : ℕ) (lack : Option Cause) (r : Record) → r.rsm ≡ Rsm.ReserveChecking → tried home c now deadline lack r ≡ reserves r.rsm (fit_or_lack lack home.name deadline) now r
+tried_is : (setting : Setting) (c now deadline : ℕ) (lack : Option Cause) (r : Record) → r.rsm ≡ Rsm.ReserveChecking → tried setting c now deadline lack r ≡ reserves r.rsm (fit_or_lack lack setting.name deadline) now r
 unfolding work_of worked moves
-tried_is home c now deadline lack r e =
-    ap (λ k. tells (status_of now r) c now (moves_if Side.Provider (option_map Move.Reservation (worked k lack home.name deadline)) now r)) e
-    ∙ reserves_untold r.rsm (fit_or_lack lack home.name deadline) c now r (no_commit lack home.name deadline)
+tried_is setting c now deadline lack r e =
+    ap (λ k. tells (status_of now r) c now (moves_if Side.Provider (option_map Move.Reservation (worked k lack setting.name deadline)) now r)) e
+    ∙ reserves_untold r.rsm (fit_or_lack lack setting.name deadline) c now r (no_commit lack setting.name deadline)
 
 -- what lacks is told to the owner
-says_lack : (home : Home) (c now deadline : ℕ) (r : Record) (cause : Cause) → r.rsm ≡ Rsm.ReserveChecking
-    → messages_of home (tried home c now deadline (Some cause) r) ≡ said home r (Body.ReserveFailed r.id (record { nsa = home.name; cause = cause }))
-unfolding reserves
-says_lack home c now deadline r cause e = ap (messages_of home) (tried_is home c now deadline (Some cause) r e) ∙ by_row
+says_lack : (setting : Setting) (c now deadline : ℕ) (r : Record) (cause : Cause) → r.rsm ≡ Rsm.ReserveChecking
+    → messages_of setting (tried setting c now deadline (Some cause) r) ≡ said setting r (Body.ReserveFailed r.id (record { nsa = setting.name; cause = cause }))
+unfolding reserves reserve_step event_of
+says_lack setting c now deadline r cause e = ap (messages_of setting) (tried_is setting c now deadline (Some cause) r e) ∙ by_row
   where
-    by_row : messages_of home (reserves r.rsm (fit_or_lack (Some cause) home.name deadline) now r) ≡ said home r (Body.ReserveFailed r.id (record { nsa = home.name; cause = cause }))
+    by_row : messages_of setting (reserves r.rsm (fit_or_lack (Some cause) setting.name deadline) now r) ≡ said setting r (Body.ReserveFailed r.id (record { nsa = setting.name; cause = cause }))
     by_row = grind arith
 
 -- and what fits is confirmed
-says_fit : (home : Home) (c now deadline : ℕ) (r : Record) (criteria : Criteria) → r.rsm ≡ Rsm.ReserveChecking → r.pending ≡ Some criteria
-    → messages_of home (tried home c now deadline None r) ≡ said home r (Body.ReserveConfirmed (confirmation r.id r.service criteria))
-unfolding reserves
-says_fit home c now deadline r criteria e p = ap (messages_of home) (tried_is home c now deadline None r e) ∙ by_row
+says_fit : (setting : Setting) (c now deadline : ℕ) (r : Record) (criteria : Criteria) → r.rsm ≡ Rsm.ReserveChecking → r.pending ≡ Some criteria
+    → messages_of setting (tried setting c now deadline None r) ≡ said setting r (Body.ReserveConfirmed (confirmation r.id r.service criteria))
+unfolding reserves reserve_step event_of
+says_fit setting c now deadline r criteria e p = ap (messages_of setting) (tried_is setting c now deadline None r e) ∙ by_row
   where
-    by_row : messages_of home (reserves r.rsm (fit_or_lack None home.name deadline) now r) ≡ said home r (Body.ReserveConfirmed (confirmation r.id r.service criteria))
+    by_row : messages_of setting (reserves r.rsm (fit_or_lack None setting.name deadline) now r) ≡ said setting r (Body.ReserveConfirmed (confirmation r.id r.service criteria))
     by_row = grind arith
 
 -- what work on the record at a place says
-abbrev work_out : Home → State → ℕ → Machine → List Message
-work_out home s n machine = (keeps home s n (moves_if Side.Provider (work_at home s n machine) s.now (record_at n s.records))).out
+abbrev work_out : Setting → State → ℕ → Machine → List Message
+work_out setting s n machine = (keeps setting s n (moves_if Side.Provider (work_at setting s n machine) s.now (record_at n s.records))).out
 
-honest_work : (home : Home) (s : State) (n : ℕ) (c : Criteria) → (record_at n s.records).rsm ≡ Rsm.ReserveChecking → (record_at n s.records).pending ≡ Some c → IsHonestWork home s n (record_at n s.records) c (work_out home s n Machine.Reserve)
+honest_work : (setting : Setting) (s : State) (n : ℕ) (c : Criteria) → (record_at n s.records).rsm ≡ Rsm.ReserveChecking → (record_at n s.records).pending ≡ Some c → IsHonestWork setting s n (record_at n s.records) c (work_out setting s n Machine.Reserve)
 unfolding lacking
-honest_work home s n c e p = record {
-  passed = λ late. lacks (Cause.Plain ErrorName.Passed) (lacking_is true (first_lack home n s.records c) (le-leb c.interval.end s.now late) refl);
-  lacking = λ early l f. lacks (bandwidth r l) (lacking_is false (Some l) (lt-leb c.interval.end s.now early) (first_lack_found (others_load s n) (places_of home r) c.interval c.capacity l f));
+honest_work setting s n c e p = record {
+  passed = λ late. lacks (Cause.Plain ErrorName.Passed) (lacking_is true (first_lack setting n s.records c) (le-leb c.interval.end s.now late) refl);
+  lacking = λ early l f. lacks (bandwidth r l) (lacking_is false (Some l) (lt-leb c.interval.end s.now early) (first_lack_found (others_load s n) (places_of setting r) c.interval c.capacity l f));
   fits = λ early room.
-      ap out_with (lacking_is false None (lt-leb c.interval.end s.now early) (none_where_room (others_load s n) (places_of home r) c.interval c.capacity room))
-      ∙ says_fit home correlation s.now (s.now + home.hold) r c e p;
+      ap out_with (lacking_is false None (lt-leb c.interval.end s.now early) (none_where_room (others_load s n) (places_of setting r) c.interval c.capacity room))
+      ∙ says_fit setting correlation s.now (s.now + setting.hold) r c e p;
 }
   where
     r : Record
     r = record_at n s.records
 
     correlation : ℕ
-    correlation = id_of home.number s.next
+    correlation = id_of setting.number s.next
 
     out_with : Option Cause → List Message
-    out_with lack = messages_of home (tried home correlation s.now (s.now + home.hold) lack r)
+    out_with lack = messages_of setting (tried setting correlation s.now (s.now + setting.hold) lack r)
 
-    lacking_is : (passed : Bool) (lack : Option Lack) → nat_le c.interval.end s.now ≡ passed → first_lack home n s.records c ≡ lack → lacking home s n ≡ cause_of passed lack r
-    lacking_is passed lack t f = ap (λ o. lack_of o home s n) p ∙ (ap (λ b. cause_of b (first_lack home n s.records c) r) t ∙ ap (λ l. cause_of passed l r) f)
+    lacking_is : (passed : Bool) (lack : Option Lack) → nat_le c.interval.end s.now ≡ passed → first_lack setting n s.records c ≡ lack → lacking setting s n ≡ cause_of passed lack r
+    lacking_is passed lack t f = ap (λ o. lack_of o setting s n) p ∙ (ap (λ b. cause_of b (first_lack setting n s.records c) r) t ∙ ap (λ l. cause_of passed l r) f)
 
-    lacks : (cause : Cause) → lacking home s n ≡ Some cause → work_out home s n Machine.Reserve ≡ said home r (Body.ReserveFailed r.id (record { nsa = home.name; cause = cause }))
-    lacks cause l = ap out_with l ∙ says_lack home correlation s.now (s.now + home.hold) r cause e
+    lacks : (cause : Cause) → lacking setting s n ≡ Some cause → work_out setting s n Machine.Reserve ≡ said setting r (Body.ReserveFailed r.id (record { nsa = setting.name; cause = cause }))
+    lacks cause l = ap out_with l ∙ says_lack setting correlation s.now (s.now + setting.hold) r cause e
 
 ---- Where no refusal for bandwidth comes from
 
@@ -128,15 +131,15 @@ IsNoLack (Move.Reservation m) = IsNoLackReservation m
 IsNoLack _ = Unit {0}
 
 reserves_quiet : (k : Rsm) (move : ReservationMove) (now : ℕ) (r : Record) → IsNoLackReservation move → EachReply IsNoRefusal (reserves k move now r).out
-unfolding reserves is_refusal
+unfolding reserves reserve_step event_of is_refusal
 reserves_quiet k move now r q = grind arith
 
 provisions_quiet : (side : Side) (k : Psm) (move : ProvisionMove) (now : ℕ) (r : Record) → EachReply IsNoRefusal (provisions side k move now r).out
-unfolding provisions is_refusal
+unfolding provisions provision_step provision_event is_refusal
 provisions_quiet side k move now r = grind arith
 
 lives_quiet : (k : Lsm) (move : LifecycleMove) (now : ℕ) (r : Record) → EachReply IsNoRefusal (lives k move now r).out
-unfolding lives is_refusal
+unfolding lives lifecycle_step lifecycle_event is_refusal
 lives_quiet k move now r = grind arith
 
 reserves_if_quiet : (o : Option ReservationMove) (now : ℕ) (r : Record) → IfSome o IsNoLackReservation → EachReply IsNoRefusal (reserves_if o now r).out
@@ -170,8 +173,8 @@ moves_if_quiet : (side : Side) (o : Option Move) (now : ℕ) (r : Record) → If
 moves_if_quiet side None now r q = tt
 moves_if_quiet side (Some move) now r q = moves_quiet side move now r q
 
-kept_quiet : (home : Home) (s : State) (n : ℕ) (o : Option Move) → IfSome o IsNoLack → EachMessage IsNoRefusal (keeps home s n (moves_if Side.Provider o s.now (record_at n s.records))).out
-kept_quiet home s n o q = kept_each IsNoRefusal home s n (moves_if Side.Provider o s.now (record_at n s.records)) no_plane (moves_if_quiet Side.Provider o s.now (record_at n s.records) q)
+kept_quiet : (setting : Setting) (s : State) (n : ℕ) (o : Option Move) → IfSome o IsNoLack → EachMessage IsNoRefusal (keeps setting s n (moves_if Side.Provider o s.now (record_at n s.records))).out
+kept_quiet setting s n o q = kept_each IsNoRefusal setting s n (moves_if Side.Provider o s.now (record_at n s.records)) no_plane (moves_if_quiet Side.Provider o s.now (record_at n s.records) q)
 
 requested_quiet : (body : Body) (c : ℕ) (r : Record) → IfSome (requested body c r) IsNoLack
 unfolding requested
@@ -181,30 +184,30 @@ hold_end_quiet : (k : Rsm) (deadline : Option ℕ) (now : ℕ) (origin : Origin)
 unfolding hold_end
 hold_end_quiet k deadline now origin = grind arith
 
-heard_quiet : (home : Home) (stp_of : List ℕ → Option ℕ) (s : State) (m : Message) → EachMessage IsNoRefusal (hears (is_request m.body) (is_taken m.header s.seen) home stp_of s m).out
+received_quiet : (setting : Setting) (stp_of : List ℕ → Option ℕ) (s : State) (m : Message) → EachMessage IsNoRefusal (receives (is_request m.body) (is_taken m.header s.seen) setting stp_of s m).out
 unfolding is_refusal
-heard_quiet home stp_of s m = heard_by home stp_of s m (λ x. EachMessage IsNoRefusal x.out) (record {
+received_quiet setting stp_of s m = received_by setting stp_of s m (λ x. EachMessage IsNoRefusal x.out) (record {
   ignored = nothing_said IsNoRefusal;
   unopened = nothing_said IsNoRefusal;
-  refused = λ error r. one_said IsNoRefusal (error_reply home.name m error) refl;
-  opened = λ q points e are. taken (with_new home (seen_with s m) m q points) (length s.records);
+  refused = λ error r. one_said IsNoRefusal (error_reply setting.name m error) refl;
+  opened = λ q points e are. taken (with_new setting (seen_with s m) m q points) (length s.records);
   moved = λ n lt fine. taken (seen_with s m) n;
 })
   where
-    taken : (x : State) (n : ℕ) → EachMessage IsNoRefusal (taken_at home x n m).out
+    taken : (x : State) (n : ℕ) → EachMessage IsNoRefusal (taken_at setting x n m).out
     taken x n =
         let r : Record = record_at n x.records in
-        kept_quiet home x n (requested m.body m.header.correlation r) (requested_quiet m.body m.header.correlation r)
+        kept_quiet setting x n (requested m.body m.header.correlation r) (requested_quiet m.body m.header.correlation r)
 
-forced_quiet : (b : Bool) (home : Home) (s : State) (n : ℕ) → EachMessage IsNoRefusal (forces b home s n).out
+forced_quiet : (b : Bool) (setting : Setting) (s : State) (n : ℕ) → EachMessage IsNoRefusal (forces b setting s n).out
 unfolding forces
-forced_quiet false home s n = nothing_said IsNoRefusal
-forced_quiet true home s n = kept_quiet home (record s { next = s.next + 1 }) n (Some (force_move home s n)) tt
+forced_quiet false setting s n = nothing_said IsNoRefusal
+forced_quiet true setting s n = kept_quiet setting (record s { next = s.next + 1 }) n (Some (force_move setting s n)) tt
 
-ticks_quiet : (home : Home) (now : ℕ) (s : State) → EachMessage IsNoRefusal (ticks home now s).out
+ticks_quiet : (setting : Setting) (now : ℕ) (s : State) → EachMessage IsNoRefusal (ticks setting now s).out
 unfolding ticks
-ticks_quiet home now s =
-    let agent : Agent = agent_of home in
+ticks_quiet setting now s =
+    let agent : Agent = agent_of setting in
     ticks_each IsNoRefusal agent s.now now s.next s.records no_plane
     (λ r. ticked_each IsNoRefusal (own_origin agent r) now r
     (reserves_if_quiet (hold_end r.rsm r.deadline now (own_origin agent r)) now r (hold_end_quiet r.rsm r.deadline now (own_origin agent r)))
@@ -244,10 +247,10 @@ waits_live Machine.Reserve r e h = (and_parts (is_live r.lsm) (is_working r.rsm)
 waits_live Machine.Provision r e h = absurd (cc)
 waits_live Machine.Lifecycle r e h = absurd (cc)
 
-works_checking : (b : Bool) (home : Home) (s : State) (n : ℕ) (machine : Machine) (m : Message) → is_waiting s n machine ≡ b → Contains (works b home s n machine).out m → is_refusal m.body ≡ true → IsCheckedAt s n machine
+works_checking : (b : Bool) (setting : Setting) (s : State) (n : ℕ) (machine : Machine) (m : Message) → is_waiting s n machine ≡ b → Contains (works b setting s n machine).out m → is_refusal m.body ≡ true → IsCheckedAt s n machine
 unfolding works
-works_checking false home s n machine m w c is = absurd (no_refusal_in [] m (nothing_said IsNoRefusal) c is)
-works_checking true home s n machine m w c is = elim (checking_or_quiet machine r (lacking home s n) home.name (s.now + home.hold)) [
+works_checking false setting s n machine m w c is = absurd (no_refusal_in [] m (nothing_said IsNoRefusal) c is)
+works_checking true setting s n machine m w c is = elim (checking_or_quiet machine r (lacking setting s n) setting.name (s.now + setting.hold)) [
   | inl on ↦ record {
     machine_is = on.0;
     own = r;
@@ -255,21 +258,21 @@ works_checking true home s n machine m w c is = elim (checking_or_quiet machine 
     checking = on.1;
     live = waits_live machine r on.0 (and_parts (nat_lt n (length s.records)) (waits machine r) w).1;
   }
-  | inr q ↦ absurd (no_refusal_in (work_out home s n machine) m (kept_quiet home s n (work_at home s n machine) q) c is)
+  | inr q ↦ absurd (no_refusal_in (work_out setting s n machine) m (kept_quiet setting s n (work_at setting s n machine) q) c is)
 ]
   where
     r : Record
     r = record_at n s.records
 
-step_alone : (i : Input) (home : Home) (stp_of : List ℕ → Option ℕ) (s : State) (e : Entry) (m : Message) → e.input ≡ i → Contains (step i e.second home stp_of s).out m → is_refusal m.body ≡ true → (n : ℕ) × (r : Record) × IsChecking s e n r
+step_alone : (i : Input) (setting : Setting) (stp_of : List ℕ → Option ℕ) (s : State) (e : Entry) (m : Message) → e.input ≡ i → Contains (step i e.second setting stp_of s).out m → is_refusal m.body ≡ true → (n : ℕ) × (r : Record) × IsChecking s e n r
 unfolding step
-step_alone (Input.Got x) home stp_of s e m w c is = absurd (no_refusal_in (hears (is_request x.body) (is_taken x.header s.seen) home stp_of s x).out m (heard_quiet home stp_of s x) c is)
-step_alone (Input.Work n machine) home stp_of s e m w c is =
-    let at = works_checking (is_waiting s n machine) home s n machine m refl c is in
+step_alone (Input.Got x) setting stp_of s e m w c is = absurd (no_refusal_in (receives (is_request x.body) (is_taken x.header s.seen) setting stp_of s x).out m (received_quiet setting stp_of s x) c is)
+step_alone (Input.Work n machine) setting stp_of s e m w c is =
+    let at = works_checking (is_waiting s n machine) setting s n machine m refl c is in
     (n, at.own, record { work = w ∙ ap (λ k. Input.Work n k) at.machine_is; record_is = at.record_is; checking = at.checking; live = at.live })
-step_alone (Input.Force n) home stp_of s e m w c is = absurd (no_refusal_in (forces (is_forcible s n) home s n).out m (forced_quiet (is_forcible s n) home s n) c is)
-step_alone Input.Tick home stp_of s e m w c is = absurd (no_refusal_in (ticks home e.second s).out m (ticks_quiet home e.second s) c is)
-step_alone _ home stp_of s e m w c is = absurd (no_refusal_in [] m (nothing_said IsNoRefusal) c is)
+step_alone (Input.Force n) setting stp_of s e m w c is = absurd (no_refusal_in (forces (is_forcible s n) setting s n).out m (forced_quiet (is_forcible s n) setting s n) c is)
+step_alone Input.Tick setting stp_of s e m w c is = absurd (no_refusal_in (ticks setting e.second s).out m (ticks_quiet setting e.second s) c is)
+step_alone _ setting stp_of s e m w c is = absurd (no_refusal_in [] m (nothing_said IsNoRefusal) c is)
 
 ---- Entries
 
@@ -280,28 +283,28 @@ checking_waits s n lt live e =
     and_from (nat_lt n (length s.records)) (is_live own.lsm && is_working own.rsm) (lt-ltb n (length s.records) lt) (and_from (is_live own.lsm) (is_working own.rsm) live (ap is_working e))
 
 -- An entry that a good provider may take is honest.
-pub honest_after : (home : Home) (stp_of : List ℕ → Option ℕ) (s : State) (e : Entry) → IsGood home s → may_take s e ≡ true → IsHonest home stp_of s e
+pub honest_after : (setting : Setting) (stp_of : List ℕ → Option ℕ) (s : State) (e : Entry) → IsGood setting s → may_take s e ≡ true → IsHonest setting stp_of s e
 unfolding after step works
-honest_after home stp_of s e g may = record {
-  work = λ n r ch. subst (λ (x : Record). (c : Criteria) × (x.pending ≡ Some c) × IsHonestWork home s n x c (after home stp_of s e).out) (at_is n r ch) (at_place n r ch);
-  alone = λ m c is. step_alone e.input home stp_of s e m refl (subst (λ (out : List Message). Contains out m) out_is c) is;
+honest_after setting stp_of s e g may = record {
+  work = λ n r ch. subst (λ (x : Record). (c : Criteria) × (x.pending ≡ Some c) × IsHonestWork setting s n x c (after setting stp_of s e).out) (at_is n r ch) (at_place n r ch);
+  alone = λ m c is. step_alone e.input setting stp_of s e m refl (subst (λ (out : List Message). Contains out m) out_is c) is;
 }
   where
-    out_is : (after home stp_of s e).out ≡ (step e.input e.second home stp_of s).out
-    out_is = ap (λ b. (after_if b home stp_of s e).out) may
+    out_is : (after setting stp_of s e).out ≡ (step e.input e.second setting stp_of s).out
+    out_is = ap (λ b. (after_if b setting stp_of s e).out) may
 
     at_is : (n : ℕ) (r : Record) → IsChecking s e n r → record_at n s.records ≡ r
     at_is n r ch = get_or_from_slice_get s.records n r no_record ch.record_is
 
-    work_is : (n : ℕ) (r : Record) → IsChecking s e n r → (after home stp_of s e).out ≡ work_out home s n Machine.Reserve
+    work_is : (n : ℕ) (r : Record) → IsChecking s e n r → (after setting stp_of s e).out ≡ work_out setting s n Machine.Reserve
     work_is n r ch =
         let waits = checking_waits s n (slice_get_within s.records n r ch.record_is) (ap (λ (x : Record). is_live x.lsm) (at_is n r ch) ∙ ch.live) (ap (λ (x : Record). x.rsm) (at_is n r ch) ∙ ch.checking) in
-        out_is ∙ (ap (λ i. (step i e.second home stp_of s).out) ch.work ∙ ap (λ b. (works b home s n Machine.Reserve).out) waits)
+        out_is ∙ (ap (λ i. (step i e.second setting stp_of s).out) ch.work ∙ ap (λ b. (works b setting s n Machine.Reserve).out) waits)
 
-    at_place : (n : ℕ) (r : Record) → IsChecking s e n r → (c : Criteria) × ((record_at n s.records).pending ≡ Some c) × IsHonestWork home s n (record_at n s.records) c (after home stp_of s e).out
+    at_place : (n : ℕ) (r : Record) → IsChecking s e n r → (c : Criteria) × ((record_at n s.records).pending ≡ Some c) × IsHonestWork setting s n (record_at n s.records) c (after setting stp_of s e).out
     at_place n r ch =
         let own = record_at n s.records in
         let checking : own.rsm ≡ Rsm.ReserveChecking = ap (λ (x : Record). x.rsm) (at_is n r ch) ∙ ch.checking in
         let there = slice_get-get_or s.records n no_record (slice_get_within s.records n r ch.record_is) in
         let asked = asked_at own.rsm own.pending checking (g.records n own there).asking in
-        (asked.0, asked.1, subst (λ out. IsHonestWork home s n own asked.0 out) (sym (work_is n r ch)) (honest_work home s n asked.0 checking asked.1))
+        (asked.0, asked.1, subst (λ out. IsHonestWork setting s n own asked.0 out) (sym (work_is n r ch)) (honest_work setting s n asked.0 checking asked.1))

@@ -11,21 +11,24 @@ use Rattle.nsi_primitive.specs.declared.state.Psm.{Psm}
 use Rattle.nsi_primitive.specs.declared.state.Rsm.{Rsm}
 use Rattle.nsi_primitive.specs.declared.state.Side.{Side}
 use Rattle.record_index.specs.declared.deadlines.Deadline.{Deadline}
+use Rattle.reserve_machine.specs.Table.{step as reserve_step}
+use Rattle.provision_machine.specs.Table.{step as provision_step}
+use Rattle.lifecycle_machine.specs.Table.{step as lifecycle_step}
 use Rattle.connection_record.specs.declared.record.Record.{Record}
 use Rattle.connection_record.specs.declared.life.LifecycleMove.{LifecycleMove}
 use Rattle.connection_record.specs.declared.moves.ReservationMove.{ReservationMove}
 use Rattle.connection_record.specs.declared.provisioning.ProvisionMove.{ProvisionMove}
-use Rattle.connection_record.specs.declared.turn.Move.{Move}
+use Rattle.connection_record.specs.declared.apply.Move.{Move}
 use Rattle.connection_record.specs.Demand.{last}
 use Rattle.connection_record.specs.Refusal.{is_created}
-use Rattle.connection_record.specs.Lives.{provisions, lives}
-use Rattle.connection_record.specs.Moves.{is_live, reserves, committed_with}
+use Rattle.connection_record.specs.Lives.{provision_event, lifecycle_event, provisions, lives}
+use Rattle.connection_record.specs.Moves.{event_of, is_live, reserves, committed_with}
 use Rattle.connection_record.specs.Replies.{Moved}
-use Rattle.connection_record.specs.Turns.{first_machine, has_work, end_of, moves, moves_if, reservation_closing, provision_closing, closes, requested, tells, waits, is_terminating}
+use Rattle.connection_record.specs.Applied.{first_machine, has_work, end_of, moves, moves_if, reservation_closing, provision_closing, closes, requested, tells, waits, is_terminating}
 use Rattle.provider_agent.specs.State.{State, no_record, record_at}
-use Rattle.provider_agent.specs.declared.desk.Desk.{Desk}
+use Rattle.provider_agent.specs.declared.provider_core.Core.{Core}
 use Rattle.provider_agent.specs.Indexed.{deadline_of, held_until, ends_at, starts_at, start_of, NamesSeconds, NamesStarts, AreIndexed}
-use Rattle.provider_agent.specs.Desk.{state_at, IsReady}
+use Rattle.provider_agent.specs.Core.{state_at, IsReady}
 use Rattle.provider_agent.specs.Kept.{is_plain, is_plain_reservation}
 use Rattle.provider_agent.proofs.Moved.{requested_plain}
 use Rattle.provider_agent.proofs.Turning.{told_but_notices}
@@ -41,24 +44,24 @@ indexed_added now records waiting more deadlines place ix is = record { works = 
 pub named_added : (waiting more : List ℕ) (place : ℕ) → ((p : ℕ) → Contains more p ↔ ((p ≡ place) ⊎ Contains waiting p)) → Contains more place
 named_added waiting more place is = (is place).1 (inl refl)
 
-pub ready_added : (d : Desk) (more : List ℕ) (place : ℕ) → IsReady d → ((p : ℕ) → Contains more p ↔ ((p ≡ place) ⊎ Contains d.waiting p)) → IsReady (record d { waiting = more })
+pub ready_added : (d : Core) (more : List ℕ) (place : ℕ) → IsReady d → ((p : ℕ) → Contains more p ↔ ((p ≡ place) ⊎ Contains d.waiting p)) → IsReady (record d { waiting = more })
 ready_added d more place ready is =
-    record { kept = ready.kept; indexed = indexed_added d.now d.records.items d.waiting more d.deadlines place ready.indexed is; ordered = ready.ordered; few = ready.few; drawn = ready.drawn }
+    record { consistent = record { kept = ready.consistent.kept; indexed = indexed_added d.now d.records.items d.waiting more d.deadlines place ready.consistent.indexed is }; ordered = ready.ordered; few = ready.few; drawn = ready.drawn }
 
 -- A second more is named.
-pub ready_timed : (d : Desk) (more : List Deadline) (second place : ℕ) → IsReady d → place < length d.records.items
+pub ready_timed : (d : Core) (more : List Deadline) (second place : ℕ) → IsReady d → place < length d.records.items
     → ((x : Deadline) → Contains more x ↔ ((x ≡ deadline_of second place) ⊎ Contains d.deadlines x)) → IsReady (record d { deadlines = more })
-ready_timed d more second place ready inside is = record { kept = ready.kept; indexed = indexed; ordered = ready.ordered; few = ready.few; drawn = ready.drawn }
+ready_timed d more second place ready inside is = record { consistent = record { kept = ready.consistent.kept; indexed = indexed }; ordered = ready.ordered; few = ready.few; drawn = ready.drawn }
   where
     indexed : AreIndexed d.now d.records.items d.waiting more
     indexed = record {
-      works = ready.indexed.works;
-      holds = λ n t l h. (is (deadline_of t n)).1 (inr (ready.indexed.holds n t l h));
-      ends = λ n t l h. (is (deadline_of t n)).1 (inr (ready.indexed.ends n t l h));
-      starts = λ n t l h m. (is (deadline_of t n)).1 (inr (ready.indexed.starts n t l h m));
+      works = ready.consistent.indexed.works;
+      holds = λ n t l h. (is (deadline_of t n)).1 (inr (ready.consistent.indexed.holds n t l h));
+      ends = λ n t l h. (is (deadline_of t n)).1 (inr (ready.consistent.indexed.ends n t l h));
+      starts = λ n t l h m. (is (deadline_of t n)).1 (inr (ready.consistent.indexed.starts n t l h m));
       within = λ x has. elim ((is x).0 has) [
         | inl e ↦ subst (λ (y : Deadline). y.place < length d.records.items) (sym e) inside
-        | inr old ↦ ready.indexed.within x old
+        | inr old ↦ ready.consistent.indexed.within x old
       ];
     }
 
@@ -177,7 +180,7 @@ indexed_pushed now records waiting deadlines r ix named none =
     starts : NamesStarts now (records ++ r ∷ []) deadlines
     starts k t l h later = by_number k (length records) (λ e. absurd (never starts_at k t none.starts e h)) (λ d. ix.starts k t (before k l d) (ap starts_at (as_before k (before k l d)) ∙ h) later)
 
----- A desk
+---- A core
 
 works_where_waits : (machine : Machine) (r : Record) → waits machine r ≡ true → has_work r ≡ true
 unfolding first_machine
@@ -187,8 +190,8 @@ works_where_waits machine r h = grind arith
 pub named_by_work : (now : ℕ) (records : List Record) (waiting : List ℕ) (deadlines : List Deadline) (n : ℕ) (machine : Machine) → AreIndexed now records waiting deadlines → n < length records → waits machine (record_at n records) ≡ true → Contains waiting n
 named_by_work now records waiting deadlines n machine ix inside h = ix.works n inside (works_where_waits machine (record_at n records) h)
 
--- a desk whose indexes are those of another, in a state that they fit
-pub indexed_by : (d new : Desk) (s : State) → state_at new ≡ s → new.waiting ≡ d.waiting → new.deadlines ≡ d.deadlines → AreIndexed s.now s.records d.waiting d.deadlines → AreIndexed new.now new.records.items new.waiting new.deadlines
+-- a core whose indexes are those of another, in a state that they fit
+pub indexed_by : (d new : Core) (s : State) → state_at new ≡ s → new.waiting ≡ d.waiting → new.deadlines ≡ d.deadlines → AreIndexed s.now s.records d.waiting d.deadlines → AreIndexed new.now new.records.items new.waiting new.deadlines
 indexed_by d new s is waiting deadlines ix =
     subst (λ ws. AreIndexed new.now new.records.items ws new.deadlines) (sym waiting)
     (subst (λ ds. AreIndexed new.now new.records.items d.waiting ds) (sym deadlines) (subst (λ (t : State). AreIndexed t.now t.records d.waiting d.deadlines) (sym is) ix))
@@ -196,15 +199,15 @@ indexed_by d new s is waiting deadlines ix =
 ---- One record
 
 reservation_no_more : (k : Rsm) (move : ReservationMove) (now : ℕ) (r : Record) → r.rsm ≡ k → is_plain_reservation move ≡ true → NamesNoMore r (reserves k move now r).rec
-unfolding reserves
+unfolding reserves reserve_step event_of
 reservation_no_more k move now r at plain = record { holds = λ t h. grind arith; ends = λ t h. grind arith; starts = λ t h. grind arith }
 
 provision_no_more : (side : Side) (k : Psm) (move : ProvisionMove) (now : ℕ) (r : Record) → NamesNoMore r (provisions side k move now r).rec
-unfolding provisions
+unfolding provisions provision_step provision_event
 provision_no_more side k move now r = record { holds = λ t h. grind arith; ends = λ t h. grind arith; starts = λ t h. grind arith }
 
 life_no_more : (k : Lsm) (move : LifecycleMove) (now : ℕ) (r : Record) → r.lsm ≡ k → NamesNoMore r (lives k move now r).rec
-unfolding lives is_live
+unfolding lives lifecycle_step lifecycle_event is_live
 life_no_more k move now r at = record { holds = λ t h. grind arith; ends = λ t h. grind arith; starts = λ t h. grind arith }
 
 pub still_no_more : (r : Record) → NamesNoMore r r
@@ -255,15 +258,15 @@ abbrev fitted : ℕ → ℕ → Record → Record
 fitted deadline now r = (reserves Rsm.ReserveChecking (ReservationMove.Fit (Some deadline)) now r).rec
 
 fit_until : (deadline now : ℕ) (r : Record) (t : ℕ) → r.rsm ≡ Rsm.ReserveChecking → held_until (fitted deadline now r) ≡ Some t → deadline ≡ t
-unfolding reserves
+unfolding reserves reserve_step event_of
 fit_until deadline now r t at h = grind arith
 
 fit_ends : (deadline now : ℕ) (r : Record) (t : ℕ) → ends_at (fitted deadline now r) ≡ Some t → ends_at r ≡ Some t
-unfolding reserves
+unfolding reserves reserve_step event_of
 fit_ends deadline now r t h = grind arith
 
 fit_starts : (deadline now : ℕ) (r : Record) (t : ℕ) → starts_at (fitted deadline now r) ≡ Some t → starts_at r ≡ Some t
-unfolding reserves
+unfolding reserves reserve_step event_of
 fit_starts deadline now r t h = grind arith
 
 -- a hold is named with its end
@@ -280,15 +283,15 @@ abbrev committed_rec : ℕ → Record → Record
 committed_rec now r = (reserves Rsm.ReserveCommitting ReservationMove.Done now r).rec
 
 done_until : (now : ℕ) (r : Record) (t : ℕ) → held_until (committed_rec now r) ≡ Some t → held_until r ≡ Some t
-unfolding reserves
+unfolding reserves reserve_step event_of
 done_until now r t h = grind arith
 
 done_lsm : (now : ℕ) (r : Record) → (committed_rec now r).lsm ≡ r.lsm
-unfolding reserves
+unfolding reserves reserve_step event_of
 done_lsm now r = refl
 
 done_last : (now : ℕ) (r : Record) → last (committed_rec now r).committed ≡ last (committed_with r.committed r.pending)
-unfolding reserves
+unfolding reserves reserve_step event_of
 done_last now r = refl
 
 -- what is committed is the pending criteria, or what was committed before
@@ -305,7 +308,7 @@ start_is lsm c t h = grind arith
 -- a schedule that is committed is named with its start and its end
 pub done_named : (now n : ℕ) (r : Record) (deadlines : List Deadline) → IfSome r.pending (λ c. Contains deadlines (deadline_of c.interval.start n) × Contains deadlines (deadline_of c.interval.end n)) → AreNamed now n r deadlines
     → AreNamed now n (reserves Rsm.ReserveCommitting ReservationMove.Done now r).rec deadlines
-unfolding reserves
+unfolding reserves reserve_step event_of
 done_named now n r deadlines named old =
     record {
       holds = λ t h. old.holds t (done_until now r t h);
@@ -321,7 +324,7 @@ done_named now n r deadlines named old =
 
 -- an ended connection has nothing to do at any second
 pub closed_ended : (agent : List ℕ) (side : Side) (now : ℕ) (r : Record) → r.lsm ≡ Lsm.Terminating → (closes agent side now r).rec.lsm ≡ Lsm.Terminated
-unfolding closes reservation_closing provision_closing reserves provisions lives
+unfolding closes reservation_closing provision_closing reserves reserve_step event_of provisions provision_step provision_event lives lifecycle_step lifecycle_event
 closed_ended agent side now r at = grind arith
 
 pub waits_ending : (r : Record) → waits Machine.Lifecycle r ≡ true → r.lsm ≡ Lsm.Terminating

@@ -26,6 +26,9 @@ pub mod FirstIsOne
 pub mod HonestAfter
 pub mod RunsSafe
 pub mod Counting
+pub mod EventsSafe
+pub mod Entering
+pub mod EventRows
 pub mod Steady
 pub mod TickUndo
 pub mod TickFreed

@@ -7,16 +7,19 @@ use Rattle.nsi_primitive.specs.declared.state.Lsm.{Lsm}
 use Rattle.nsi_primitive.specs.declared.state.Side.{Side}
 use Rattle.nsi_primitive.specs.declared.message.Body.{Body}
 use Rattle.nsi_primitive.specs.declared.message.Criteria.{Criteria}
+use Rattle.reserve_machine.specs.Table.{step as reserve_step}
+use Rattle.provision_machine.specs.Table.{step as provision_step}
+use Rattle.lifecycle_machine.specs.Table.{step as lifecycle_step}
 use Rattle.connection_record.specs.declared.record.Record.{Record}
 use Rattle.connection_record.specs.declared.life.LifecycleMove.{LifecycleMove}
 use Rattle.connection_record.specs.declared.moves.ReservationMove.{ReservationMove}
 use Rattle.connection_record.specs.declared.provisioning.ProvisionMove.{ProvisionMove}
-use Rattle.connection_record.specs.declared.turn.Move.{Move}
+use Rattle.connection_record.specs.declared.apply.Move.{Move}
 use Rattle.connection_record.specs.Demand.{held, holds_pending, is_terminated}
-use Rattle.connection_record.specs.Moves.{reserves}
-use Rattle.connection_record.specs.Lives.{provisions, lives}
+use Rattle.connection_record.specs.Moves.{event_of, reserves}
+use Rattle.connection_record.specs.Lives.{provision_event, lifecycle_event, provisions, lives}
 use Rattle.connection_record.specs.Replies.{Moved}
-use Rattle.connection_record.specs.Turns.{moves, moves_if, requested, tells}
+use Rattle.connection_record.specs.Applied.{moves, moves_if, requested, tells}
 use Rattle.provider_agent.specs.Kept.{booked, is_plain, is_plain_reservation, is_plain_life}
 use Rattle.provider_agent.proofs.Turning.{told_but_notices}
 
@@ -36,15 +39,15 @@ pub record IsPlain (r moved : Record) : Type 0 where
 ---- The machines
 
 pub same_place : (k : Rsm) (move : ReservationMove) (now : ℕ) (r : Record) → IsSamePlace r (reserves k move now r).rec
-unfolding reserves
+unfolding reserves reserve_step event_of
 same_place k move now r = record { service = grind arith; source = grind arith; dest = grind arith; ended = grind arith }
 
 same_committed : (k : Rsm) (move : ReservationMove) (now : ℕ) (r : Record) → is_plain_reservation move ≡ true → (reserves k move now r).rec.committed ≡ r.committed
-unfolding reserves
+unfolding reserves reserve_step event_of
 same_committed k move now r p = grind arith
 
 plain_holds : (k : Rsm) (move : ReservationMove) (now : ℕ) (r : Record) → r.rsm ≡ k → is_plain_reservation move ≡ true → held (reserves k move now r).rec ≡ cond (holds_pending (reserves k move now r).rec.rsm) (held r) None
-unfolding reserves
+unfolding reserves reserve_step event_of
 plain_holds k move now r at p = grind arith
 
 -- what isn't moved
@@ -55,12 +58,12 @@ pub plain_still : (r : Record) → IsPlain r r
 plain_still r = record { place = record { service = refl; source = refl; dest = refl; ended = refl }; committed = refl; holds = held_or_not r }
 
 provision_plain : (side : Side) (k : Psm) (move : ProvisionMove) (now : ℕ) (r : Record) → IsPlain r (provisions side k move now r).rec
-unfolding provisions
+unfolding provisions provision_step provision_event
 provision_plain side k move now r =
     record { place = record { service = grind arith; source = grind arith; dest = grind arith; ended = grind arith }; committed = grind arith; holds = grind (arith, held_or_not) }
 
 life_plain : (k : Lsm) (move : LifecycleMove) (now : ℕ) (r : Record) → r.lsm ≡ k → is_plain_life move ≡ true → IsPlain r (lives k move now r).rec
-unfolding lives
+unfolding lives lifecycle_step lifecycle_event
 life_plain k move now r at p =
     record { place = record { service = grind arith; source = grind arith; dest = grind arith; ended = grind arith }; committed = grind arith; holds = grind (arith, held_or_not) }
 

@@ -11,8 +11,8 @@ use Rattle.connection_record.specs.declared.record.Record.{Record}
 use Rattle.connection_record.specs.Demand.{last, held, holds_pending}
 use Rattle.connection_record.specs.Moves.{fresh, is_live, service_of}
 use Rattle.connection_record.specs.Replies.{Moved}
-use Rattle.connection_record.specs.Turns.{moves_if, requested, tells, status_of, is_told}
-use Rattle.provider_agent.specs.Home.{Home}
+use Rattle.connection_record.specs.Applied.{moves_if, requested, tells, status_of, is_told}
+use Rattle.provider_agent.specs.Setting.{Setting}
 use Rattle.provider_agent.specs.State.{State, no_record, record_at, name_or}
 use Rattle.provider_agent.specs.Steps.{opens_between, drawn, messages_of}
 use Rattle.provider_agent.specs.Kept.{booked, AreKept}
@@ -27,52 +27,52 @@ pushed_instead records r moved =
     sym (set-append_right records (r ∷ []) (length records) (length records) moved refl (omega arith) ∙ ap (λ k. records ++ set (r ∷ []) k moved) zero_is)
 
 -- the record that a first reserve makes
-abbrev pub made : Home → State → Message → ReserveRequest → ℕ × ℕ → Record
-made home s m q points = fresh (id_of home.number s.next) m.header.requester (service_of q (name_or q.source) (name_or q.dest)) points.0 points.1
+abbrev pub made : Setting → State → Message → ReserveRequest → ℕ × ℕ → Record
+made setting s m q points = fresh (id_of setting.number s.next) m.header.requester (service_of q (name_or q.source) (name_or q.dest)) points.0 points.1
 
 -- its turn by the first request
-abbrev pub made_turn : Home → State → Message → Record → Moved
-made_turn home s m r = tells (status_of s.now r) (id_of home.number (s.next + 1)) s.now (moves_if Side.Provider (requested m.body m.header.correlation r) s.now r)
+abbrev pub made_turn : Setting → State → Message → Record → Moved
+made_turn setting s m r = tells (status_of s.now r) (id_of setting.number (s.next + 1)) s.now (moves_if Side.Provider (requested m.body m.header.correlation r) s.now r)
 
 abbrev pub made_drawn : State → Message → Record → ℕ
 made_drawn s m r = drawn (is_told (status_of s.now r) s.now (moves_if Side.Provider (requested m.body m.header.correlation r) s.now r).rec)
 
-pub opened_state : (home : Home) (s : State) (m : Message) (q : ReserveRequest) (points : ℕ × ℕ)
-    → record s { records = s.records ++ (made_turn home s m (made home s m q points)).rec ∷ []; next = s.next + 1 + made_drawn s m (made home s m q points) } ≡ (opens_between (Some points) home s m q).state
-opened_state home s m q points =
-    let r = made home s m q points in
+pub opened_state : (setting : Setting) (s : State) (m : Message) (q : ReserveRequest) (points : ℕ × ℕ)
+    → record s { records = s.records ++ (made_turn setting s m (made setting s m q points)).rec ∷ []; next = s.next + 1 + made_drawn s m (made setting s m q points) } ≡ (opens_between (Some points) setting s m q).state
+opened_state setting s m q points =
+    let r = made setting s m q points in
     let there : r ≡ record_at (length s.records) (s.records ++ r ∷ []) = sym (get_or_push s.records r no_record (length s.records) refl) in
-    let moved = λ (x : Record). record s { records = set (s.records ++ r ∷ []) (length s.records) (made_turn home s m x).rec; next = s.next + 1 + made_drawn s m x } in
-    ap (λ rs. record s { records = rs; next = s.next + 1 + made_drawn s m r }) (pushed_instead s.records r (made_turn home s m r).rec) ∙ ap moved there
+    let moved = λ (x : Record). record s { records = set (s.records ++ r ∷ []) (length s.records) (made_turn setting s m x).rec; next = s.next + 1 + made_drawn s m x } in
+    ap (λ rs. record s { records = rs; next = s.next + 1 + made_drawn s m r }) (pushed_instead s.records r (made_turn setting s m r).rec) ∙ ap moved there
 
-pub opened_out : (home : Home) (s : State) (m : Message) (q : ReserveRequest) (points : ℕ × ℕ) → messages_of home (made_turn home s m (made home s m q points)) ≡ (opens_between (Some points) home s m q).out
-opened_out home s m q points =
-    let r = made home s m q points in
-    ap (λ (x : Record). messages_of home (made_turn home s m x)) (sym (get_or_push s.records r no_record (length s.records) refl))
+pub opened_out : (setting : Setting) (s : State) (m : Message) (q : ReserveRequest) (points : ℕ × ℕ) → messages_of setting (made_turn setting s m (made setting s m q points)) ≡ (opens_between (Some points) setting s m q).out
+opened_out setting s m q points =
+    let r = made setting s m q points in
+    ap (λ (x : Record). messages_of setting (made_turn setting s m x)) (sym (get_or_push s.records r no_record (length s.records) refl))
 
 -- it books nothing yet
-pub kept_opened : (home : Home) (s : State) (m : Message) (q : ReserveRequest) (points : ℕ × ℕ) (bs : List Booking) → AreKept s.records bs → AreKept (s.records ++ (made_turn home s m (made home s m q points)).rec ∷ []) bs
-kept_opened home s m q points bs kept =
-    let r = made home s m q points in
-    let moved = (made_turn home s m r).rec in
-    let plain = plain_told (status_of s.now r) (id_of home.number (s.next + 1)) s.now r (moves_if Side.Provider (requested m.body m.header.correlation r) s.now r) (plain_request m.body m.header.correlation s.now r) in
+pub kept_opened : (setting : Setting) (s : State) (m : Message) (q : ReserveRequest) (points : ℕ × ℕ) (bs : List Booking) → AreKept s.records bs → AreKept (s.records ++ (made_turn setting s m (made setting s m q points)).rec ∷ []) bs
+kept_opened setting s m q points bs kept =
+    let r = made setting s m q points in
+    let moved = (made_turn setting s m r).rec in
+    let plain = plain_told (status_of s.now r) (id_of setting.number (s.next + 1)) s.now r (moves_if Side.Provider (requested m.body m.header.correlation r) s.now r) (plain_request m.body m.header.correlation s.now r) in
     kept_more s.records bs moved kept (ap (λ cs. booked moved (last cs)) plain.committed ∙ sym (nothing moved))
     (ap (booked moved) (plain.holds ∙ either (holds_pending moved.rsm)) ∙ sym (nothing moved))
   where
-    either : (b : Bool) → cond b (held (made home s m q points)) None ≡ None
+    either : (b : Bool) → cond b (held (made setting s m q points)) None ≡ None
     either true = refl
     either false = refl
 
 -- nor has it anything to do at any second
-pub opened_nothing : (home : Home) (s : State) (m : Message) (q : ReserveRequest) (points : ℕ × ℕ) → NamesNothing (made_turn home s m (made home s m q points)).rec
+pub opened_nothing : (setting : Setting) (s : State) (m : Message) (q : ReserveRequest) (points : ℕ × ℕ) → NamesNothing (made_turn setting s m (made setting s m q points)).rec
 unfolding is_live
-opened_nothing home s m q points =
-    let r = made home s m q points in
-    nothing_where_no_more r (made_turn home s m r).rec (record { holds = refl; ends = refl; starts = refl })
-    (told_no_more (status_of s.now r) (id_of home.number (s.next + 1)) s.now r (moves_if Side.Provider (requested m.body m.header.correlation r) s.now r) (request_no_more m.body m.header.correlation s.now r))
+opened_nothing setting s m q points =
+    let r = made setting s m q points in
+    nothing_where_no_more r (made_turn setting s m r).rec (record { holds = refl; ends = refl; starts = refl })
+    (told_no_more (status_of s.now r) (id_of setting.number (s.next + 1)) s.now r (moves_if Side.Provider (requested m.body m.header.correlation r) s.now r) (request_no_more m.body m.header.correlation s.now r))
 
 -- by its parts
-pub made_by : (home : Home) (s : State) (m : Message) (q : ReserveRequest) (points : ℕ × ℕ) (own : Record) (id : ℕ) (owner : List ℕ) (service : Service)
-    → own ≡ fresh id owner service points.0 points.1 → id ≡ id_of home.number s.next → owner ≡ m.header.requester → service ≡ service_of q (name_or q.source) (name_or q.dest) → own ≡ made home s m q points
-made_by home s m q points own id owner service is i o v =
-    is ∙ (ap (λ x. fresh x owner service points.0 points.1) i ∙ (ap (λ x. fresh (id_of home.number s.next) x service points.0 points.1) o ∙ ap (λ x. fresh (id_of home.number s.next) m.header.requester x points.0 points.1) v))
+pub made_by : (setting : Setting) (s : State) (m : Message) (q : ReserveRequest) (points : ℕ × ℕ) (own : Record) (id : ℕ) (owner : List ℕ) (service : Service)
+    → own ≡ fresh id owner service points.0 points.1 → id ≡ id_of setting.number s.next → owner ≡ m.header.requester → service ≡ service_of q (name_or q.source) (name_or q.dest) → own ≡ made setting s m q points
+made_by setting s m q points own id owner service is i o v =
+    is ∙ (ap (λ x. fresh x owner service points.0 points.1) i ∙ (ap (λ x. fresh (id_of setting.number s.next) x service points.0 points.1) o ∙ ap (λ x. fresh (id_of setting.number s.next) m.header.requester x points.0 points.1) v))

@@ -1,5 +1,5 @@
 -- Each record is between the points of the names in its service, after an entry and after many.
-use Rattle.std.proofs.Common.{◌≡◌, ◌<◌, ◌+◌, inl, inr, ◌∙◌, ℕ, Bool, true, false, List, [], ◌∷◌, ◌++◌, Option, Some, None, arith, refl, ap, subst, length, length-append, slice_get, slice_set, unwrap_or, option_and_then}
+use Rattle.std.proofs.Common.{◌≡◌, ◌<◌, ◌+◌, inl, inr, ℕ, Bool, true, false, List, [], ◌∷◌, ◌++◌, Option, Some, None, arith, refl, ap, subst, length, length-append, slice_get, slice_set, option_and_then}
 use Rattle.std.proofs.lemmas.Option.{slice_get-get_or, none-some}
 use Rattle.nsi_primitive.specs.Ids.{id_of}
 use Rattle.nsi_primitive.specs.Messages.{is_request}
@@ -11,22 +11,22 @@ use Rattle.nsi_primitive.specs.declared.entry.Entry.{Entry}
 use Rattle.nsi_primitive.specs.declared.entry.Input.{Input}
 use Rattle.message_retry.specs.Taken.{is_taken}
 use Rattle.connection_record.specs.declared.record.Record.{Record}
-use Rattle.connection_record.specs.declared.turn.Move.{Move}
+use Rattle.connection_record.specs.declared.apply.Move.{Move}
 use Rattle.connection_record.specs.Moves.{service_of}
 use Rattle.connection_record.specs.Order.{HasPoints}
 use Rattle.connection_record.specs.Refusal.{points_of, both}
-use Rattle.connection_record.specs.Turns.{moves_if, requested, status_of, tells}
+use Rattle.connection_record.specs.Applied.{moves_if, requested, status_of, tells}
 use Rattle.connection_record.proofs.InOrder.{later_points, fresh_points}
 use Rattle.provider_agent.specs.declared.agent.Agent.{Agent}
-use Rattle.provider_agent.specs.Home.{Home}
+use Rattle.provider_agent.specs.Setting.{Setting}
 use Rattle.provider_agent.specs.State.{State, blank, record_at, no_record, name_or}
-use Rattle.provider_agent.specs.Steps.{step, hears, works, work_at, forces, force_move, is_forcible, keeps, ticks, ticks_at, ticks_all, told_at, own_origin, agent_of, taken_at, with_new, is_waiting, may_take, after_if, after}
+use Rattle.provider_agent.specs.Steps.{step, receives, works, work_at, forces, force_move, is_forcible, keeps, ticks, ticks_at, ticks_all, told_at, own_origin, agent_of, taken_at, with_new, is_waiting, may_take, after_if, after}
 use Rattle.provider_agent.specs.Points.{HavePoints}
 use Rattle.provider_agent.proofs.RecordPlaces.{set_cases, push_cases}
 use Rattle.provider_agent.proofs.Growing.{moves_if_later, ticked_later, told_later}
 use Rattle.provider_agent.proofs.EachTicked.{each_ticked, each_new}
 use Rattle.provider_agent.proofs.GoodAfter.{waits_within, forcible_within}
-use Rattle.provider_agent.proofs.RequestCases.{seen_with, new_record, heard_by}
+use Rattle.provider_agent.proofs.RequestCases.{seen_with, new_record, received_by}
 
 points_set : (stp_of : List ℕ → Option ℕ) (records : List Record) (n : ℕ) (r x : Record) → HavePoints stp_of records → slice_get records n ≡ Some r → HasPoints stp_of x → HavePoints stp_of (slice_set records n x)
 points_set stp_of records n r x have h new k y p = elim (set_cases records n k x y r h p) [
@@ -59,45 +59,45 @@ points_are stp_of (Some source) (Some dest) points e = by_points (stp_of source)
 ---- Entries
 
 -- a move of the record at a place, with what is told of its data plane
-points_kept : (stp_of : List ℕ → Option ℕ) (home : Home) (s : State) (n : ℕ) (o : Option Move) → n < length s.records → HavePoints stp_of s.records
-    → HavePoints stp_of (keeps home s n (moves_if Side.Provider o s.now (record_at n s.records))).state.records
-points_kept stp_of home s n o lt have =
+points_kept : (stp_of : List ℕ → Option ℕ) (setting : Setting) (s : State) (n : ℕ) (o : Option Move) → n < length s.records → HavePoints stp_of s.records
+    → HavePoints stp_of (keeps setting s n (moves_if Side.Provider o s.now (record_at n s.records))).state.records
+points_kept stp_of setting s n o lt have =
     let r : Record = record_at n s.records in
-    let c : ℕ = id_of home.number s.next in
+    let c : ℕ = id_of setting.number s.next in
     let there = slice_get-get_or s.records n no_record lt in
     let x = moves_if Side.Provider o s.now r in
     let later = told_later (status_of s.now r) c s.now r x (moves_if_later Side.Provider o s.now r) in
     points_set stp_of s.records n r (tells (status_of s.now r) c s.now x).rec have there (later_points stp_of r (tells (status_of s.now r) c s.now x).rec later (have n r there))
 
-points_taken : (stp_of : List ℕ → Option ℕ) (home : Home) (s : State) (n : ℕ) (m : Message) → n < length s.records → HavePoints stp_of s.records → HavePoints stp_of (taken_at home s n m).state.records
-points_taken stp_of home s n m lt have = points_kept stp_of home s n (requested m.body m.header.correlation (record_at n s.records)) lt have
+points_taken : (stp_of : List ℕ → Option ℕ) (setting : Setting) (s : State) (n : ℕ) (m : Message) → n < length s.records → HavePoints stp_of s.records → HavePoints stp_of (taken_at setting s n m).state.records
+points_taken stp_of setting s n m lt have = points_kept stp_of setting s n (requested m.body m.header.correlation (record_at n s.records)) lt have
 
-points_opened : (stp_of : List ℕ → Option ℕ) (home : Home) (s : State) (m : Message) (q : ReserveRequest) (points : ℕ × ℕ) → points_of stp_of q ≡ Some points → HavePoints stp_of s.records
-    → HavePoints stp_of (taken_at home (with_new home s m q points) (length s.records) m).state.records
-points_opened stp_of home s m q points are have =
+points_opened : (stp_of : List ℕ → Option ℕ) (setting : Setting) (s : State) (m : Message) (q : ReserveRequest) (points : ℕ × ℕ) → points_of stp_of q ≡ Some points → HavePoints stp_of s.records
+    → HavePoints stp_of (taken_at setting (with_new setting s m q points) (length s.records) m).state.records
+points_opened stp_of setting s m q points are have =
     let names = points_are stp_of q.source q.dest points are in
     let service = service_of q (name_or q.source) (name_or q.dest) in
-    points_taken stp_of home (with_new home s m q points) (length s.records) m (omega (arith, length-append s.records (new_record home s m q points ∷ [])))
-    (points_push stp_of s.records (new_record home s m q points) have (fresh_points stp_of (id_of home.number s.next) m.header.requester service points.0 points.1 names.0 names.1))
+    points_taken stp_of setting (with_new setting s m q points) (length s.records) m (omega (arith, length-append s.records (new_record setting s m q points ∷ [])))
+    (points_push stp_of s.records (new_record setting s m q points) have (fresh_points stp_of (id_of setting.number s.next) m.header.requester service points.0 points.1 names.0 names.1))
 
-points_heard : (stp_of : List ℕ → Option ℕ) (home : Home) (s : State) (m : Message) → HavePoints stp_of s.records → HavePoints stp_of (hears (is_request m.body) (is_taken m.header s.seen) home stp_of s m).state.records
-points_heard stp_of home s m have = heard_by home stp_of s m (λ x. HavePoints stp_of x.state.records) (record {
+points_received : (stp_of : List ℕ → Option ℕ) (setting : Setting) (s : State) (m : Message) → HavePoints stp_of s.records → HavePoints stp_of (receives (is_request m.body) (is_taken m.header s.seen) setting stp_of s m).state.records
+points_received stp_of setting s m have = received_by setting stp_of s m (λ x. HavePoints stp_of x.state.records) (record {
   ignored = have;
   unopened = have;
   refused = λ error r. have;
-  opened = λ q points e are. points_opened stp_of home (seen_with s m) m q points are have;
-  moved = λ n lt fine. points_taken stp_of home (seen_with s m) n m lt have;
+  opened = λ q points e are. points_opened stp_of setting (seen_with s m) m q points are have;
+  moved = λ n lt fine. points_taken stp_of setting (seen_with s m) n m lt have;
 })
 
-points_worked : (b : Bool) (stp_of : List ℕ → Option ℕ) (home : Home) (s : State) (n : ℕ) (machine : Machine) → (b ≡ true → n < length s.records) → HavePoints stp_of s.records → HavePoints stp_of (works b home s n machine).state.records
+points_worked : (b : Bool) (stp_of : List ℕ → Option ℕ) (setting : Setting) (s : State) (n : ℕ) (machine : Machine) → (b ≡ true → n < length s.records) → HavePoints stp_of s.records → HavePoints stp_of (works b setting s n machine).state.records
 unfolding works
-points_worked false stp_of home s n machine h have = have
-points_worked true stp_of home s n machine h have = points_kept stp_of home s n (work_at home s n machine) (h refl) have
+points_worked false stp_of setting s n machine h have = have
+points_worked true stp_of setting s n machine h have = points_kept stp_of setting s n (work_at setting s n machine) (h refl) have
 
-points_forced : (b : Bool) (stp_of : List ℕ → Option ℕ) (home : Home) (s : State) (n : ℕ) → (b ≡ true → n < length s.records) → HavePoints stp_of s.records → HavePoints stp_of (forces b home s n).state.records
+points_forced : (b : Bool) (stp_of : List ℕ → Option ℕ) (setting : Setting) (s : State) (n : ℕ) → (b ≡ true → n < length s.records) → HavePoints stp_of s.records → HavePoints stp_of (forces b setting s n).state.records
 unfolding forces
-points_forced false stp_of home s n h have = have
-points_forced true stp_of home s n h have = points_kept stp_of home (record s { next = s.next + 1 }) n (Some (force_move home s n)) (h refl) have
+points_forced false stp_of setting s n h have = have
+points_forced true stp_of setting s n h have = points_kept stp_of setting (record s { next = s.next + 1 }) n (Some (force_move setting s n)) (h refl) have
 
 abbrev KeepsPoints : (List ℕ → Option ℕ) → Record → Record → Type 0
 KeepsPoints stp_of a b = HasPoints stp_of a → HasPoints stp_of b
@@ -105,26 +105,26 @@ KeepsPoints stp_of a b = HasPoints stp_of a → HasPoints stp_of b
 points_ticked : (stp_of : List ℕ → Option ℕ) (agent : Agent) (before now c : ℕ) (r : Record) → KeepsPoints stp_of r (told_at agent before now c r).rec
 points_ticked stp_of agent before now c r = later_points stp_of r (told_at agent before now c r).rec (told_later (status_of before r) c now r (ticks_at agent now r) (ticked_later (own_origin agent r) now r))
 
-points_step : (input : Input) (second : ℕ) (home : Home) (stp_of : List ℕ → Option ℕ) (s : State) → HavePoints stp_of s.records → HavePoints stp_of (step input second home stp_of s).state.records
+points_step : (input : Input) (second : ℕ) (setting : Setting) (stp_of : List ℕ → Option ℕ) (s : State) → HavePoints stp_of s.records → HavePoints stp_of (step input second setting stp_of s).state.records
 unfolding step ticks
-points_step (Input.Got m) second home stp_of s have = points_heard stp_of home s m have
-points_step (Input.Work n machine) second home stp_of s have = points_worked (is_waiting s n machine) stp_of home s n machine (waits_within s n machine) have
-points_step (Input.Force n) second home stp_of s have = points_forced (is_forcible s n) stp_of home s n (forcible_within s n) have
-points_step Input.Tick second home stp_of s have =
-    let agent : Agent = agent_of home in
+points_step (Input.Got m) second setting stp_of s have = points_received stp_of setting s m have
+points_step (Input.Work n machine) second setting stp_of s have = points_worked (is_waiting s n machine) stp_of setting s n machine (waits_within s n machine) have
+points_step (Input.Force n) second setting stp_of s have = points_forced (is_forcible s n) stp_of setting s n (forcible_within s n) have
+points_step Input.Tick second setting stp_of s have =
+    let agent : Agent = agent_of setting in
     let x = ticks_all agent s.now second s.next s.records in
     let each = each_ticked (KeepsPoints stp_of) agent s.now second s.next s.records (points_ticked stp_of agent s.now second) in
     λ n r h. let old = each_new (KeepsPoints stp_of) s.records x.records n r each h in old.2 (have n old.0 old.1)
-points_step _ second home stp_of s have = have
+points_step _ second setting stp_of s have = have
 
 -- Records stay between their points.
-pub points_after : (stp_of : List ℕ → Option ℕ) (home : Home) (s : State) (e : Entry) → HavePoints stp_of s.records → HavePoints stp_of (after home stp_of s e).state.records
+pub points_after : (stp_of : List ℕ → Option ℕ) (setting : Setting) (s : State) (e : Entry) → HavePoints stp_of s.records → HavePoints stp_of (after setting stp_of s e).state.records
 unfolding after
-points_after stp_of home s e have = by_may (may_take s e)
+points_after stp_of setting s e have = by_may (may_take s e)
   where
-    by_may : (b : Bool) → HavePoints stp_of (after_if b home stp_of s e).state.records
+    by_may : (b : Bool) → HavePoints stp_of (after_if b setting stp_of s e).state.records
     by_may false = have
-    by_may true = points_step e.input e.second home stp_of s have
+    by_may true = points_step e.input e.second setting stp_of s have
 
 pub points_blank : (stp_of : List ℕ → Option ℕ) → HavePoints stp_of blank.records
 points_blank stp_of n r h = absurd (none-some r h)

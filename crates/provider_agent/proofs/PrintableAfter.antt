@@ -18,26 +18,29 @@ use Rattle.nsi_primitive.specs.declared.entry.Entry.{Entry}
 use Rattle.nsi_primitive.specs.declared.entry.Input.{Input}
 use Rattle.message_retry.specs.Taken.{is_taken}
 use Rattle.capacity_calendar.specs.declared.booking.Lack.{Lack}
+use Rattle.reserve_machine.specs.Table.{step as reserve_step}
+use Rattle.provision_machine.specs.Table.{step as provision_step}
+use Rattle.lifecycle_machine.specs.Table.{step as lifecycle_step}
 use Rattle.connection_record.specs.declared.record.Record.{Record}
 use Rattle.connection_record.specs.declared.life.LifecycleMove.{LifecycleMove}
 use Rattle.connection_record.specs.declared.moves.Origin.{Origin}
 use Rattle.connection_record.specs.declared.moves.ReservationMove.{ReservationMove}
 use Rattle.connection_record.specs.declared.provisioning.ProvisionMove.{ProvisionMove}
-use Rattle.connection_record.specs.declared.turn.Move.{Move}
+use Rattle.connection_record.specs.declared.apply.Move.{Move}
 use Rattle.connection_record.specs.Demand.{last}
-use Rattle.connection_record.specs.Lives.{provisions, provisions_if, lives, lives_if}
-use Rattle.connection_record.specs.Moves.{reserves, reserves_if, worked, hold_end}
+use Rattle.connection_record.specs.Lives.{provision_event, lifecycle_event, provisions, provisions_if, lives, lives_if}
+use Rattle.connection_record.specs.Moves.{event_of, reserves, reserves_if, worked, hold_end}
 use Rattle.connection_record.specs.Refusal.{refusal, modification_refusal, unnamed_refusal}
 use Rattle.connection_record.specs.Replies.{plain}
-use Rattle.connection_record.specs.Turns.{reservation_closing, provision_closing, moves, moves_if, requested, provided, work_of, schedule_end}
-use Rattle.provider_agent.specs.Home.{Home}
+use Rattle.connection_record.specs.Applied.{reservation_closing, provision_closing, moves, moves_if, requested, provided, work_of, schedule_end}
+use Rattle.provider_agent.specs.Setting.{Setting}
 use Rattle.provider_agent.specs.Others.{first_lack, cause_of, lack_of, lacking}
 use Rattle.provider_agent.specs.State.{State, Stepped, record_at, no_record}
-use Rattle.provider_agent.specs.Steps.{step, hears, works, work_at, forces, force_move, is_forcible, keeps, ticks, taken_at, with_new, error_reply, is_waiting, may_take, after_if, after, agent_of, own_origin}
+use Rattle.provider_agent.specs.Steps.{step, receives, works, work_at, forces, force_move, is_forcible, keeps, ticks, taken_at, with_new, error_reply, is_waiting, may_take, after_if, after, agent_of, own_origin}
 use Rattle.provider_agent.specs.Good.{IsGoodRecord, IsGood}
 use Rattle.provider_agent.proofs.EachSays.{EachReply, EachMessage, nothing_said, one_said, closes_each, ticked_each, kept_each, ticks_each}
 use Rattle.provider_agent.proofs.GoodAfter.{waits_within}
-use Rattle.provider_agent.proofs.RequestCases.{seen_with, heard_by}
+use Rattle.provider_agent.proofs.RequestCases.{seen_with, received_by}
 
 ---- Replies
 
@@ -58,15 +61,15 @@ IsPrintableMove (Move.Provision m) r = IsPrintableProvision m
 IsPrintableMove _ r = Unit {0}
 
 reserves_printable : (k : Rsm) (move : ReservationMove) (now : ℕ) (r : Record) → IsPrintableReservation move r → EachReply IsPrintableBody (reserves k move now r).out
-unfolding reserves
+unfolding reserves reserve_step event_of
 reserves_printable k move now r p = grind arith
 
 provisions_printable : (side : Side) (k : Psm) (move : ProvisionMove) (now : ℕ) (r : Record) → IsPrintableProvision move → EachReply IsPrintableBody (provisions side k move now r).out
-unfolding provisions
+unfolding provisions provision_step provision_event
 provisions_printable side k move now r p = grind arith
 
 lives_printable : (k : Lsm) (move : LifecycleMove) (now : ℕ) (r : Record) → EachReply IsPrintableBody (lives k move now r).out
-unfolding lives
+unfolding lives lifecycle_step lifecycle_event
 lives_printable k move now r = grind arith
 
 reserves_if_printable : (o : Option ReservationMove) (now : ℕ) (r : Record) → IfSome o (λ m. IsPrintableReservation m r) → EachReply IsPrintableBody (reserves_if o now r).out
@@ -123,13 +126,13 @@ cause_printable true lack r = refl
 cause_printable false None r = tt
 cause_printable false (Some l) r = tt
 
-lacking_printable : (home : Home) (s : State) (n : ℕ) → IfSome (lacking home s n) IsPrintableCause
+lacking_printable : (setting : Setting) (s : State) (n : ℕ) → IfSome (lacking setting s n) IsPrintableCause
 unfolding lacking
-lacking_printable home s n = by_pending (record_at n s.records).pending
+lacking_printable setting s n = by_pending (record_at n s.records).pending
   where
-    by_pending : (o : Option Criteria) → IfSome (lack_of o home s n) IsPrintableCause
+    by_pending : (o : Option Criteria) → IfSome (lack_of o setting s n) IsPrintableCause
     by_pending None = tt
-    by_pending (Some c) = cause_printable (nat_le c.interval.end s.now) (first_lack home n s.records c) (record_at n s.records)
+    by_pending (Some c) = cause_printable (nat_le c.interval.end s.now) (first_lack setting n s.records c) (record_at n s.records)
 
 ---- Errors
 
@@ -156,52 +159,52 @@ error_plain o error p e = subst IsPlain e p
 abbrev SaysPrintable : Stepped → Type 0
 SaysPrintable x = EachMessage IsPrintableBody x.out
 
-printable_kept : (home : Home) (s : State) (n : ℕ) (o : Option Move) → IfSome o (λ m. IsPrintableMove m (record_at n s.records)) → SaysPrintable (keeps home s n (moves_if Side.Provider o s.now (record_at n s.records)))
-printable_kept home s n o p = kept_each IsPrintableBody home s n (moves_if Side.Provider o s.now (record_at n s.records)) (λ notice. tt) (moves_if_printable Side.Provider o s.now (record_at n s.records) p)
+printable_kept : (setting : Setting) (s : State) (n : ℕ) (o : Option Move) → IfSome o (λ m. IsPrintableMove m (record_at n s.records)) → SaysPrintable (keeps setting s n (moves_if Side.Provider o s.now (record_at n s.records)))
+printable_kept setting s n o p = kept_each IsPrintableBody setting s n (moves_if Side.Provider o s.now (record_at n s.records)) (λ notice. tt) (moves_if_printable Side.Provider o s.now (record_at n s.records) p)
 
-printable_heard : (home : Home) (stp_of : List ℕ → Option ℕ) (s : State) (m : Message) → SaysPrintable (hears (is_request m.body) (is_taken m.header s.seen) home stp_of s m)
-printable_heard home stp_of s m = heard_by home stp_of s m SaysPrintable (record {
+printable_received : (setting : Setting) (stp_of : List ℕ → Option ℕ) (s : State) (m : Message) → SaysPrintable (receives (is_request m.body) (is_taken m.header s.seen) setting stp_of s m)
+printable_received setting stp_of s m = received_by setting stp_of s m SaysPrintable (record {
   ignored = nothing_said IsPrintableBody;
   unopened = nothing_said IsPrintableBody;
-  refused = λ error r. one_said IsPrintableBody (error_reply home.name m error) (error_plain (refusal home.name stp_of s.records m) error (refusal_plain home.name stp_of s.records m) r);
-  opened = λ q points e are. taken (with_new home (seen_with s m) m q points) (length s.records);
+  refused = λ error r. one_said IsPrintableBody (error_reply setting.name m error) (error_plain (refusal setting.name stp_of s.records m) error (refusal_plain setting.name stp_of s.records m) r);
+  opened = λ q points e are. taken (with_new setting (seen_with s m) m q points) (length s.records);
   moved = λ n lt fine. taken (seen_with s m) n;
 })
   where
-    taken : (x : State) (n : ℕ) → SaysPrintable (taken_at home x n m)
+    taken : (x : State) (n : ℕ) → SaysPrintable (taken_at setting x n m)
     taken x n =
         let r : Record = record_at n x.records in
-        printable_kept home x n (requested m.body m.header.correlation r) (requested_printable m.body m.header.correlation r)
+        printable_kept setting x n (requested m.body m.header.correlation r) (requested_printable m.body m.header.correlation r)
 
-printable_worked : (b : Bool) (home : Home) (s : State) (n : ℕ) (machine : Machine) → is_waiting s n machine ≡ b → IsGood home s → SaysPrintable (works b home s n machine)
+printable_worked : (b : Bool) (setting : Setting) (s : State) (n : ℕ) (machine : Machine) → is_waiting s n machine ≡ b → IsGood setting s → SaysPrintable (works b setting s n machine)
 unfolding works
-printable_worked false home s n machine e g = nothing_said IsPrintableBody
-printable_worked true home s n machine e g =
+printable_worked false setting s n machine e g = nothing_said IsPrintableBody
+printable_worked true setting s n machine e g =
     let r : Record = record_at n s.records in
     let good = g.records n r (slice_get-get_or s.records n no_record (waits_within s n machine e)) in
-    printable_kept home s n (work_at home s n machine) (worked_printable machine (lacking home s n) home.name (s.now + home.hold) r good (lacking_printable home s n))
+    printable_kept setting s n (work_at setting s n machine) (worked_printable machine (lacking setting s n) setting.name (s.now + setting.hold) r good (lacking_printable setting s n))
 
-printable_forced : (b : Bool) (home : Home) (s : State) (n : ℕ) → SaysPrintable (forces b home s n)
+printable_forced : (b : Bool) (setting : Setting) (s : State) (n : ℕ) → SaysPrintable (forces b setting s n)
 unfolding forces
-printable_forced false home s n = nothing_said IsPrintableBody
-printable_forced true home s n = printable_kept home (record s { next = s.next + 1 }) n (Some (force_move home s n)) tt
+printable_forced false setting s n = nothing_said IsPrintableBody
+printable_forced true setting s n = printable_kept setting (record s { next = s.next + 1 }) n (Some (force_move setting s n)) tt
 
-printable_step : (input : Input) (second : ℕ) (home : Home) (stp_of : List ℕ → Option ℕ) (s : State) → IsGood home s → SaysPrintable (step input second home stp_of s)
+printable_step : (input : Input) (second : ℕ) (setting : Setting) (stp_of : List ℕ → Option ℕ) (s : State) → IsGood setting s → SaysPrintable (step input second setting stp_of s)
 unfolding step ticks
-printable_step (Input.Got m) second home stp_of s g = printable_heard home stp_of s m
-printable_step (Input.Work n machine) second home stp_of s g = printable_worked (is_waiting s n machine) home s n machine refl g
-printable_step (Input.Force n) second home stp_of s g = printable_forced (is_forcible s n) home s n
-printable_step Input.Tick second home stp_of s g = ticks_each IsPrintableBody (agent_of home) s.now second s.next s.records (λ notice. tt)
-    (λ r. ticked_each IsPrintableBody (own_origin (agent_of home) r) second r
-    (reserves_if_printable (hold_end r.rsm r.deadline second (own_origin (agent_of home) r)) second r (hold_end_printable r.rsm r.deadline second (own_origin (agent_of home) r) r))
+printable_step (Input.Got m) second setting stp_of s g = printable_received setting stp_of s m
+printable_step (Input.Work n machine) second setting stp_of s g = printable_worked (is_waiting s n machine) setting s n machine refl g
+printable_step (Input.Force n) second setting stp_of s g = printable_forced (is_forcible s n) setting s n
+printable_step Input.Tick second setting stp_of s g = ticks_each IsPrintableBody (agent_of setting) s.now second s.next s.records (λ notice. tt)
+    (λ r. ticked_each IsPrintableBody (own_origin (agent_of setting) r) second r
+    (reserves_if_printable (hold_end r.rsm r.deadline second (own_origin (agent_of setting) r)) second r (hold_end_printable r.rsm r.deadline second (own_origin (agent_of setting) r) r))
     (λ x. lives_if_printable (schedule_end (last x.committed) second) second x))
-printable_step _ second home stp_of s g = nothing_said IsPrintableBody
+printable_step _ second setting stp_of s g = nothing_said IsPrintableBody
 
 -- What a good provider says has a spelling.
-pub printable_after : (home : Home) (stp_of : List ℕ → Option ℕ) (s : State) (e : Entry) → IsGood home s → IsPrintableInput e.input → All IsPrintable (after home stp_of s e).out
+pub printable_after : (setting : Setting) (stp_of : List ℕ → Option ℕ) (s : State) (e : Entry) → IsGood setting s → IsPrintableInput e.input → All IsPrintable (after setting stp_of s e).out
 unfolding after
-printable_after home stp_of s e g p = by_may (may_take s e)
+printable_after setting stp_of s e g p = by_may (may_take s e)
   where
-    by_may : (b : Bool) → All IsPrintable (after_if b home stp_of s e).out
+    by_may : (b : Bool) → All IsPrintable (after_if b setting stp_of s e).out
     by_may false = nothing_said IsPrintableBody
-    by_may true = printable_step e.input e.second home stp_of s g
+    by_may true = printable_step e.input e.second setting stp_of s g

@@ -18,13 +18,14 @@ use Rattle.capacity_calendar.specs.Load.{others}
 use Rattle.capacity_calendar.specs.Plan.{committed_of, pending_of, pending_set, with_pending, settled, HasNoneFrom}
 use Rattle.capacity_calendar.proofs.SlotsByNumber as slots
 use Rattle.capacity_calendar.proofs.ByNumber.{none_from_others, none_from_pending_set, none_from_with_pending, none_from_settled}
+use Rattle.reserve_machine.specs.Table.{step as reserve_step}
 use Rattle.connection_record.specs.declared.record.Record.{Record}
 use Rattle.connection_record.specs.declared.moves.ReservationMove.{ReservationMove}
 use Rattle.connection_record.specs.declared.provisioning.ProvisionMove.{ProvisionMove}
-use Rattle.connection_record.specs.declared.turn.Move.{Move}
+use Rattle.connection_record.specs.declared.apply.Move.{Move}
 use Rattle.connection_record.specs.Demand.{last, held, is_terminated}
-use Rattle.connection_record.specs.Moves.{reserves, is_live, committed_with}
-use Rattle.connection_record.specs.Turns.{closes, moves, tells, waits, work_of, provided, is_provisioning}
+use Rattle.connection_record.specs.Moves.{event_of, reserves, is_live, committed_with}
+use Rattle.connection_record.specs.Applied.{closes, moves, tells, waits, work_of, provided, is_provisioning}
 use Rattle.provider_agent.specs.Others.{lack_among, cause_among, cause_of}
 use Rattle.provider_agent.specs.State.{State, no_record, record_at}
 use Rattle.provider_agent.specs.Steps.{is_waiting}
@@ -72,11 +73,11 @@ booked_live : (r : Record) (c : Option Criteria) → is_live r.lsm ≡ true → 
 booked_live r c live = ap (λ b. cond b None (option_map (slot_of r) c)) (not_terminated r.lsm live)
 
 fitted_committed : (d : Option ℕ) (now : ℕ) (r : Record) → (reserves Rsm.ReserveChecking (ReservationMove.Fit d) now r).rec.committed ≡ r.committed
-unfolding reserves
+unfolding reserves reserve_step event_of
 fitted_committed d now r = grind arith
 
 fitted_held : (d : Option ℕ) (now : ℕ) (r : Record) → r.rsm ≡ Rsm.ReserveChecking → held (reserves Rsm.ReserveChecking (ReservationMove.Fit d) now r).rec ≡ r.pending
-unfolding reserves
+unfolding reserves reserve_step event_of
 fitted_held d now r at = grind arith
 
 held_checking : (r : Record) → r.rsm ≡ Rsm.ReserveChecking → held r ≡ None
@@ -175,11 +176,11 @@ is_booked_pending records bs n kept l at live h =
     mapped o e = grind arith
 
 done_held : (now : ℕ) (r : Record) → held (reserves Rsm.ReserveCommitting ReservationMove.Done now r).rec ≡ None
-unfolding reserves
+unfolding reserves reserve_step event_of
 done_held now r = refl
 
 done_committed : (now : ℕ) (r : Record) → (reserves Rsm.ReserveCommitting ReservationMove.Done now r).rec.committed ≡ committed_with r.committed r.pending
-unfolding reserves
+unfolding reserves reserve_step event_of
 done_committed now r = refl
 
 -- What is committed is booked in place of what was committed before.

@@ -1,4 +1,4 @@
--- What hearing a message comes to: nothing, an error, a new record, or a move of a record that is there.
+-- What receiving a message comes to: nothing, an error, a new record, or a move of a record that is there.
 use Rattle.std.proofs.Common.{◌≡◌, ◌<◌, ◌∙◌, ℕ, Bool, true, false, List, [], ◌∷◌, Option, Some, None, refl, sym, ap, subst, not, eqb, ◌&&◌, bytes_eq, length, slice_get, unwrap_or, option_and_then}
 use Rattle.std.proofs.lemmas.List.Quantifiers.{position-Some}
 use Rattle.std.proofs.lemmas.Option.{slice_get-get_or}
@@ -12,17 +12,17 @@ use Rattle.message_retry.specs.Taken.{is_taken, with_taken}
 use Rattle.connection_record.specs.declared.record.Record.{Record}
 use Rattle.connection_record.specs.Moves.{is_live, fresh, service_of}
 use Rattle.connection_record.specs.Refusal.{refusal, is_in_place, has_row, refused_if, or_else, about, named_refusal, record_refusal, modification_refusal, place_of, points_of, record_for}
-use Rattle.provider_agent.specs.Home.{Home}
+use Rattle.provider_agent.specs.Setting.{Setting}
 use Rattle.provider_agent.specs.State.{State, Stepped, unchanged, says, record_at, no_record, name_or}
-use Rattle.provider_agent.specs.Steps.{hears, answers, accepts, opens, opens_between, taken_at, with_new, error_reply}
+use Rattle.provider_agent.specs.Steps.{receives, answers, accepts, opens, opens_between, taken_at, with_new, error_reply}
 
 -- the state in which a request counts as seen
 abbrev pub seen_with : State → Message → State
 seen_with s m = record s { seen = with_taken m.header s.seen }
 
 -- the record that a first reserve makes
-abbrev pub new_record : Home → State → Message → ReserveRequest → ℕ × ℕ → Record
-new_record home s m q points = fresh (id_of home.number s.next) m.header.requester (service_of q (name_or q.source) (name_or q.dest)) points.0 points.1
+abbrev pub new_record : Setting → State → Message → ReserveRequest → ℕ × ℕ → Record
+new_record setting s m q points = fresh (id_of setting.number s.next) m.header.requester (service_of q (name_or q.source) (name_or q.dest)) points.0 points.1
 
 second_none : (a b : Option ErrorName) → or_else a b ≡ None → b ≡ None
 second_none None b h = h
@@ -58,38 +58,38 @@ named_at agent stp_of records m id c h = by_place (place_of id m.header.requeste
         third r g = second_none (refused_if (not (is_in_place m.body r && has_row m.body r)) ErrorName.InvalidTransition) (modification_refusal m.body r)
             (second_none (refused_if (not (is_live r.lsm)) ErrorName.Gone) (or_else (refused_if (not (is_in_place m.body r && has_row m.body r)) ErrorName.InvalidTransition) (modification_refusal m.body r)) g)
 
--- what holds of each of these holds of what is heard
-pub record IsInEachCase (home : Home) (stp_of : List ℕ → Option ℕ) (s : State) (m : Message) (P : Stepped → Type 0) : Type 0 where
+-- what holds of each of these holds of what is received
+pub record IsInEachCase (setting : Setting) (stp_of : List ℕ → Option ℕ) (s : State) (m : Message) (P : Stepped → Type 0) : Type 0 where
   pub ignored : P (unchanged s)
   pub unopened : P (unchanged (seen_with s m))
-  pub refused : (error : ErrorName) → refusal home.name stp_of s.records m ≡ Some error → P (says (seen_with s m) (error_reply home.name m error ∷ []))
-  pub opened : (q : ReserveRequest) (points : ℕ × ℕ) → m.body ≡ Body.Reserve q → points_of stp_of q ≡ Some points → P (taken_at home (with_new home (seen_with s m) m q points) (length s.records) m)
-  pub moved : (n : ℕ) → n < length s.records → modification_refusal m.body (record_at n s.records) ≡ None → P (taken_at home (seen_with s m) n m)
+  pub refused : (error : ErrorName) → refusal setting.name stp_of s.records m ≡ Some error → P (says (seen_with s m) (error_reply setting.name m error ∷ []))
+  pub opened : (q : ReserveRequest) (points : ℕ × ℕ) → m.body ≡ Body.Reserve q → points_of stp_of q ≡ Some points → P (taken_at setting (with_new setting (seen_with s m) m q points) (length s.records) m)
+  pub moved : (n : ℕ) → n < length s.records → modification_refusal m.body (record_at n s.records) ≡ None → P (taken_at setting (seen_with s m) n m)
 
-pub heard_by : (home : Home) (stp_of : List ℕ → Option ℕ) (s : State) (m : Message) (P : Stepped → Type 0) → IsInEachCase home stp_of s m P → P (hears (is_request m.body) (is_taken m.header s.seen) home stp_of s m)
-unfolding hears
-heard_by home stp_of s m P each = by_seen (is_request m.body) (is_taken m.header s.seen)
+pub received_by : (setting : Setting) (stp_of : List ℕ → Option ℕ) (s : State) (m : Message) (P : Stepped → Type 0) → IsInEachCase setting stp_of s m P → P (receives (is_request m.body) (is_taken m.header s.seen) setting stp_of s m)
+unfolding receives
+received_by setting stp_of s m P each = by_seen (is_request m.body) (is_taken m.header s.seen)
   where
-    between : (o : Option (ℕ × ℕ)) (q : ReserveRequest) → m.body ≡ Body.Reserve q → points_of stp_of q ≡ o → P (opens_between o home (seen_with s m) m q)
+    between : (o : Option (ℕ × ℕ)) (q : ReserveRequest) → m.body ≡ Body.Reserve q → points_of stp_of q ≡ o → P (opens_between o setting (seen_with s m) m q)
     between None q e are = each.unopened
     between (Some points) q e are = each.opened q points e are
 
-    opening : (body : Body) → m.body ≡ body → P (opens body home stp_of (seen_with s m) m)
+    opening : (body : Body) → m.body ≡ body → P (opens body setting stp_of (seen_with s m) m)
     opening (Body.Reserve q) e = between (points_of stp_of q) q e refl
     opening _ e = each.unopened
 
-    accepting : (o : Option ℕ) → connection_of m.body ≡ o → refusal home.name stp_of s.records m ≡ None → P (accepts o home stp_of (seen_with s m) m)
+    accepting : (o : Option ℕ) → connection_of m.body ≡ o → refusal setting.name stp_of s.records m ≡ None → P (accepts o setting stp_of (seen_with s m) m)
     accepting None e r = opening m.body refl
     accepting (Some id) e r =
-        let named = named_at home.name stp_of s.records m id e r in
-        subst (λ (k : ℕ). P (taken_at home (seen_with s m) k m)) (sym (ap (λ o. unwrap_or o 0) named.1.place_is)) (each.moved named.0 named.1.within named.1.unrefused)
+        let named = named_at setting.name stp_of s.records m id e r in
+        subst (λ (k : ℕ). P (taken_at setting (seen_with s m) k m)) (sym (ap (λ o. unwrap_or o 0) named.1.place_is)) (each.moved named.0 named.1.within named.1.unrefused)
 
-    answering : (o : Option ErrorName) → refusal home.name stp_of s.records m ≡ o → P (answers o home stp_of (seen_with s m) m)
+    answering : (o : Option ErrorName) → refusal setting.name stp_of s.records m ≡ o → P (answers o setting stp_of (seen_with s m) m)
     answering (Some error) r = each.refused error r
     answering None r = accepting (connection_of m.body) refl r
 
-    by_seen : (a b : Bool) → P (hears a b home stp_of s m)
-    by_seen true false = answering (refusal home.name stp_of s.records m) refl
+    by_seen : (a b : Bool) → P (receives a b setting stp_of s m)
+    by_seen true false = answering (refusal setting.name stp_of s.records m) refl
     by_seen true true = each.ignored
     by_seen false true = each.ignored
     by_seen false false = each.ignored

@@ -3,68 +3,66 @@ use Rattle.std.proofs.Common.{◌≡◌, ◌≤◌, ◌<◌, ℕ, true, Option, 
 use Rattle.nsi_primitive.specs.Printable.{IsPrintable, IsPrintableInput}
 use Rattle.nsi_primitive.specs.declared.entry.Entry.{Entry}
 use Rattle.nsi_primitive.specs.declared.message.Message.{Message}
-use Rattle.provider_agent.specs.Home.{Home}
+use Rattle.provider_agent.specs.Setting.{Setting}
 use Rattle.std.specs.declared.alloc.AllocError.{AllocError}
 use Rattle.provider_agent.specs.State.{State, Standing, Stepped, counts}
 use Rattle.provider_agent.specs.Steps.{step, after, may_take}
 use Rattle.provider_agent.specs.Good.{IsGood}
 use Rattle.provider_agent.specs.Safety.{Keeps}
-use Rattle.provider_agent.specs.Kept.{AreKept}
-use Rattle.provider_agent.specs.Indexed.{AreIndexed}
-use Rattle.provider_agent.specs.Desk.{home_at, state_at, standing_at, IsReady, IsSteady}
-use Rattle.provider_agent.specs.declared.desk.Desk.{Desk}
+use Rattle.provider_agent.specs.Step.{IsStep}
+use Rattle.provider_agent.specs.Core.{setting_at, state_at, standing_at, IsConsistent, IsReady, IsSteady}
+use Rattle.provider_agent.specs.declared.provider_core.Core.{Core}
 use Rattle.provider_agent.proofs.Counting.{step_taken, taken_is}
 use Rattle.provider_agent.proofs.GoodAfter.{few_taken, good_after}
 use Rattle.provider_agent.proofs.KeepsAfter.{keeps_after, keeps_same}
 
 -- what is good has a place and a number for one record more
-pub ready_where_steady : (d : Desk) → IsSteady d → d.taken < 4194304 → IsReady d
+pub ready_where_steady : (d : Core) → IsSteady d → d.taken < 4194304 → IsReady d
 ready_where_steady d steady few =
-    record { kept = steady.kept; indexed = steady.indexed; ordered = steady.good.ordered; few = omega (arith, steady.good.few, few); drawn = omega (arith, steady.good.drawn, few) }
+    record { consistent = steady.consistent; ordered = steady.good.ordered; few = omega (arith, steady.good.few, few); drawn = omega (arith, steady.good.drawn, few) }
 
-abbrev standing_of : Home → State → Standing
-standing_of h s = record { home = h; state = s }
+abbrev standing_of : Setting → State → Standing
+standing_of h s = record { setting = h; state = s }
 
--- what an entry that is taken makes of a desk
-module _ {R : Type 0} (result : Result R AllocError) (d new : Desk) (stp_of : List ℕ → Option ℕ) (e : Entry)
+-- what an entry that is taken makes of a core
+module _ (result : Result (Vec Message Global) AllocError) (d new : Core) (stp_of : List ℕ → Option ℕ) (e : Entry)
     (steady : IsSteady d) (may : may_take (state_at d) e ≡ true) (printable : IsPrintableInput e.input)
-    (ok : OnOk result (state_at new ≡ (counts (step e.input e.second (home_at d) stp_of (state_at d))).state))
-    (err : OnErr result (state_at new ≡ state_at d)) (home : home_at new ≡ home_at d) (kept : AreKept new.records.items new.calendar.bookings) (indexed : AreIndexed new.now new.records.items new.waiting new.deadlines) where
-  good_as : (s : State) → state_at new ≡ s → IsGood (home_at d) s → IsGood (home_at new) (state_at new)
-  good_as s is good = subst (λ h. IsGood h (state_at new)) (sym home) (subst (IsGood (home_at d)) (sym is) good)
+    (made : IsStep d new result (λ setting s. counts (step e.input e.second setting stp_of s))) (consistent : IsConsistent new) where
+  good_as : (s : State) → state_at new ≡ s → IsGood (setting_at d) s → IsGood (setting_at new) (state_at new)
+  good_as s is good = subst (λ h. IsGood h (state_at new)) (sym made.setting) (subst (IsGood (setting_at d)) (sym is) good)
 
-  after_is : (counts (step e.input e.second (home_at d) stp_of (state_at d))).state ≡ (after (home_at d) stp_of (state_at d) e).state
-  after_is = ap (λ (x : Stepped). x.state) (sym (taken_is (home_at d) stp_of (state_at d) e may))
+  after_is : (counts (step e.input e.second (setting_at d) stp_of (state_at d))).state ≡ (after (setting_at d) stp_of (state_at d) e).state
+  after_is = ap (λ (x : Stepped). x.state) (sym (taken_is (setting_at d) stp_of (state_at d) e may))
 
-  good_by : (r : Result R AllocError) → OnOk r (state_at new ≡ (counts (step e.input e.second (home_at d) stp_of (state_at d))).state) → OnErr r (state_at new ≡ state_at d) → IsGood (home_at new) (state_at new)
-  good_by (Ok x) is _ = good_as _ (is ∙ after_is) (good_after (home_at d) stp_of (state_at d) e steady.good printable)
+  good_by : (r : Result (Vec Message Global) AllocError) → OnOk r (state_at new ≡ (counts (step e.input e.second (setting_at d) stp_of (state_at d))).state) → OnErr r (state_at new ≡ state_at d) → IsGood (setting_at new) (state_at new)
+  good_by (Ok x) is _ = good_as _ (is ∙ after_is) (good_after (setting_at d) stp_of (state_at d) e steady.good printable)
   good_by (Err x) _ is = good_as _ is steady.good
 
-  most_by : (r : Result R AllocError) → OnOk r (state_at new ≡ (counts (step e.input e.second (home_at d) stp_of (state_at d))).state) → OnErr r (state_at new ≡ state_at d) → new.taken ≤ 4194304
-  most_by (Ok x) is _ = omega (arith, ap (λ (s : State). s.taken) is, step_taken e.input e.second (home_at d) stp_of (state_at d), few_taken (state_at d) e may)
+  most_by : (r : Result (Vec Message Global) AllocError) → OnOk r (state_at new ≡ (counts (step e.input e.second (setting_at d) stp_of (state_at d))).state) → OnErr r (state_at new ≡ state_at d) → new.taken ≤ 4194304
+  most_by (Ok x) is _ = omega (arith, ap (λ (s : State). s.taken) is, step_taken e.input e.second (setting_at d) stp_of (state_at d), few_taken (state_at d) e may)
   most_by (Err x) _ is = omega (arith, ap (λ (s : State). s.taken) is, steady.most)
 
   pub steady_after : IsSteady new
-  steady_after = record { most = most_by result ok err; good = good_by result ok err; kept = kept; indexed = indexed }
+  steady_after = record { most = most_by result made.state made.err; good = good_by result made.state made.err; consistent = consistent }
 
-  standing_by : (r : Result R AllocError) → OnOk r (state_at new ≡ (counts (step e.input e.second (home_at d) stp_of (state_at d))).state) → OnOk r (standing_at new ≡ record (standing_at d) { state = (after (home_at d) stp_of (state_at d) e).state })
+  standing_by : (r : Result (Vec Message Global) AllocError) → OnOk r (state_at new ≡ (counts (step e.input e.second (setting_at d) stp_of (state_at d))).state) → OnOk r (standing_at new ≡ record (standing_at d) { state = (after (setting_at d) stp_of (state_at d) e).state })
   standing_by (Ok x) is =
-      ap (λ (h : Home). standing_of h (state_at new)) home ∙ ap (standing_of (home_at d)) (is ∙ after_is)
+      ap (λ (h : Setting). standing_of h (state_at new)) made.setting ∙ ap (standing_of (setting_at d)) (is ∙ after_is)
   standing_by (Err x) is = tt
 
-  pub standing_after : OnOk result (standing_at new ≡ record (standing_at d) { state = (after (home_at d) stp_of (state_at d) e).state })
-  standing_after = standing_by result ok
+  pub standing_after : OnOk result (standing_at new ≡ record (standing_at d) { state = (after (setting_at d) stp_of (state_at d) e).state })
+  standing_after = standing_by result made.state
 
-  keeps_by : (r : Result R AllocError) → OnOk r (state_at new ≡ (counts (step e.input e.second (home_at d) stp_of (state_at d))).state) → OnErr r (state_at new ≡ state_at d) → Keeps (state_at d) (state_at new)
-  keeps_by (Ok x) is _ = subst (Keeps (state_at d)) (sym (is ∙ after_is)) (keeps_after (home_at d) stp_of (state_at d) e)
+  keeps_by : (r : Result (Vec Message Global) AllocError) → OnOk r (state_at new ≡ (counts (step e.input e.second (setting_at d) stp_of (state_at d))).state) → OnErr r (state_at new ≡ state_at d) → Keeps (state_at d) (state_at new)
+  keeps_by (Ok x) is _ = subst (Keeps (state_at d)) (sym (is ∙ after_is)) (keeps_after (setting_at d) stp_of (state_at d) e)
   keeps_by (Err x) _ is = subst (Keeps (state_at d)) (sym is) (keeps_same (state_at d))
 
   pub keeps_steady : Keeps (state_at d) (state_at new)
-  keeps_steady = keeps_by result ok err
+  keeps_steady = keeps_by result made.state made.err
 
 ---- By the answer
 
-pub stands_by : {R : Type 0} (result : Result R AllocError) (new : Desk) (a b : Standing) → a ≡ b → OnOk result (standing_at new ≡ a) → OnOk result (standing_at new ≡ b)
+pub stands_by : {R : Type 0} (result : Result R AllocError) (new : Core) (a b : Standing) → a ≡ b → OnOk result (standing_at new ≡ a) → OnOk result (standing_at new ≡ b)
 stands_by (Ok x) new a b e is = is ∙ e
 stands_by (Err x) new a b e is = tt
 

@@ -11,7 +11,7 @@ use Rattle.connection_record.specs.declared.record.Record.{Record}
 use Rattle.connection_record.specs.Demand.{last}
 use Rattle.connection_record.specs.Moves.{is_over}
 use Rattle.connection_record.specs.Refusal.{is_created}
-use Rattle.connection_record.specs.Turns.{status_of, is_told}
+use Rattle.connection_record.specs.Applied.{status_of, is_told}
 use Rattle.provider_agent.specs.Indexed.{held_until, ends_at, starts_at, deadline_of, AreIndexed}
 use Rattle.provider_agent.specs.State.{record_at}
 use Rattle.provider_agent.specs.Ticks.{is_ending, is_touched, AreDue}

@@ -3,13 +3,17 @@ use Rattle.std.proofs.Common.{◌≡◌, ◌<◌, ◌⊎◌, inl, inr, ℕ, Bool
 use Rattle.std.proofs.lemmas.Bool.Decides.{nat_tests}
 use Rattle.nsi_primitive.specs.declared.message.Notice.{Notice}
 use Rattle.nsi_primitive.specs.declared.plane.Plane.{Plane}
+use Rattle.nsi_primitive.specs.declared.state.Lsm.{Lsm}
+use Rattle.nsi_primitive.specs.declared.state.Rsm.{Rsm}
+use Rattle.reserve_machine.specs.Table.{step as reserve_step}
+use Rattle.lifecycle_machine.specs.Table.{step as lifecycle_step}
 use Rattle.connection_record.specs.declared.record.Record.{Record}
 use Rattle.connection_record.specs.declared.moves.Origin.{Origin}
 use Rattle.connection_record.specs.Demand.{last, held, holds_pending, is_terminated}
-use Rattle.connection_record.specs.Lives.{lives, lives_if, passed}
-use Rattle.connection_record.specs.Moves.{reserves, reserves_if, hold_end, is_live, is_over, is_working, lapsed, notified}
+use Rattle.connection_record.specs.Lives.{lifecycle_event, lives, lives_if, passed}
+use Rattle.connection_record.specs.Moves.{event_of, reserves, reserves_if, hold_end, is_live, is_over, is_working, lapsed, notified}
 use Rattle.connection_record.specs.Replies.{Moved}
-use Rattle.connection_record.specs.Turns.{schedule_end, ticks, ticked, status_of, is_told, tells_plane, tells, has_work, first_machine, waits, is_terminating}
+use Rattle.connection_record.specs.Applied.{schedule_end, ticks, ticked, status_of, is_told, tells_plane, tells, has_work, first_machine, waits, is_terminating}
 use Rattle.provider_agent.specs.declared.agent.Agent.{Agent}
 use Rattle.provider_agent.specs.Indexed.{held_until, ends_at, starts_at}
 use Rattle.provider_agent.specs.Steps.{told_at, own_origin}
@@ -18,19 +22,19 @@ use Rattle.provider_agent.specs.Ticks.{is_ending}
 ---- The hold, and the schedule
 
 pub hold_over : Bool → ℕ → Record → Record
-hold_over true now r = lapsed (notified now r)
+hold_over true now r = lapsed Rsm.ReserveTimeout (notified now r)
 hold_over false now r = r
 
 pub schedule_over : Bool → Record → Record
-schedule_over true r = passed r
+schedule_over true r = passed Lsm.PassedEndTime r
 schedule_over false r = r
 
 hold_as : (origin : Origin) (now : ℕ) (r : Record) → is_live r.lsm ≡ true → (reserves_if (hold_end r.rsm r.deadline now origin) now r).rec ≡ hold_over (is_over now r) now r
-unfolding hold_end reserves hold_over
+unfolding hold_end reserves reserve_step event_of hold_over
 hold_as origin now r live = grind (arith, nat_tests)
 
 life_as : (now : ℕ) (r : Record) → (lives_if (schedule_end (last r.committed) now) now r).rec ≡ schedule_over (is_ending now r) r
-unfolding lives schedule_over
+unfolding lives lifecycle_step lifecycle_event schedule_over
 life_as now r = grind arith
 
 ending_still : (b : Bool) (now : ℕ) (r : Record) → is_ending now (hold_over b now r) ≡ is_ending now r

@@ -2,13 +2,14 @@
 use Rattle.std.proofs.Common.{◌≡◌, ℕ, Bool, true, false, ◌||◌, None, refl, ap, ◌∙◌, arith}
 use Rattle.std.proofs.lemmas.Bool.Decides.{nat_tests}
 use Rattle.nsi_primitive.specs.declared.plane.Plane.{Plane}
+use Rattle.lifecycle_machine.specs.Table.{step as lifecycle_step}
 use Rattle.connection_record.specs.declared.record.Record.{Record}
 use Rattle.connection_record.specs.declared.moves.Origin.{Origin}
 use Rattle.connection_record.specs.Demand.{last}
-use Rattle.connection_record.specs.Lives.{lives, lives_if}
+use Rattle.connection_record.specs.Lives.{lifecycle_event, lives, lives_if}
 use Rattle.connection_record.specs.Moves.{hold_end, is_live, is_over, reserves_if}
 use Rattle.connection_record.specs.Replies.{Moved, stays, then_moves}
-use Rattle.connection_record.specs.Turns.{schedule_end, ticks, ticked, status_of, is_told, tells_plane, tells}
+use Rattle.connection_record.specs.Applied.{schedule_end, ticks, ticked, status_of, is_told, tells_plane, tells}
 use Rattle.provider_agent.specs.declared.agent.Agent.{Agent}
 use Rattle.provider_agent.specs.Steps.{is_told_at, told_at, own_origin}
 use Rattle.provider_agent.specs.Ticks.{is_ending, is_touched}
@@ -21,7 +22,7 @@ unfolding hold_end
 hold_stays origin now r live h = grind (arith, nat_tests)
 
 life_stays : (now : ℕ) (r : Record) → is_ending now r ≡ false → lives_if (schedule_end (last r.committed) now) now r ≡ stays r
-unfolding lives
+unfolding lives lifecycle_step lifecycle_event
 life_stays now r h = grind arith
 
 ticks_still : (origin : Origin) (now : ℕ) (r : Record) → is_over now r ≡ false → is_ending now r ≡ false → ticked origin now r ≡ stays r

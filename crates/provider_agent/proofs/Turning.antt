@@ -5,12 +5,13 @@ use Rattle.nsi_primitive.specs.declared.plane.Plane.{Plane}
 use Rattle.nsi_primitive.specs.declared.state.Rsm.{Rsm}
 use Rattle.nsi_primitive.specs.declared.message.Exception.{Exception}
 use Rattle.nsi_primitive.specs.declared.message.Notice.{Notice}
+use Rattle.reserve_machine.specs.Table.{step as reserve_step}
 use Rattle.dataplane_state.specs.Plane.{announces}
 use Rattle.connection_record.specs.declared.record.Record.{Record}
 use Rattle.connection_record.specs.declared.moves.ReservationMove.{ReservationMove}
 use Rattle.connection_record.specs.Replies.{Moved, stays, behind}
-use Rattle.connection_record.specs.Moves.{reserves}
-use Rattle.connection_record.specs.Turns.{status_of, is_told, tells_plane, tells}
+use Rattle.connection_record.specs.Moves.{event_of, reserves}
+use Rattle.connection_record.specs.Applied.{status_of, is_told, tells_plane, tells}
 use Rattle.provider_agent.specs.Steps.{drawn}
 
 -- what stays the same isn't told
@@ -63,7 +64,7 @@ IsNoCommit _ = Unit {0}
 
 -- but for a commit no move of the reservation machine changes the data plane
 pub reserves_status : (k : Rsm) (move : ReservationMove) (now : ℕ) (r : Record) → IsNoCommit move → status_of now (reserves k move now r).rec ≡ status_of now r
-unfolding reserves
+unfolding reserves reserve_step event_of
 reserves_status k move now r n = grind arith
 
 pub reserves_untold : (k : Rsm) (move : ReservationMove) (c now : ℕ) (r : Record) → IsNoCommit move → tells (status_of now r) c now (reserves k move now r) ≡ reserves k move now r

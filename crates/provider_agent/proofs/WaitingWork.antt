@@ -11,17 +11,20 @@ use Rattle.nsi_primitive.specs.declared.state.Rsm.{Rsm}
 use Rattle.nsi_primitive.specs.declared.state.Side.{Side}
 use Rattle.nsi_primitive.specs.declared.message.Cause.{Cause}
 use Rattle.nsi_primitive.specs.declared.message.Exception.{Exception}
+use Rattle.reserve_machine.specs.Table.{step as reserve_step}
+use Rattle.provision_machine.specs.Table.{step as provision_step}
+use Rattle.lifecycle_machine.specs.Table.{step as lifecycle_step}
 use Rattle.connection_record.specs.declared.record.Record.{Record}
 use Rattle.connection_record.specs.declared.life.LifecycleMove.{LifecycleMove}
 use Rattle.connection_record.specs.declared.moves.Origin.{Origin}
 use Rattle.connection_record.specs.declared.moves.ReservationMove.{ReservationMove}
 use Rattle.connection_record.specs.declared.provisioning.ProvisionMove.{ProvisionMove}
-use Rattle.connection_record.specs.declared.turn.Move.{Move}
+use Rattle.connection_record.specs.declared.apply.Move.{Move}
 use Rattle.connection_record.specs.Demand.{last}
-use Rattle.connection_record.specs.Lives.{provisions, provisions_if, lives, lives_if}
-use Rattle.connection_record.specs.Moves.{reserves, reserves_if, worked, hold_end, is_live, is_working}
+use Rattle.connection_record.specs.Lives.{provision_event, lifecycle_event, provisions, provisions_if, lives, lives_if}
+use Rattle.connection_record.specs.Moves.{event_of, reserves, reserves_if, worked, hold_end, is_live, is_working}
 use Rattle.connection_record.specs.Replies.{Moved, plain}
-use Rattle.connection_record.specs.Turns.{closes_reservation, closes_provision, reservation_closing, provision_closing, closes, moves, moves_if, provided, work_of, first_of, first_machine, has_work, waits, is_provisioning, is_terminating, schedule_end, ticks, ticked, tells}
+use Rattle.connection_record.specs.Applied.{closes_reservation, closes_provision, reservation_closing, provision_closing, closes, moves, moves_if, provided, work_of, first_of, first_machine, has_work, waits, is_provisioning, is_terminating, schedule_end, ticks, ticked, tells}
 use Rattle.provider_agent.specs.Good.{is_asking, works_in}
 use Rattle.provider_agent.proofs.Turning.{told_keeps}
 
@@ -48,7 +51,7 @@ record IsReserving (a b : Record) : Type 0 where
   lsm : a.lsm ≡ b.lsm
 
 reserves_machine : (k : Rsm) (move : ReservationMove) (now : ℕ) (r : Record) → IsReserving (reserves k move now r).rec r
-unfolding reserves
+unfolding reserves reserve_step event_of
 reserves_machine k move now r = grind arith
 
 record IsProvisioning (a b : Record) : Type 0 where
@@ -56,7 +59,7 @@ record IsProvisioning (a b : Record) : Type 0 where
   lsm : a.lsm ≡ b.lsm
 
 provisions_machine : (side : Side) (k : Psm) (move : ProvisionMove) (now : ℕ) (r : Record) → IsProvisioning (provisions side k move now r).rec r
-unfolding provisions
+unfolding provisions provision_step provision_event
 provisions_machine side k move now r = grind arith
 
 record IsLiving (a b : Record) : Type 0 where
@@ -64,7 +67,7 @@ record IsLiving (a b : Record) : Type 0 where
   psm : a.psm ≡ b.psm
 
 lives_machine : (k : Lsm) (move : LifecycleMove) (now : ℕ) (r : Record) → IsLiving (lives k move now r).rec r
-unfolding lives
+unfolding lives lifecycle_step lifecycle_event
 lives_machine k move now r = grind arith
 
 reserving_is : (a b : Record) → IsReserving a b → works_in a ≡ works_by a.rsm b.psm b.lsm
@@ -91,17 +94,17 @@ provisions_works side k move now r =
     omega (arith, provisioning_is a r (provisions_machine side k move now r), works_are r, one_if_le (is_live r.lsm && is_provisioning a.psm))
 
 lives_works : (k : Lsm) (move : LifecycleMove) (now : ℕ) (r : Record) → r.lsm ≡ k → works_in (lives k move now r).rec ≤ works_in r + 1
-unfolding lives waits is_live is_terminating
+unfolding lives lifecycle_step lifecycle_event waits is_live is_terminating
 lives_works k move now r e = grind (arith, e)
 
 ---- No more
 
 closing_reserve_works : (gone : Exception) (now : ℕ) (r : Record) → works_in (reserves_if (reservation_closing r.rsm gone) now r).rec ≤ works_in r
-unfolding reservation_closing reserves waits is_working
+unfolding reservation_closing reserves reserve_step event_of waits is_working
 closing_reserve_works gone now r = grind arith
 
 closing_provision_works : (gone : Exception) (side : Side) (now : ℕ) (r : Record) → works_in (provisions_if side (provision_closing r.psm gone) now r).rec ≤ works_in r
-unfolding provision_closing provisions waits is_provisioning
+unfolding provision_closing provisions provision_step provision_event waits is_provisioning
 closing_provision_works gone side now r = grind arith
 
 closes_works : (agent : List ℕ) (side : Side) (now : ℕ) (r : Record) → works_in (closes agent side now r).rec ≤ works_in r + 1
@@ -125,11 +128,11 @@ moves_if_works side None now r = omega arith
 moves_if_works side (Some move) now r = moves_works side move now r
 
 hold_end_works : (origin : Origin) (now : ℕ) (r : Record) → works_in (reserves_if (hold_end r.rsm r.deadline now origin) now r).rec ≤ works_in r
-unfolding hold_end reserves waits is_working
+unfolding hold_end reserves reserve_step event_of waits is_working
 hold_end_works origin now r = grind arith
 
 end_time_works : (now : ℕ) (r : Record) → works_in (lives_if (schedule_end (last r.committed) now) now r).rec ≤ works_in r
-unfolding lives waits is_live is_terminating
+unfolding lives lifecycle_step lifecycle_event waits is_live is_terminating
 end_time_works now r = grind arith
 
 -- a tick makes none,
@@ -185,11 +188,11 @@ busy_works r e = by_tests (waits Machine.Reserve r) (waits Machine.Provision r) 
 
 -- work on the reservation machine leaves it nothing to do
 worked_idle : (k : Rsm) (lack : Option Cause) (agent : List ℕ) (deadline now : ℕ) (r : Record) → r.rsm ≡ k → (is_asking k ≡ true → IsSome r.pending) → is_working (moves_if Side.Provider (option_map Move.Reservation (worked k lack agent deadline)) now r).rec.rsm ≡ false
-unfolding moves worked reserves is_working
+unfolding moves worked reserves reserve_step event_of is_working
 worked_idle k lack agent deadline now r e asked = grind (arith, e)
 
 provided_idle : (now : ℕ) (r : Record) → is_provisioning (moves_if Side.Provider (option_map Move.Provision (provided r.psm)) now r).rec.psm ≡ false
-unfolding moves provided provisions is_provisioning
+unfolding moves provided provisions provision_step provision_event is_provisioning
 provided_idle now r = grind arith
 
 reserving_by : (o : Option ReservationMove) (now : ℕ) (r : Record) → IsReserving (moves_if Side.Provider (option_map Move.Reservation o) now r).rec r
@@ -204,7 +207,7 @@ provisioning_by (Some m) now r = provisions_machine Side.Provider r.psm m now r
 
 -- the end of a connection that ends leaves nothing to do
 closed_by : (agent : List ℕ) (side : Side) (now : ℕ) (r : Record) → r.lsm ≡ Lsm.Terminating → (closes agent side now r).rec.lsm ≡ Lsm.Terminated
-unfolding closes lives
+unfolding closes lives lifecycle_step lifecycle_event
 closed_by agent side now r e =
     let gone : Exception = plain agent ErrorName.Gone in
     let a : Moved = closes_reservation agent now r in

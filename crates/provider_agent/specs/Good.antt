@@ -7,8 +7,8 @@ use Rattle.nsi_primitive.specs.declared.state.Rsm.{Rsm}
 use Rattle.connection_record.specs.declared.record.Record.{Record}
 use Rattle.connection_record.specs.Order.{IsInOrder}
 use Rattle.connection_record.specs.Rising.{AreRising, IsAboveLast}
-use Rattle.connection_record.specs.Turns.{waits}
-use Rattle.provider_agent.specs.Home.{Home}
+use Rattle.connection_record.specs.Applied.{waits}
+use Rattle.provider_agent.specs.Setting.{Setting}
 use Rattle.provider_agent.specs.State.{State}
 use Rattle.provider_agent.specs.Safety.{IsCapped}
 
@@ -49,10 +49,10 @@ abbrev pub most_drawn : ℕ
 most_drawn = 4194306
 
 -- no load passes a capacity, each record is good, there are no more records than entries, nor more work that waits, and ids are few
-pub record IsGood (home : Home) (s : State) : Type 0 where
-  pub capped : IsCapped home s
+pub record IsGood (setting : Setting) (s : State) : Type 0 where
+  pub capped : IsCapped setting s
   pub records : (n : ℕ) (r : Record) → slice_get s.records n ≡ Some r → IsGoodRecord r
-  pub ordered : AreOrdered home.number s.next s.records
+  pub ordered : AreOrdered setting.number s.next s.records
   pub few : length s.records ≤ s.taken
   pub works : works_among s.records ≤ s.taken
   pub drawn : s.next ≤ s.taken * most_drawn + 1

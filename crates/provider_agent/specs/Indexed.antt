@@ -1,12 +1,12 @@
--- Which records a desk's indexes name.
-use Rattle.std.specs.Prelude.{◌≡◌, ◌<◌, ◌&&◌, ℕ, true, if◌then◌else◌, List, length, Contains, Option, Some, None}
+-- Which records a core's indexes name.
+use Rattle.std.specs.Prelude.{◌≡◌, ◌<◌, ◌&&◌, ℕ, true, if◌then◌else◌, List, length, Contains, Option, Some, None, IfSome}
 use Rattle.nsi_primitive.specs.declared.message.Criteria.{Criteria}
 use Rattle.record_index.specs.declared.deadlines.Deadline.{Deadline}
 use Rattle.connection_record.specs.declared.record.Record.{Record}
 use Rattle.connection_record.specs.Demand.{last}
 use Rattle.connection_record.specs.Moves.{is_live, is_held}
 use Rattle.connection_record.specs.Refusal.{is_created}
-use Rattle.connection_record.specs.Turns.{has_work, end_of}
+use Rattle.connection_record.specs.Applied.{has_work, end_of}
 use Rattle.provider_agent.specs.State.{record_at}
 
 -- something that the record at a place has to do at a second
@@ -40,6 +40,10 @@ NamesSeconds second_of records deadlines = (n t : ℕ) → n < length records �
 -- each schedule that is still to begin is named with its start
 abbrev pub NamesStarts : ℕ → List Record → List Deadline → Type 0
 NamesStarts now records deadlines = (n t : ℕ) → n < length records → starts_at (record_at n records) ≡ Some t → now < t → Contains deadlines (deadline_of t n)
+
+-- both ends of a schedule that is asked of the record at a place are named
+abbrev pub NamesSchedule : ℕ → Option Criteria → List Deadline → Type 0
+NamesSchedule n asked deadlines = IfSome asked (λ c. Contains deadlines (deadline_of c.interval.start n) × Contains deadlines (deadline_of c.interval.end n))
 
 -- what counts is named; other places may be named too, and a deadline's place is always a record's
 pub record AreIndexed (now : ℕ) (records : List Record) (waiting : List ℕ) (deadlines : List Deadline) : Type 0 where

@@ -5,12 +5,12 @@ use Rattle.nsi_primitive.specs.declared.message.Criteria.{Criteria}
 use Rattle.capacity_calendar.specs.declared.booking.Booking.{Booking}
 use Rattle.capacity_calendar.specs.declared.booking.Lack.{Lack}
 use Rattle.capacity_calendar.specs.declared.booking.Slot.{Slot}
-use Rattle.capacity_calendar.specs.Plan.{Plan, committed_of, pending_of, HasNoneFrom, with_pending, first_lack}
+use Rattle.capacity_calendar.specs.Plan.{Plan, committed_of, pending_of, HasNoneFrom, with_pending, pending_set, first_lack}
 use Rattle.connection_record.specs.declared.record.Record.{Record}
 use Rattle.connection_record.specs.declared.life.LifecycleMove.{LifecycleMove}
 use Rattle.connection_record.specs.declared.moves.ReservationMove.{ReservationMove}
-use Rattle.connection_record.specs.declared.turn.Move.{Move}
-use Rattle.connection_record.specs.Demand.{last, held, is_terminated}
+use Rattle.connection_record.specs.declared.apply.Move.{Move}
+use Rattle.connection_record.specs.Demand.{last, held, holds_pending, is_terminated}
 use Rattle.provider_agent.specs.State.{record_at}
 
 -- what criteria book between the record's points
@@ -31,6 +31,10 @@ pub record AreKept (records : List Record) (bookings : List Booking) : Type 0 wh
 abbrev pub with_slot : ℕ → Option Slot → List Booking → List Booking
 with_slot n None bookings = bookings
 with_slot n (Some slot) bookings = with_pending n slot bookings
+
+-- the bookings, without what the record at a place doesn't hold any more
+abbrev pub freed : ℕ → List Record → List Booking → List Booking
+freed n records bookings = if holds_pending (record_at n records).rsm then bookings else pending_set n None bookings
 
 -- what criteria between two points lack first by a calendar
 abbrev pub plan_lack : Plan → ℕ → (both_ways : Bool) → (source dest : ℕ) → Criteria → Option Lack

@@ -1,4 +1,4 @@
-pub mod Home
+pub mod Setting
 pub mod State
 pub mod Others
 pub mod Steps
@@ -7,6 +7,10 @@ pub mod Points
 pub mod Safety
 pub mod Kept
 pub mod Indexed
+pub mod Events
+pub mod AgentRuns
 pub mod Good
-pub mod Desk
+pub mod Core
 pub mod Ticks
+pub mod Step
+pub mod Turned

@@ -10,7 +10,7 @@ use Rattle.capacity_calendar.specs.Lack.{first_lack_by}
 use Rattle.capacity_calendar.specs.Plan.{places}
 use Rattle.connection_record.specs.declared.record.Record.{Record}
 use Rattle.connection_record.specs.Demand.{load}
-use Rattle.provider_agent.specs.Home.{Home}
+use Rattle.provider_agent.specs.Setting.{Setting}
 use Rattle.provider_agent.specs.State.{State, record_at}
 
 -- all records but the one at a place
@@ -23,8 +23,8 @@ lack_among capacities records n c =
     first_lack_by (λ flow stp t. load flow stp t (others n records))
     (places capacities (record_at n records).source (record_at n records).dest (is_both_ways (record_at n records).service.directionality)) c.interval c.capacity
 
-abbrev pub first_lack : Home → ℕ → List Record → Criteria → Option Lack
-first_lack home n records c = lack_among home.capacities records n c
+abbrev pub first_lack : Setting → ℕ → List Record → Criteria → Option Lack
+first_lack setting n records c = lack_among setting.capacities records n c
 
 -- the name of the point that lacks: one of the record's two
 abbrev pub point_name : Record → ℕ → List ℕ
@@ -42,9 +42,9 @@ abbrev pub cause_among : List Capacity → List Record → (now n : ℕ) → Opt
 cause_among capacities records now n None = None
 cause_among capacities records now n (Some c) = cause_of (nat_le c.interval.end now) (lack_among capacities records n c) (record_at n records)
 
-abbrev pub lack_of : Option Criteria → Home → State → ℕ → Option Cause
-lack_of pending home s n = cause_among home.capacities s.records s.now n pending
+abbrev pub lack_of : Option Criteria → Setting → State → ℕ → Option Cause
+lack_of pending setting s n = cause_among setting.capacities s.records s.now n pending
 
 -- why the pending criteria of the record at a place don't fit
-unfoldable pub lacking : Home → State → ℕ → Option Cause
-lacking home s n = lack_of (record_at n s.records).pending home s n
+unfoldable pub lacking : Setting → State → ℕ → Option Cause
+lacking setting s n = lack_of (record_at n s.records).pending setting s n

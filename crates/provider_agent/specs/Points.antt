@@ -7,7 +7,7 @@ use Rattle.capacity_calendar.specs.Plan.{capacity_at}
 use Rattle.connection_record.specs.declared.record.Record.{Record}
 use Rattle.connection_record.specs.Demand.{load}
 use Rattle.connection_record.specs.Order.{HasPoints}
-use Rattle.provider_agent.specs.Home.{home_of}
+use Rattle.provider_agent.specs.Setting.{setting_of}
 use Rattle.provider_agent.specs.State.{State}
 
 -- the topology declares the point as the provider's
@@ -18,11 +18,11 @@ pub record IsPointOf (t : Network) (provider stp : ℕ) : Type 0 where
 -- A provider's points have the capacities that the topology declares.
 abbrev pub HasItsCapacities : Network → ℕ → Type 0
 HasItsCapacities t provider =
-    (stp : ℕ) (flow : Flow) → IsPointOf t provider stp → capacity_at (home_of t provider).capacities stp flow ≡ capacity_of t stp flow
+    (stp : ℕ) (flow : Flow) → IsPointOf t provider stp → capacity_at (setting_of t provider).capacities stp flow ≡ capacity_of t stp flow
 
 -- It has no capacity of any other point.
 abbrev pub HasNoOthers : Network → ℕ → Type 0
-HasNoOthers t provider = (stp : ℕ) (flow : Flow) → (IsPointOf t provider stp → ⊥) → capacity_at (home_of t provider).capacities stp flow ≡ None
+HasNoOthers t provider = (stp : ℕ) (flow : Flow) → (IsPointOf t provider stp → ⊥) → capacity_at (setting_of t provider).capacities stp flow ≡ None
 
 -- Of each point that the topology declares as the provider's, at every second, the load is within the capacity.
 abbrev pub IsWithinTopology : Network → ℕ → State → Type 0

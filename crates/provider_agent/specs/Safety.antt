@@ -4,7 +4,7 @@ use Rattle.std.specs.List.{Contains}
 use Rattle.nsi_base.specs.Range.{is_covered}
 use Rattle.nsi_base.specs.declared.flow.Flow.{Flow}
 use Rattle.nsi_primitive.specs.Kinds.{is_both_ways}
-use Rattle.nsi_primitive.specs.Printable.{IsPrintable, IsPrintableInput}
+use Rattle.nsi_primitive.specs.Printable.{IsPrintableInput}
 use Rattle.nsi_primitive.specs.declared.kind.ErrorName.{ErrorName}
 use Rattle.nsi_primitive.specs.declared.state.Machine.{Machine}
 use Rattle.nsi_primitive.specs.declared.state.Rsm.{Rsm}
@@ -23,15 +23,15 @@ use Rattle.connection_record.specs.Demand.{load}
 use Rattle.connection_record.specs.Replies.{plain, confirmation, id_or}
 use Rattle.connection_record.specs.Moves.{is_live}
 use Rattle.connection_record.specs.Rising.{AreRising}
-use Rattle.provider_agent.specs.Home.{Home}
+use Rattle.provider_agent.specs.Setting.{Setting}
 use Rattle.provider_agent.specs.Others.{others, bandwidth}
 use Rattle.provider_agent.specs.State.{State}
 use Rattle.provider_agent.specs.Steps.{may_take, after}
 use Rattle.provider_agent.specs.Runs.{after_all}
 
 -- No load passes a capacity, at any second, a modification that is held among what counts.
-abbrev pub IsCapped : Home → State → Type 0
-IsCapped home s = (flow : Flow) (stp t capacity : ℕ) → capacity_at home.capacities stp flow ≡ Some capacity → load flow stp t s.records ≤ capacity
+abbrev pub IsCapped : Setting → State → Type 0
+IsCapped setting s = (flow : Flow) (stp t capacity : ℕ) → capacity_at setting.capacities stp flow ≡ Some capacity → load flow stp t s.records ≤ capacity
 
 -- The committed versions of each record rise.
 abbrev pub IsRising : State → Type 0
@@ -45,28 +45,28 @@ Keeps old new =
 ---- Refusals for bandwidth
 
 -- the places that a record books
-abbrev pub places_of : Home → Record → List Place
-places_of home r = places home.capacities r.source r.dest (is_both_ways r.service.directionality)
+abbrev pub places_of : Setting → Record → List Place
+places_of setting r = places setting.capacities r.source r.dest (is_both_ways r.service.directionality)
 
 -- what all other records load
 abbrev pub others_load : State → ℕ → Flow → ℕ → ℕ → ℕ
 others_load s n = λ flow stp t. load flow stp t (others n s.records)
 
 -- At each second of the schedule each place has room beside the others.
-abbrev pub HasRoom : Home → State → ℕ → Record → Criteria → Type 0
-HasRoom home s n r c =
-    (p : Place) (t : ℕ) → Contains (places_of home r) p → is_covered c.interval t ≡ true → others_load s n p.flow p.stp t + c.capacity ≤ p.capacity
+abbrev pub HasRoom : Setting → State → ℕ → Record → Criteria → Type 0
+HasRoom setting s n r c =
+    (p : Place) (t : ℕ) → Contains (places_of setting r) p → is_covered c.interval t ≡ true → others_load s n p.flow p.stp t + c.capacity ≤ p.capacity
 
 -- one message, to the owner, under the correlation of the request that it answers
-abbrev pub said : Home → Record → Body → List Message
-said home r body = record { header = record { correlation = id_or r.reserve_request; requester = r.owner; provider = home.name }; body = body } ∷ []
+abbrev pub said : Setting → Record → Body → List Message
+said setting r body = record { header = record { correlation = id_or r.reserve_request; requester = r.owner; provider = setting.name }; body = body } ∷ []
 
 -- What work on a reserve says: that its end has passed; else what lacks first, exactly where something lacks; else it is confirmed.
-pub record IsHonestWork (home : Home) (s : State) (n : ℕ) (r : Record) (c : Criteria) (out : List Message) : Type 0 where
-  pub passed : c.interval.end ≤ s.now → out ≡ said home r (Body.ReserveFailed r.id (plain home.name ErrorName.Passed))
-  pub lacking : s.now < c.interval.end → (l : Lack) → IsFirstAmong (others_load s n) (places_of home r) c.interval c.capacity l
-      → out ≡ said home r (Body.ReserveFailed r.id (record { nsa = home.name; cause = bandwidth r l }))
-  pub fits : s.now < c.interval.end → HasRoom home s n r c → out ≡ said home r (Body.ReserveConfirmed (confirmation r.id r.service c))
+pub record IsHonestWork (setting : Setting) (s : State) (n : ℕ) (r : Record) (c : Criteria) (out : List Message) : Type 0 where
+  pub passed : c.interval.end ≤ s.now → out ≡ said setting r (Body.ReserveFailed r.id (plain setting.name ErrorName.Passed))
+  pub lacking : s.now < c.interval.end → (l : Lack) → IsFirstAmong (others_load s n) (places_of setting r) c.interval c.capacity l
+      → out ≡ said setting r (Body.ReserveFailed r.id (record { nsa = setting.name; cause = bandwidth r l }))
+  pub fits : s.now < c.interval.end → HasRoom setting s n r c → out ≡ said setting r (Body.ReserveConfirmed (confirmation r.id r.service c))
 
 abbrev pub is_bandwidth : Cause → Bool
 is_bandwidth (Cause.Bandwidth _ _ _ _ _) = true
@@ -85,20 +85,20 @@ pub record IsChecking (s : State) (e : Entry) (n : ℕ) (r : Record) : Type 0 wh
   pub live : is_live r.lsm ≡ true
 
 -- Work on each reserve is honest, and nothing else causes a refusal for bandwidth.
-pub record IsHonest (home : Home) (stp_of : List ℕ → Option ℕ) (s : State) (e : Entry) : Type 0 where
-  pub work : (n : ℕ) (r : Record) → IsChecking s e n r → (c : Criteria) × (r.pending ≡ Some c) × IsHonestWork home s n r c (after home stp_of s e).out
-  pub alone : (m : Message) → Contains (after home stp_of s e).out m → is_refusal m.body ≡ true → (n : ℕ) × (r : Record) × IsChecking s e n r
+pub record IsHonest (setting : Setting) (stp_of : List ℕ → Option ℕ) (s : State) (e : Entry) : Type 0 where
+  pub work : (n : ℕ) (r : Record) → IsChecking s e n r → (c : Criteria) × (r.pending ≡ Some c) × IsHonestWork setting s n r c (after setting stp_of s e).out
+  pub alone : (m : Message) → Contains (after setting stp_of s e).out m → is_refusal m.body ≡ true → (n : ℕ) × (r : Record) × IsChecking s e n r
 
 ---- Runs
 
 -- each entry may be taken where it comes
-abbrev pub IsRun : Home → (List ℕ → Option ℕ) → State → List Entry → Type 0
-IsRun home stp_of s [] = Unit {0}
-IsRun home stp_of s (e ∷ es) = IsPrintableInput e.input × (may_take s e ≡ true) × IsRun home stp_of (after home stp_of s e).state es
+abbrev pub IsRun : Setting → (List ℕ → Option ℕ) → State → List Entry → Type 0
+IsRun setting stp_of s [] = Unit {0}
+IsRun setting stp_of s (e ∷ es) = IsPrintableInput e.input × (may_take s e ≡ true) × IsRun setting stp_of (after setting stp_of s e).state es
 
 -- In each state of a run no load passes a capacity and versions rise; what was committed stays; each entry is honest.
-pub record IsSafe (home : Home) (stp_of : List ℕ → Option ℕ) (s : State) (es : List Entry) : Type 0 where
-  pub capped : (front back : List Entry) → es ≡ front ++ back → IsCapped home (after_all home stp_of s front).state
-  pub rising : (front back : List Entry) → es ≡ front ++ back → IsRising (after_all home stp_of s front).state
-  pub keeps : (front middle back : List Entry) → es ≡ front ++ (middle ++ back) → Keeps (after_all home stp_of s front).state (after_all home stp_of s (front ++ middle)).state
-  pub honest : (front back : List Entry) (e : Entry) → es ≡ front ++ e ∷ back → IsHonest home stp_of (after_all home stp_of s front).state e
+pub record IsSafe (setting : Setting) (stp_of : List ℕ → Option ℕ) (s : State) (es : List Entry) : Type 0 where
+  pub capped : (front back : List Entry) → es ≡ front ++ back → IsCapped setting (after_all setting stp_of s front).state
+  pub rising : (front back : List Entry) → es ≡ front ++ back → IsRising (after_all setting stp_of s front).state
+  pub keeps : (front middle back : List Entry) → es ≡ front ++ (middle ++ back) → Keeps (after_all setting stp_of s front).state (after_all setting stp_of s (front ++ middle)).state
+  pub honest : (front back : List Entry) (e : Entry) → es ≡ front ++ e ∷ back → IsHonest setting stp_of (after_all setting stp_of s front).state e

@@ -5,7 +5,7 @@ use Rattle.nsi_primitive.specs.declared.message.Header.{Header}
 use Rattle.nsi_primitive.specs.declared.message.Message.{Message}
 use Rattle.connection_record.specs.declared.record.Record.{Record}
 use Rattle.connection_record.specs.Moves.{fresh}
-use Rattle.provider_agent.specs.Home.{Home}
+use Rattle.provider_agent.specs.Setting.{Setting}
 
 -- its records in order, the requests that it has seen, the number of the next id, the second of its clock, and how many entries it has taken
 pub record State : Type 0 where
@@ -21,7 +21,7 @@ blank = record { records = []; seen = []; next = 1; now = 0; taken = 0 }
 
 -- a provider as its contracts see it
 pub record Standing : Type 0 where
-  pub home : Home
+  pub setting : Setting
   pub state : State
 
 -- the state after an entry, and the messages that it causes, in order

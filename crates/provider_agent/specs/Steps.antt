@@ -15,13 +15,13 @@ use Rattle.message_retry.specs.Taken.{is_taken, with_taken}
 use Rattle.connection_record.specs.declared.record.Record.{Record}
 use Rattle.connection_record.specs.declared.life.LifecycleMove.{LifecycleMove}
 use Rattle.connection_record.specs.declared.moves.Origin.{Origin}
-use Rattle.connection_record.specs.declared.turn.Move.{Move}
+use Rattle.connection_record.specs.declared.apply.Move.{Move}
 use Rattle.connection_record.specs.Replies.{Moved, plain, addressed}
 use Rattle.connection_record.specs.Moves.{fresh, service_of}
-use Rattle.connection_record.specs.Turns.{moves, moves_if, requested, waits, first_machine, has_work, work_of, ticked, status_of, is_told, tells}
+use Rattle.connection_record.specs.Applied.{moves, moves_if, requested, waits, first_machine, has_work, work_of, ticked, status_of, is_told, tells}
 use Rattle.connection_record.specs.Refusal.{is_created, refusal, place_of, points_of}
 use Rattle.provider_agent.specs.declared.agent.Agent.{Agent}
-use Rattle.provider_agent.specs.Home.{Home}
+use Rattle.provider_agent.specs.Setting.{Setting}
 use Rattle.provider_agent.specs.Others.{lacking}
 use Rattle.provider_agent.specs.State.{State, Stepped, unchanged, says, counts, record_at, name_or}
 
@@ -31,69 +31,73 @@ use Rattle.provider_agent.specs.State.{State, Stepped, unchanged, says, counts, 
 abbrev pub messages_by : List ℕ → Moved → List Message
 messages_by name x = addressed name x.rec.owner x.out
 
-abbrev pub messages_of : Home → Moved → List Message
-messages_of home x = messages_by home.name x
+abbrev pub messages_of : Setting → Moved → List Message
+messages_of setting x = messages_by setting.name x
 
 -- a record's move is put in its place
-abbrev pub put_back : Home → State → ℕ → Moved → Stepped
-put_back home s n x = says (record s { records = slice_set s.records n x.rec }) (messages_of home x)
+abbrev pub put_back : Setting → State → ℕ → Moved → Stepped
+put_back setting s n x = says (record s { records = slice_set s.records n x.rec }) (messages_of setting x)
 
 -- one id is drawn for each change of a data plane that is told
 abbrev pub drawn : Bool → ℕ
 drawn told = if told then 1 else 0
 
 -- a move of a record, and the change of its data plane, which is told under the agent's next id
-abbrev pub turned : Plane → Home → State → ℕ → Moved → Stepped
-turned before home s n x =
-    put_back home (record s { next = s.next + drawn (is_told before s.now x.rec) }) n (tells before (id_of home.number s.next) s.now x)
+abbrev pub turned : Plane → Setting → State → ℕ → Moved → Stepped
+turned before setting s n x =
+    put_back setting (record s { next = s.next + drawn (is_told before s.now x.rec) }) n (tells before (id_of setting.number s.next) s.now x)
 
 -- a move of the record at a place is put back, with what it changes of its data plane
-abbrev pub keeps : Home → State → ℕ → Moved → Stepped
-keeps home s n x = turned (status_of s.now (record_at n s.records)) home s n x
+abbrev pub keeps : Setting → State → ℕ → Moved → Stepped
+keeps setting s n x = turned (status_of s.now (record_at n s.records)) setting s n x
+
+-- a move of the record at a place
+abbrev pub moves_at : Move → ℕ → Setting → State → Stepped
+moves_at move n setting s = keeps setting s n (moves Side.Provider move s.now (record_at n s.records))
 
 -- a request that isn't refused moves the record at a place
-abbrev pub taken_at : Home → State → ℕ → Message → Stepped
-taken_at home s n m = keeps home s n (moves_if Side.Provider (requested m.body m.header.correlation (record_at n s.records)) s.now (record_at n s.records))
+abbrev pub taken_at : Setting → State → ℕ → Message → Stepped
+taken_at setting s n m = keeps setting s n (moves_if Side.Provider (requested m.body m.header.correlation (record_at n s.records)) s.now (record_at n s.records))
 
 -- a first reserve makes a record between the two points, under the agent's next id
-abbrev pub with_new : Home → State → Message → ReserveRequest → ℕ × ℕ → State
-with_new home s m q points =
+abbrev pub with_new : Setting → State → Message → ReserveRequest → ℕ × ℕ → State
+with_new setting s m q points =
     record s {
-      records = s.records ++ fresh (id_of home.number s.next) m.header.requester (service_of q (name_or q.source) (name_or q.dest)) points.0 points.1 ∷ [];
+      records = s.records ++ fresh (id_of setting.number s.next) m.header.requester (service_of q (name_or q.source) (name_or q.dest)) points.0 points.1 ∷ [];
       next = s.next + 1;
     }
 
 ---- Requests
 
-abbrev pub opens_between : Option (ℕ × ℕ) → Home → State → Message → ReserveRequest → Stepped
-opens_between None home s m q = unchanged s
-opens_between (Some points) home s m q = taken_at home (with_new home s m q points) (length s.records) m
+abbrev pub opens_between : Option (ℕ × ℕ) → Setting → State → Message → ReserveRequest → Stepped
+opens_between None setting s m q = unchanged s
+opens_between (Some points) setting s m q = taken_at setting (with_new setting s m q points) (length s.records) m
 
-abbrev pub opens : Body → Home → (List ℕ → Option ℕ) → State → Message → Stepped
-opens (Body.Reserve q) home stp_of s m = opens_between (points_of stp_of q) home s m q
-opens _ home stp_of s m = unchanged s
+abbrev pub opens : Body → Setting → (List ℕ → Option ℕ) → State → Message → Stepped
+opens (Body.Reserve q) setting stp_of s m = opens_between (points_of stp_of q) setting s m q
+opens _ setting stp_of s m = unchanged s
 
 -- a request that isn't refused: one without a connection opens one
-abbrev pub accepts : Option ℕ → Home → (List ℕ → Option ℕ) → State → Message → Stepped
-accepts None home stp_of s m = opens m.body home stp_of s m
-accepts (Some id) home stp_of s m = taken_at home s (unwrap_or (place_of id m.header.requester s.records) 0) m
+abbrev pub accepts : Option ℕ → Setting → (List ℕ → Option ℕ) → State → Message → Stepped
+accepts None setting stp_of s m = opens m.body setting stp_of s m
+accepts (Some id) setting stp_of s m = taken_at setting s (unwrap_or (place_of id m.header.requester s.records) 0) m
 
 -- a refused request is answered by an error under its own header
 abbrev pub error_reply : List ℕ → Message → ErrorName → Message
 error_reply agent m error = record { header = m.header; body = Body.Error (connection_of m.body) (plain agent error) }
 
-abbrev pub answers : Option ErrorName → Home → (List ℕ → Option ℕ) → State → Message → Stepped
-answers (Some error) home stp_of s m = says s (error_reply home.name m error ∷ [])
-answers None home stp_of s m = accepts (connection_of m.body) home stp_of s m
+abbrev pub answers : Option ErrorName → Setting → (List ℕ → Option ℕ) → State → Message → Stepped
+answers (Some error) setting stp_of s m = says s (error_reply setting.name m error ∷ [])
+answers None setting stp_of s m = accepts (connection_of m.body) setting stp_of s m
 
 -- whether a request of that requester, provider and correlationId was taken before; a message that is no request is never counted
 abbrev pub is_seen : State → Message → Bool
 is_seen s m = is_request m.body && is_taken m.header s.seen
 
 -- a request is taken once; a message that isn't a request changes nothing
-unfoldable pub hears : (is_request is_taken : Bool) → Home → (List ℕ → Option ℕ) → State → Message → Stepped
-hears true false home stp_of s m = answers (refusal home.name stp_of s.records m) home stp_of (record s { seen = with_taken m.header s.seen }) m
-hears _ _ home stp_of s m = unchanged s
+unfoldable pub receives : (is_request is_taken : Bool) → Setting → (List ℕ → Option ℕ) → State → Message → Stepped
+receives true false setting stp_of s m = answers (refusal setting.name stp_of s.records m) setting stp_of (record s { seen = with_taken m.header s.seen }) m
+receives _ _ setting stp_of s m = unchanged s
 
 ---- Work
 
@@ -101,16 +105,16 @@ abbrev pub is_waiting : State → ℕ → Machine → Bool
 is_waiting s n machine = nat_lt n (length s.records) && waits machine (record_at n s.records)
 
 -- the move that work on a machine of the record at a place makes
-abbrev pub work_at : Home → State → ℕ → Machine → Option Move
-work_at home s n machine = work_of machine (record_at n s.records) (lacking home s n) home.name (s.now + home.hold)
+abbrev pub work_at : Setting → State → ℕ → Machine → Option Move
+work_at setting s n machine = work_of machine (record_at n s.records) (lacking setting s n) setting.name (s.now + setting.hold)
 
-abbrev pub works_at : Home → State → ℕ → Machine → Stepped
-works_at home s n machine = keeps home s n (moves_if Side.Provider (work_at home s n machine) s.now (record_at n s.records))
+abbrev pub works_at : Setting → State → ℕ → Machine → Stepped
+works_at setting s n machine = keeps setting s n (moves_if Side.Provider (work_at setting s n machine) s.now (record_at n s.records))
 
 -- work that doesn't wait changes nothing
-unfoldable pub works : (is_waiting : Bool) → Home → State → ℕ → Machine → Stepped
-works true home s n machine = works_at home s n machine
-works false home s n machine = unchanged s
+unfoldable pub works : (is_waiting : Bool) → Setting → State → ℕ → Machine → Stepped
+works true setting s n machine = works_at setting s n machine
+works false setting s n machine = unchanged s
 
 abbrev pub machine_at : ℕ → List Record → Option (ℕ × Machine)
 machine_at n records = option_map (λ machine. (n, machine)) (first_machine (record_at n records))
@@ -124,8 +128,8 @@ waiting_work s = first_waiting s.records
 
 ---- A forced end
 
-abbrev pub agent_of : Home → Agent
-agent_of home = record { name = home.name; number = home.number; hold = home.hold }
+abbrev pub agent_of : Setting → Agent
+agent_of setting = record { name = setting.name; number = setting.number; hold = setting.hold }
 
 abbrev pub own_origin : Agent → Record → Origin
 own_origin agent r = record { connection = r.id; nsa = agent.name; value = agent.hold }
@@ -135,16 +139,16 @@ abbrev pub is_forcible : State → ℕ → Bool
 is_forcible s n = nat_lt n (length s.records) && is_created (record_at n s.records).lsm
 
 -- the notification has the agent's next id
-abbrev pub force_move : Home → State → ℕ → Move
-force_move home s n = Move.Lifecycle (LifecycleMove.Force (id_of home.number s.next) (own_origin (agent_of home) (record_at n s.records)))
+abbrev pub force_move : Setting → State → ℕ → Move
+force_move setting s n = Move.Lifecycle (LifecycleMove.Force (id_of setting.number s.next) (own_origin (agent_of setting) (record_at n s.records)))
 
-abbrev pub forces_at : Home → State → ℕ → Stepped
-forces_at home s n = keeps home (record s { next = s.next + 1 }) n (moves Side.Provider (force_move home s n) s.now (record_at n s.records))
+abbrev pub forces_at : Setting → State → ℕ → Stepped
+forces_at setting s n = keeps setting (record s { next = s.next + 1 }) n (moves Side.Provider (force_move setting s n) s.now (record_at n s.records))
 
 -- a connection that has ended, or is about to, isn't ended by force
-unfoldable pub forces : (is_forcible : Bool) → Home → State → ℕ → Stepped
-forces true home s n = forces_at home s n
-forces false home s n = unchanged s
+unfoldable pub forces : (is_forcible : Bool) → Setting → State → ℕ → Stepped
+forces true setting s n = forces_at setting s n
+forces false setting s n = unchanged s
 
 ---- Time
 
@@ -182,8 +186,8 @@ abbrev pub with_ticks : ℕ → State → Ticked → Stepped
 with_ticks now s x = says (record s { now = now; records = x.records; next = x.next }) x.out
 
 -- the clock goes on
-unfoldable pub ticks : Home → ℕ → State → Stepped
-ticks home now s = with_ticks now s (ticks_all (agent_of home) s.now now s.next s.records)
+unfoldable pub ticks : Setting → ℕ → State → Stepped
+ticks setting now s = with_ticks now s (ticks_all (agent_of setting) s.now now s.next s.records)
 
 ---- One entry
 
@@ -205,18 +209,18 @@ most_entries = 4194304
 abbrev pub may_take : State → Entry → Bool
 may_take s e = nat_lt s.taken most_entries && (is_for_provider e.input && is_on_time e.input e.second s.now)
 
-unfoldable pub step : Input → ℕ → Home → (List ℕ → Option ℕ) → State → Stepped
-step (Input.Got m) second home stp_of s = hears (is_request m.body) (is_taken m.header s.seen) home stp_of s m
-step (Input.Work n machine) second home stp_of s = works (is_waiting s n machine) home s n machine
-step Input.Tick second home stp_of s = ticks home second s
-step (Input.Force n) second home stp_of s = forces (is_forcible s n) home s n
-step (Input.Acked _) second home stp_of s = unchanged s
-step (Input.Ask _ _) second home stp_of s = unchanged s
+unfoldable pub step : Input → ℕ → Setting → (List ℕ → Option ℕ) → State → Stepped
+step (Input.Got m) second setting stp_of s = receives (is_request m.body) (is_taken m.header s.seen) setting stp_of s m
+step (Input.Work n machine) second setting stp_of s = works (is_waiting s n machine) setting s n machine
+step Input.Tick second setting stp_of s = ticks setting second s
+step (Input.Force n) second setting stp_of s = forces (is_forcible s n) setting s n
+step (Input.Acked _) second setting stp_of s = unchanged s
+step (Input.Ask _ _) second setting stp_of s = unchanged s
 
-abbrev pub after_if : Bool → Home → (List ℕ → Option ℕ) → State → Entry → Stepped
-after_if true home stp_of s e = counts (step e.input e.second home stp_of s)
-after_if false home stp_of s e = unchanged s
+abbrev pub after_if : Bool → Setting → (List ℕ → Option ℕ) → State → Entry → Stepped
+after_if true setting stp_of s e = counts (step e.input e.second setting stp_of s)
+after_if false setting stp_of s e = unchanged s
 
 -- an entry that may not be taken changes nothing
-unfoldable pub after : Home → (List ℕ → Option ℕ) → State → Entry → Stepped
-after home stp_of s e = after_if (may_take s e) home stp_of s e
+unfoldable pub after : Setting → (List ℕ → Option ℕ) → State → Entry → Stepped
+after setting stp_of s e = after_if (may_take s e) setting stp_of s e

@@ -2,14 +2,14 @@
 #![tactic(auto)]
 
 mod agent;
-mod desk;
 mod find;
 mod force;
-mod hear;
-mod home;
 pub mod laws;
 pub mod provider;
+mod provider_core;
+mod receive;
 mod records;
+mod setting;
 mod tick;
 mod work;
 

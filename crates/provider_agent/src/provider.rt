@@ -5,13 +5,13 @@ ghost use Rattle.stp_topology.specs.Sound.{IsProvider};
 ghost use Rattle.nsi_primitive.specs.Printable.{IsPrintable, IsPrintableInput};
 ghost use Rattle.capacity_calendar.specs.Plan.{capacity_at};
 ghost use Rattle.connection_record.specs.Demand.{load};
-ghost use Rattle.provider_agent.specs.Home.{home_of, own_stp};
+ghost use Rattle.provider_agent.specs.Setting.{setting_of, own_stp};
 ghost use Rattle.provider_agent.specs.State.{blank};
 ghost use Rattle.provider_agent.specs.Steps.{after, may_take, is_seen, waiting_work};
 ghost use Rattle.provider_agent.specs.Good.{IsGood};
 ghost use Rattle.provider_agent.specs.Safety.{IsCapped, IsRising, Keeps, IsHonest};
 
-use crate::desk::Desk;
+use crate::provider_core::Core;
 use crate::work::waiting_work;
 use connection_record::Record;
 use nsi_base::{AgentNo, Flow, RecordNo, Second, StpNo};
@@ -23,18 +23,18 @@ use stp_topology::Topology;
 /// The agent of one network. It takes one entry after another, each of which causes messages.
 #[derive(Drop)]
 pub struct Provider {
-    desk: Desk,
+    core: Core,
 }
 
 impl Model for Provider {
     ghost use Rattle.provider_agent.specs.State.{Standing};
-    ghost use Rattle.provider_agent.specs.Desk.{standing_at, IsSteady};
+    ghost use Rattle.provider_agent.specs.Core.{standing_at, IsSteady};
 
     ghost Value = { Standing };
 
-    ghost view = { λ p. standing_at p.desk };
+    ghost view = { λ p. standing_at p.core };
 
-    ghost invariant = { λ p. IsSteady p.desk };
+    ghost invariant = { λ p. IsSteady p.core };
 }
 
 impl Provider {
@@ -42,10 +42,11 @@ impl Provider {
     pub fn new(alloc: Global, topology: &Topology, agent: AgentNo) -> Result<Provider, AllocError>
         requires within { agent < length topology.now.agents }
         requires provider { IsProvider topology.now agent }
-        ensures { IfOk result (λ p. p ≡ record { home = home_of topology.now agent; state = blank }) }
+        ensures { IfOk result
+            (λ p. p ≡ record { setting = setting_of topology.now agent; state = blank }) }
     {
-        let desk = Desk::new(alloc, topology, agent)?;
-        Ok(Provider { desk })
+        let core = Core::new(alloc, topology, agent)?;
+        Ok(Provider { core })
     }
 
     /// Takes an entry: a message, work that waits, a second of its clock, or a forced end, and gives the messages that it causes.
@@ -60,69 +61,76 @@ impl Provider {
         requires printable { IsPrintableInput entry.now.input }
 
         // It is the definition's step.
-        ensures state { OnOk result (let stp_of = own_stp topology.now self.old.home.number in self.new ≡ record self.old { state = (after self.old.home stp_of self.old.state entry.now).state }) }
-        ensures out { IfOk result (λ out. let stp_of = own_stp topology.now self.old.home.number in out.items ≡ (after self.old.home stp_of self.old.state entry.now).out) }
+        ensures state { let stp_of = own_stp topology.now self.old.setting.number in
+            let state = (after self.old.setting stp_of self.old.state entry.now).state in
+            OnOk result (self.new ≡ record self.old { state = state }) }
+        ensures out { let stp_of = own_stp topology.now self.old.setting.number in
+            let said = (after self.old.setting stp_of self.old.state entry.now).out in
+            IfOk result (λ out. out.items ≡ said) }
         ensures err { OnErr result (self.new ≡ self.old) }
         ensures printable { IfOk result (λ out. All IsPrintable out.items) }
 
         // No load passes a capacity, versions rise, what was committed stays, and a refusal for bandwidth names the first lack.
-        ensures capped { IsCapped self.new.home self.new.state }
+        ensures capped { IsCapped self.new.setting self.new.state }
         ensures rising { IsRising self.new.state }
         ensures keeps { Keeps self.old.state self.new.state }
-        ensures honest { IsHonest self.old.home (own_stp topology.now self.old.home.number) self.old.state entry.now }
+        ensures honest { let stp_of = own_stp topology.now self.old.setting.number in
+            IsHonest self.old.setting stp_of self.old.state entry.now }
     {
-        self.desk.take(alloc, topology, entry)
+        self.core.take(alloc, topology, entry)
     }
 
     /// It costs nothing, and tells what is true of every provider.
     pub fn facts(&self)
-        ensures { IsGood self.now.home self.now.state }
+        ensures { IsGood self.now.setting self.now.state }
     {
-        let _desk = &self.desk;
+        let _core = &self.core;
     }
 
     /// How many entries it has taken.
     pub fn taken(&self) -> u64
         ensures { result ≡ self.now.state.taken }
     {
-        self.desk.taken
+        self.core.taken
     }
 
     /// The second of its clock; 0 before any tick.
     pub fn now(&self) -> Second
         ensures { result ≡ self.now.state.now }
     {
-        self.desk.now
+        self.core.now
     }
 
     /// The first record that has work to do, and the machine.
     pub fn waiting_work(&self) -> Option<(RecordNo, Machine)>
         ensures work { result ≡ waiting_work self.now.state }
     {
-        waiting_work(&self.desk.waiting, &self.desk.records)
+        waiting_work(&self.core.waiting, &self.core.records)
     }
 
     /// Whether a message was taken before; one that isn't a request never counts. It takes no memory.
     pub fn seen(&self, message: &Message) -> bool
         ensures { result ≡ is_seen self.now.state message.now }
     {
-        message.is_request() && self.desk.seen.has(&message.header)
+        message.is_request() && self.core.seen.has(&message.header)
     }
 
     /// Its records, in the order in which they were made.
     pub fn records(&self) -> &[Record]
         ensures { result.now ≡ self.now.state.records }
     {
-        &self.desk.records
+        &self.core.records
     }
 
     /// The Mbps that its records claim of a flow of one of its service termination points at a second.
     pub fn load_at(&self, stp: StpNo, flow: Flow, t: Second) -> u64
-        ensures sum { IfSome (capacity_at self.now.home.capacities stp flow) (λ _. result ≡ load flow stp t self.now.state.records) }
-        ensures none { IfNone (capacity_at self.now.home.capacities stp flow) (result ≡ 0) }
-        ensures within { IfSome (capacity_at self.now.home.capacities stp flow) (λ capacity. result ≤ capacity) }
+        ensures sum { let capacity = capacity_at self.now.setting.capacities stp flow in
+            IfSome capacity (λ _. result ≡ load flow stp t self.now.state.records) }
+        ensures none { IfNone (capacity_at self.now.setting.capacities stp flow) (result ≡ 0) }
+        ensures within { let capacity = capacity_at self.now.setting.capacities stp flow in
+            IfSome capacity (λ most. result ≤ most) }
     {
-        self.desk.calendar.facts();
-        self.desk.calendar.load_at(stp, flow, t)
+        self.core.calendar.facts();
+        self.core.calendar.load_at(stp, flow, t)
     }
 }

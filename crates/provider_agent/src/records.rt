@@ -1,19 +1,27 @@
 //! What is done to one record of many, and what its agent then says.
 
-ghost use Rattle.std.specs.Prelude.{◌≡◌, ◌<◌, ◌++◌, ◌∷◌, [], length, IfOk, OnOk, OnErr, slice_set};
+ghost use Rattle.std.specs.Prelude.{◌≡◌, ◌<◌, ◌++◌, ◌∷◌, [], length, IfOk, OnOk, OnErr};
 ghost use Rattle.nsi_primitive.specs.Ids.{id_of};
 ghost use Rattle.nsi_primitive.specs.declared.state.Side.{Side as SideValue};
 ghost use Rattle.connection_record.specs.Later.{IsLater};
 ghost use Rattle.connection_record.specs.Replies.{addressed};
-ghost use Rattle.connection_record.specs.Turns.{moves, tells, status_of, is_told};
+ghost use Rattle.connection_record.specs.Applied.{moves};
 ghost use Rattle.provider_agent.specs.State.{record_at};
-ghost use Rattle.provider_agent.specs.Steps.{drawn, messages_by};
+ghost use Rattle.provider_agent.specs.Steps.{drawn};
+ghost use Rattle.provider_agent.specs.Turned.{IsTurned, IsTurnedAt};
 
 use crate::agent::Agent;
 use connection_record::{Move, Record, Reply};
 use nsi_base::{Name, Second};
 use nsi_primitive::{Header, Message, Side, id_of};
 use std::alloc::{AllocError, Global};
+
+/// When a record is moved: the second, and the number of the next id, under which a change of its data plane is told.
+#[derive(Clone, Copy)]
+pub struct Moment {
+    pub second: Second,
+    pub next: u64,
+}
 
 /// What is said of a record that was moved, and how many ids were drawn for it.
 #[derive(Drop)]
@@ -23,7 +31,14 @@ pub struct Turned {
 }
 
 fn message_of(provider: &Name, requester: &Name, reply: Reply) -> Result<Message, AllocError>
-    ensures { IfOk result (λ m. m ≡ record { header = record { correlation = reply.correlation; requester = requester.now; provider = provider.now }; body = reply.body }) }
+    ensures { IfOk result (λ m. m ≡ record {
+      header = record {
+        correlation = reply.correlation;
+        requester = requester.now;
+        provider = provider.now;
+      };
+      body = reply.body;
+    }) }
 {
     let header = Header {
         correlation: reply.correlation,
@@ -36,8 +51,14 @@ fn message_of(provider: &Name, requester: &Name, reply: Reply) -> Result<Message
     })
 }
 
-fn say(out: &mut Vec<Message>, agent: &Name, owner: &Name, reply: Reply) -> Result<(), AllocError>
-    ensures { OnOk result (out.new.items ≡ out.old.items ++ addressed agent.now owner.now (reply ∷ [])) }
+fn push_reply(
+    out: &mut Vec<Message>,
+    agent: &Name,
+    owner: &Name,
+    reply: Reply,
+) -> Result<(), AllocError>
+    ensures { let said = addressed agent.now owner.now (reply ∷ []) in
+        OnOk result (out.new.items ≡ out.old.items ++ said) }
 {
     let message = message_of(agent, owner, reply)?;
     out.push(message)?;
@@ -45,38 +66,36 @@ fn say(out: &mut Vec<Message>, agent: &Name, owner: &Name, reply: Reply) -> Resu
 }
 
 /// The agent says what a record says, to its owner.
-pub fn address(
+pub fn push_replies(
     out: &mut Vec<Message>,
     agent: &Name,
     owner: &Name,
     replies: Vec<Reply>,
 ) -> Result<(), AllocError>
-    ensures { OnOk result (out.new.items ≡ out.old.items ++ addressed agent.now owner.now replies.items) }
+    ensures { let said = addressed agent.now owner.now replies.items in
+        OnOk result (out.new.items ≡ out.old.items ++ said) }
 {
     for reply in replies {
-        say(out, agent, owner, reply)?;
+        push_reply(out, agent, owner, reply)?;
     }
     Ok(())
 }
 
-/// Moves a record, and gives what its agent then says; a change of its data plane is told under the next id. Where memory
-/// is wanting, nothing changes.
+/// Moves a record, and gives what its agent then says. Where memory is wanting, nothing changes.
 pub fn turn(
     alloc: Global,
     agent: &Agent,
     own: &mut Record,
     event: Move,
-    next: u64,
-    now: Second,
+    moment: Moment,
 ) -> Result<Turned, AllocError>
-    requires { next < 4611686018427387904 }
-    ensures rec { OnOk result (own.new ≡ (tells (status_of now own.old) (id_of agent.now.number next) now (moves SideValue.Provider event now own.old)).rec) }
-    ensures out { IfOk result (λ turn. turn.out.items ≡ messages_by agent.now.name (tells (status_of now own.old) (id_of agent.now.number next) now (moves SideValue.Provider event now own.old))) }
-    ensures drawn { IfOk result (λ turn. turn.drawn ≡ drawn (is_told (status_of now own.old) now (moves SideValue.Provider event now own.old).rec)) }
+    requires { moment.next < 4611686018427387904 }
+    ensures turned { let x = moves SideValue.Provider event moment.second own.old in
+        IsTurned agent.now moment own.old own.new result x }
     ensures err { OnErr result (own.new ≡ own.old) }
 {
     let saved = own.save();
-    match try_turn(alloc, agent, own, event, next, now) {
+    match try_turn(alloc, agent, own, event, moment) {
         Ok(turn) => Ok(turn),
         Err(error) => {
             own.restore(&saved);
@@ -91,20 +110,24 @@ fn try_turn(
     agent: &Agent,
     own: &mut Record,
     event: Move,
-    next: u64,
-    now: Second,
+    moment: Moment,
 ) -> Result<Turned, AllocError>
-    requires { next < 4611686018427387904 }
-    ensures rec { OnOk result (own.new ≡ (tells (status_of now own.old) (id_of agent.now.number next) now (moves SideValue.Provider event now own.old)).rec) }
-    ensures out { IfOk result (λ turn. turn.out.items ≡ messages_by agent.now.name (tells (status_of now own.old) (id_of agent.now.number next) now (moves SideValue.Provider event now own.old))) }
-    ensures drawn { IfOk result (λ turn. turn.drawn ≡ drawn (is_told (status_of now own.old) now (moves SideValue.Provider event now own.old).rec)) }
+    requires { moment.next < 4611686018427387904 }
+    ensures turned { let x = moves SideValue.Provider event moment.second own.old in
+        IsTurned agent.now moment own.old own.new result x }
     ensures later { IsLater own.old own.new }
 {
     let mut replies = Vec::new(alloc);
     let mut out = Vec::new(alloc);
-    let correlation = id_of(agent.number, next);
-    let is_told = own.turn(&mut replies, Side::Provider, event, correlation, now)?;
-    address(&mut out, &agent.name, &own.owner, replies)?;
+    let correlation = id_of(agent.number, moment.next);
+    let is_told = own.apply(
+        &mut replies,
+        Side::Provider,
+        event,
+        correlation,
+        moment.second,
+    )?;
+    push_replies(&mut out, &agent.name, &own.owner, replies)?;
     let drawn = drawn_for(is_told);
     Ok(Turned { out, drawn })
 }
@@ -123,16 +146,14 @@ pub fn turn_at(
     records: &mut Vec<Record>,
     place: usize,
     event: Move,
-    next: u64,
-    now: Second,
+    moment: Moment,
 ) -> Result<Turned, AllocError>
     requires within { place < length records.old.items }
-    requires next { next < 4611686018427387904 }
-    ensures rec { OnOk result (let own = record_at place records.old.items in records.new.items ≡ slice_set records.old.items place (tells (status_of now own) (id_of agent.now.number next) now (moves SideValue.Provider event now own)).rec) }
-    ensures out { IfOk result (λ turn. let own = record_at place records.old.items in turn.out.items ≡ messages_by agent.now.name (tells (status_of now own) (id_of agent.now.number next) now (moves SideValue.Provider event now own))) }
-    ensures drawn { IfOk result (λ turn. let own = record_at place records.old.items in turn.drawn ≡ drawn (is_told (status_of now own) now (moves SideValue.Provider event now own).rec)) }
-    ensures err { OnErr result (records.new.items ≡ records.old.items) }
+    requires next { moment.next < 4611686018427387904 }
+    ensures { let own = record_at place records.old.items in
+        let x = moves SideValue.Provider event moment.second own in
+        IsTurnedAt agent.now moment place records.old.items records.new.items result x }
 {
     let own = &mut records[place];
-    turn(alloc, agent, own, event, next, now)
+    turn(alloc, agent, own, event, moment)
 }

@@ -1,23 +1,21 @@
 //! How the clock goes on.
 
-ghost use Rattle.std.specs.Prelude.{◌≡◌, ◌<◌, ◌≤◌, ◌+◌, ◌++◌, ◌⊎◌, ℕ, length, slice_set, Contains, if◌then◌else◌, None, IfOk, OnOk, OnErr, []};
+ghost use Rattle.std.specs.Prelude.{◌≡◌, ◌<◌, ◌≤◌, ◌+◌, ◌++◌, ℕ, length, slice_set, Contains, OnOk, OnErr};
 ghost use Rattle.std.specs.Prelude.{List as Sequence};
 ghost use Rattle.nsi_primitive.specs.Ids.{id_of};
-ghost use Rattle.capacity_calendar.specs.Plan.{pending_set};
 ghost use Rattle.connection_record.specs.declared.record.Record.{Record as RecordValue};
-ghost use Rattle.connection_record.specs.Demand.{holds_pending};
 ghost use Rattle.provider_agent.specs.declared.tick.Kept.{Kept as KeptValue};
 ghost use Rattle.connection_record.specs.Later.{IsLater};
 ghost use Rattle.provider_agent.specs.State.{record_at};
-ghost use Rattle.provider_agent.specs.Steps.{ticks, ticks_all, told_at, is_told_at, drawn, messages_by};
-ghost use Rattle.provider_agent.specs.Ticks.{AreDue, AreSaved, CanGoBack, IsFreedBut};
-ghost use Rattle.provider_agent.specs.Indexed.{AreIndexed};
-ghost use Rattle.provider_agent.specs.Kept.{AreKept};
-ghost use Rattle.provider_agent.specs.Desk.{home_at, state_at, IsReady};
+ghost use Rattle.provider_agent.specs.Steps.{ticks, ticks_all, messages_by};
+ghost use Rattle.provider_agent.specs.Ticks.{CanUndo, IsBegun, IsFreedBut, ticked_by, tick_of, drawn_by};
+ghost use Rattle.provider_agent.specs.Kept.{AreKept, freed};
+ghost use Rattle.provider_agent.specs.Core.{IsConsistent, IsReady};
+ghost use Rattle.provider_agent.specs.Step.{IsStep};
 
 use crate::agent::Agent;
-use crate::desk::{Desk, number_of};
-use crate::records::{address, drawn_for};
+use crate::provider_core::{Core, number_of};
+use crate::records::{drawn_for, push_replies};
 use capacity_calendar::Calendar;
 use connection_record::{Origin, Record, Savepoint};
 use nsi_base::Second;
@@ -42,18 +40,14 @@ struct Ticking {
     next: u64,
 }
 
-impl Desk {
+impl Core {
     /// Ends what is over by now, and tells each data plane that is another since. Where memory is wanting, nothing changes.
     #[tactic(auto, unfolding(crate::specs::Steps::ticks))]
     pub fn tick(&mut self, alloc: Global, now: Second) -> Result<Vec<Message>, AllocError>
         requires ready { IsReady self.old }
         requires on_time { self.old.now ≤ now }
-        ensures state { OnOk result (state_at self.new ≡ (ticks (home_at self.old) now (state_at self.old)).state) }
-        ensures out { IfOk result (λ out. out.items ≡ (ticks (home_at self.old) now (state_at self.old)).out) }
-        ensures home { home_at self.new ≡ home_at self.old }
-        ensures err { OnErr result (state_at self.new ≡ state_at self.old) }
-        ensures kept { AreKept self.new.records.items self.new.calendar.bookings }
-        ensures indexed { AreIndexed self.new.now self.new.records.items self.new.waiting self.new.deadlines }
+        ensures step { IsStep self.old self.new result (λ setting s. ticks setting now s) }
+        ensures consistent { IsConsistent self.new }
     {
         let places = self.deadlines.due_by(alloc, now)?;
         let due = places.items();
@@ -83,14 +77,10 @@ impl Ticking {
         records: &mut Vec<Record>,
         due: &[usize],
     ) -> Result<(), AllocError>
-        requires due { AreDue self.old.before self.old.now records.old.items due.now }
-        requires none_kept { self.old.kept.items ≡ [] }
-        requires none_said { self.old.out.items ≡ [] }
-        requires next { self.old.next ≤ 17592194433024 }
-        requires few { length records.old.items ≤ 4194304 }
-        ensures records { OnOk result (records.new.items ≡ (ticks_all agent.now self.old.before self.old.now self.old.next records.old.items).records) }
-        ensures out { OnOk result (self.new.out.items ≡ (ticks_all agent.now self.old.before self.old.now self.old.next records.old.items).out) }
-        ensures next { OnOk result (self.new.next ≡ (ticks_all agent.now self.old.before self.old.now self.old.next records.old.items).next) }
+        requires { IsBegun self.old records.old.items due.now }
+        ensures ticked { let t = self.old in
+            let all = ticks_all agent.now t.before t.now t.next records.old.items in
+            OnOk result (ticked_by self.new records.new.items ≡ all) }
         ensures err { OnErr result (records.new.items ≡ records.old.items) }
     {
         match self.tick_each(alloc, agent, records, due) {
@@ -110,16 +100,11 @@ impl Ticking {
         records: &mut Vec<Record>,
         due: &[usize],
     ) -> Result<(), AllocError>
-        requires due { AreDue self.old.before self.old.now records.old.items due.now }
-        requires none_kept { self.old.kept.items ≡ [] }
-        requires none_said { self.old.out.items ≡ [] }
-        requires next { self.old.next ≤ 17592194433024 }
-        requires few { length records.old.items ≤ 4194304 }
-        ensures records { OnOk result (records.new.items ≡ (ticks_all agent.now self.old.before self.old.now self.old.next records.old.items).records) }
-        ensures out { OnOk result (self.new.out.items ≡ (ticks_all agent.now self.old.before self.old.now self.old.next records.old.items).out) }
-        ensures next { OnOk result (self.new.next ≡ (ticks_all agent.now self.old.before self.old.now self.old.next records.old.items).next) }
-        ensures saved { AreSaved records.old.items self.new.kept.items }
-        ensures back { CanGoBack records.old.items records.new.items self.new.kept.items }
+        requires { IsBegun self.old records.old.items due.now }
+        ensures ticked { let t = self.old in
+            let all = ticks_all agent.now t.before t.now t.next records.old.items in
+            OnOk result (ticked_by self.new records.new.items ≡ all) }
+        ensures undo { CanUndo records.old.items records.new.items self.new.kept.items }
     {
         for place in due {
             self.tick_at(alloc, agent, records, *place)?;
@@ -138,11 +123,18 @@ impl Ticking {
         requires within { place < length records.old.items }
         requires next { self.old.next < 4611686018427387904 }
         ensures same { (self.new.before ≡ self.old.before) × (self.new.now ≡ self.old.now) }
-        ensures records { OnOk result (let own = record_at place records.old.items in records.new.items ≡ slice_set records.old.items place (told_at agent.now self.old.before self.old.now (id_of agent.now.number self.old.next) own).rec) }
-        ensures out { OnOk result (let own = record_at place records.old.items in self.new.out.items ≡ self.old.out.items ++ messages_by agent.now.name (told_at agent.now self.old.before self.old.now (id_of agent.now.number self.old.next) own)) }
-        ensures next { OnOk result (let own = record_at place records.old.items in self.new.next ≡ self.old.next + drawn (is_told_at agent.now self.old.before self.old.now own)) }
-        ensures saved { (rs : Sequence RecordValue) → AreSaved rs self.old.kept.items → CanGoBack rs records.old.items self.old.kept.items → record_at place records.old.items ≡ record_at place rs → AreSaved rs self.new.kept.items }
-        ensures back { (rs : Sequence RecordValue) → AreSaved rs self.old.kept.items → CanGoBack rs records.old.items self.old.kept.items → record_at place records.old.items ≡ record_at place rs → CanGoBack rs records.new.items self.new.kept.items }
+        ensures records { let own = record_at place records.old.items in
+            let own_new = (tick_of agent.now self.old own).rec in
+            OnOk result (records.new.items ≡ slice_set records.old.items place own_new) }
+        ensures out { let own = record_at place records.old.items in
+            let said = messages_by agent.now.name (tick_of agent.now self.old own) in
+            OnOk result (self.new.out.items ≡ self.old.out.items ++ said) }
+        ensures next { let own = record_at place records.old.items in
+            OnOk result (self.new.next ≡ self.old.next + drawn_by agent.now self.old own) }
+        ensures undo { (rs : Sequence RecordValue) →
+            CanUndo rs records.old.items self.old.kept.items →
+            record_at place records.old.items ≡ record_at place rs →
+            CanUndo rs records.new.items self.new.kept.items }
     {
         let own = &mut records[place];
         let saved = own.save();
@@ -159,16 +151,18 @@ impl Ticking {
         requires next { self.old.next < 4611686018427387904 }
         ensures same { (self.new.before ≡ self.old.before) × (self.new.now ≡ self.old.now) }
         ensures kept { self.new.kept.items ≡ self.old.kept.items }
-        ensures rec { OnOk result (own.new ≡ (told_at agent.now self.old.before self.old.now (id_of agent.now.number self.old.next) own.old).rec) }
-        ensures out { OnOk result (self.new.out.items ≡ self.old.out.items ++ messages_by agent.now.name (told_at agent.now self.old.before self.old.now (id_of agent.now.number self.old.next) own.old)) }
-        ensures next { OnOk result (self.new.next ≡ self.old.next + drawn (is_told_at agent.now self.old.before self.old.now own.old)) }
+        ensures rec { OnOk result (own.new ≡ (tick_of agent.now self.old own.old).rec) }
+        ensures out { let said = messages_by agent.now.name (tick_of agent.now self.old own.old) in
+            OnOk result (self.new.out.items ≡ self.old.out.items ++ said) }
+        ensures next { let drawn = drawn_by agent.now self.old own.old in
+            OnOk result (self.new.next ≡ self.old.next + drawn) }
         ensures later { IsLater own.old own.new }
     {
         let origin = agent.origin_of(own)?;
         let correlation = id_of(agent.number, self.next);
         let mut replies = Vec::new(alloc);
         let is_told = own.tick(&mut replies, origin, correlation, self.before, self.now)?;
-        address(&mut self.out, &agent.name, &own.owner, replies)?;
+        push_replies(&mut self.out, &agent.name, &own.owner, replies)?;
         self.next += drawn_for(is_told);
         Ok(())
     }
@@ -177,7 +171,8 @@ impl Ticking {
 /// Makes the records what they were. It takes no memory.
 fn go_back(records: &mut Vec<Record>, kept: &[Kept])
     requires { (k : KeptValue) → Contains kept.now k → k.place < length records.old.items }
-    ensures { (rs : Sequence RecordValue) → AreSaved rs kept.now → CanGoBack rs records.old.items kept.now → records.new.items ≡ rs }
+    ensures { (rs : Sequence RecordValue) →
+        CanUndo rs records.old.items kept.now → records.new.items ≡ rs }
 {
     for one in kept {
         records[one.place].restore(&one.saved);
@@ -200,9 +195,8 @@ fn free_all(calendar: &mut Calendar, records: &[Record], due: &[usize])
 fn free_at(calendar: &mut Calendar, records: &[Record], place: usize)
     requires within { place < length records.now }
     requires few { place ≤ 4194303 }
-    ensures { let bookings = calendar.old.bookings in
-        let holds = holds_pending (record_at place records.now).rsm in
-        calendar.new ≡ record calendar.old { bookings = if holds then bookings else pending_set place None bookings } }
+    ensures { let bookings = freed place records.now calendar.old.bookings in
+        calendar.new ≡ record calendar.old { bookings = bookings } }
 {
     if !records[place].is_holding() {
         calendar.take_pending(number_of(place));

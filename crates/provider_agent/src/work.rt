@@ -4,22 +4,22 @@ ghost use Rattle.std.specs.Prelude.{◌≡◌, ◌<◌, ◌≤◌, ◌+◌, ◌&
 ghost use Rattle.std.specs.List.Sorted.{IsStrictlyIncreasing};
 ghost use Rattle.nsi_primitive.specs.Kinds.{is_both_ways};
 ghost use Rattle.nsi_primitive.specs.declared.state.Machine.{Machine as MachineValue};
-ghost use Rattle.nsi_primitive.specs.declared.state.Side.{Side as SideValue};
 ghost use Rattle.connection_record.specs.declared.moves.ReservationMove.{ReservationMove as ReservationValue};
-ghost use Rattle.connection_record.specs.declared.turn.Move.{Move as MoveValue};
+ghost use Rattle.connection_record.specs.declared.apply.Move.{Move as MoveValue};
 ghost use Rattle.capacity_calendar.specs.Plan.{pending_of, settled};
 ghost use Rattle.record_index.specs.declared.deadlines.Deadline.{Deadline as DeadlineValue};
 ghost use Rattle.connection_record.specs.Moves.{fit_or_lack};
-ghost use Rattle.connection_record.specs.Turns.{moves, waits, has_work};
+ghost use Rattle.connection_record.specs.Applied.{waits, has_work};
 ghost use Rattle.provider_agent.specs.Others.{lacking, lack_among, cause_among, bandwidth};
 ghost use Rattle.provider_agent.specs.State.{record_at};
-ghost use Rattle.provider_agent.specs.Steps.{works, works_at, keeps, is_waiting, first_waiting, machine_at};
-ghost use Rattle.provider_agent.specs.Indexed.{NamesWork, AreIndexed, deadline_of};
+ghost use Rattle.provider_agent.specs.Steps.{works, works_at, moves_at, is_waiting, first_waiting, machine_at};
+ghost use Rattle.provider_agent.specs.Indexed.{NamesWork, NamesSchedule, deadline_of};
 ghost use Rattle.provider_agent.specs.Kept.{AreKept, slot_of, with_slot, plan_lack, is_plain};
-ghost use Rattle.provider_agent.specs.Desk.{home_at, state_at, IsReady};
+ghost use Rattle.provider_agent.specs.Core.{setting_at, state_at, IsConsistent, IsReady};
+ghost use Rattle.provider_agent.specs.Step.{IsStep, Fits, record_in};
 
-use crate::desk::{Desk, number_of};
-use crate::records::turn_at;
+use crate::provider_core::{Core, number_of};
+use crate::records::{Moment, turn_at};
 use capacity_calendar::{Calendar, Lack};
 use connection_record::{Move, ProvisionMove, Record, ReservationMove};
 use nsi_base::{RecordNo, Second};
@@ -27,7 +27,7 @@ use nsi_primitive::{Cause, Criteria, ErrorName, Exception, Machine, Message, Rsm
 use record_index::Places;
 use std::alloc::{AllocError, Global};
 
-impl Desk {
+impl Core {
     /// Does the work of a machine of a record. Work that doesn't wait changes nothing.
     #[tactic(auto, unfolding(crate::specs::Steps::works), using(crate::proofs::Putting::waiting_within))]
     pub fn work(
@@ -37,12 +37,9 @@ impl Desk {
         machine: Machine,
     ) -> Result<Vec<Message>, AllocError>
         requires { IsReady self.old }
-        ensures state { OnOk result (state_at self.new ≡ (works (is_waiting (state_at self.old) number machine) (home_at self.old) (state_at self.old) number machine).state) }
-        ensures out { IfOk result (λ out. out.items ≡ (works (is_waiting (state_at self.old) number machine) (home_at self.old) (state_at self.old) number machine).out) }
-        ensures home { home_at self.new ≡ home_at self.old }
-        ensures err { OnErr result (state_at self.new ≡ state_at self.old) }
-        ensures kept { AreKept self.new.records.items self.new.calendar.bookings }
-        ensures indexed { AreIndexed self.new.now self.new.records.items self.new.waiting self.new.deadlines }
+        ensures step { IsStep self.old self.new result
+            (λ setting s. works (is_waiting s number machine) setting s number machine) }
+        ensures consistent { IsConsistent self.new }
     {
         let place = number.get() as usize;
         if !is_waiting(&self.records, place, machine) {
@@ -56,18 +53,17 @@ impl Desk {
     /// A record that has no work to do any more isn't named.
     fn forget_if_done(&mut self, place: usize)
         requires within { place < length self.old.records.items }
-        requires indexed { AreIndexed self.old.now self.old.records.items self.old.waiting self.old.deadlines }
+        requires consistent { IsConsistent self.old }
         ensures state { state_at self.new ≡ state_at self.old }
-        ensures home { home_at self.new ≡ home_at self.old }
-        ensures bookings { self.new.calendar.bookings ≡ self.old.calendar.bookings }
-        ensures indexed { AreIndexed self.new.now self.new.records.items self.new.waiting self.new.deadlines }
+        ensures setting { setting_at self.new ≡ setting_at self.old }
+        ensures consistent { IsConsistent self.new }
     {
         if self.records[place].first_machine().is_none() {
             self.waiting.remove(place);
         }
     }
 
-    #[tactic(auto, unfolding(connection_record::specs::Turns::work_of))]
+    #[tactic(auto, unfolding(connection_record::specs::Applied::work_of))]
     fn work_at(
         &mut self,
         alloc: Global,
@@ -76,13 +72,10 @@ impl Desk {
     ) -> Result<Vec<Message>, AllocError>
         requires ready { IsReady self.old }
         requires within { place < length self.old.records.items }
-        requires waits { waits machine (record_at place self.old.records.items) ≡ true }
-        ensures state { OnOk result (state_at self.new ≡ (works_at (home_at self.old) (state_at self.old) place machine).state) }
-        ensures out { IfOk result (λ out. out.items ≡ (works_at (home_at self.old) (state_at self.old) place machine).out) }
-        ensures home { home_at self.new ≡ home_at self.old }
-        ensures err { OnErr result (state_at self.new ≡ state_at self.old) }
-        ensures kept { AreKept self.new.records.items self.new.calendar.bookings }
-        ensures indexed { AreIndexed self.new.now self.new.records.items self.new.waiting self.new.deadlines }
+        requires waits { waits machine (record_in self.old place) ≡ true }
+        ensures step { IsStep self.old self.new result
+            (λ setting s. works_at setting s place machine) }
+        ensures consistent { IsConsistent self.new }
     {
         match machine {
             Machine::Reserve => self.reserve_work_at(alloc, place),
@@ -92,17 +85,14 @@ impl Desk {
     }
 
     /// What was asked is held or refused, a commit or an abort is carried out.
-    #[tactic(auto, unfolding(connection_record::specs::Turns::work_of, connection_record::specs::Moves::worked))]
+    #[tactic(auto, unfolding(connection_record::specs::Applied::work_of, connection_record::specs::Moves::worked))]
     fn reserve_work_at(&mut self, alloc: Global, place: usize) -> Result<Vec<Message>, AllocError>
         requires ready { IsReady self.old }
         requires within { place < length self.old.records.items }
-        requires waits { waits MachineValue.Reserve (record_at place self.old.records.items) ≡ true }
-        ensures state { OnOk result (state_at self.new ≡ (works_at (home_at self.old) (state_at self.old) place MachineValue.Reserve).state) }
-        ensures out { IfOk result (λ out. out.items ≡ (works_at (home_at self.old) (state_at self.old) place MachineValue.Reserve).out) }
-        ensures home { home_at self.new ≡ home_at self.old }
-        ensures err { OnErr result (state_at self.new ≡ state_at self.old) }
-        ensures kept { AreKept self.new.records.items self.new.calendar.bookings }
-        ensures indexed { AreIndexed self.new.now self.new.records.items self.new.waiting self.new.deadlines }
+        requires waits { waits MachineValue.Reserve (record_in self.old place) ≡ true }
+        ensures step { IsStep self.old self.new result
+            (λ setting s. works_at setting s place MachineValue.Reserve) }
+        ensures consistent { IsConsistent self.new }
     {
         match self.records[place].rsm {
             Rsm::ReserveChecking => self.decide(alloc, place),
@@ -119,29 +109,23 @@ impl Desk {
     fn provision_work_at(&mut self, alloc: Global, place: usize) -> Result<Vec<Message>, AllocError>
         requires ready { IsReady self.old }
         requires within { place < length self.old.records.items }
-        requires waits { waits MachineValue.Provision (record_at place self.old.records.items) ≡ true }
-        ensures state { OnOk result (state_at self.new ≡ (works_at (home_at self.old) (state_at self.old) place MachineValue.Provision).state) }
-        ensures out { IfOk result (λ out. out.items ≡ (works_at (home_at self.old) (state_at self.old) place MachineValue.Provision).out) }
-        ensures home { home_at self.new ≡ home_at self.old }
-        ensures err { OnErr result (state_at self.new ≡ state_at self.old) }
-        ensures kept { AreKept self.new.records.items self.new.calendar.bookings }
-        ensures indexed { AreIndexed self.new.now self.new.records.items self.new.waiting self.new.deadlines }
+        requires waits { waits MachineValue.Provision (record_in self.old place) ≡ true }
+        ensures step { IsStep self.old self.new result
+            (λ setting s. works_at setting s place MachineValue.Provision) }
+        ensures consistent { IsConsistent self.new }
     {
         self.turn(alloc, place, Move::Provision(ProvisionMove::Done))
     }
 
     /// The connection ends: what is open is answered, then its terminate, and nothing of it is booked any more.
-    #[tactic(auto, unfolding(connection_record::specs::Turns::work_of))]
+    #[tactic(auto, unfolding(connection_record::specs::Applied::work_of))]
     fn close(&mut self, alloc: Global, place: usize) -> Result<Vec<Message>, AllocError>
         requires ready { IsReady self.old }
         requires within { place < length self.old.records.items }
-        requires waits { waits MachineValue.Lifecycle (record_at place self.old.records.items) ≡ true }
-        ensures state { OnOk result (state_at self.new ≡ (works_at (home_at self.old) (state_at self.old) place MachineValue.Lifecycle).state) }
-        ensures out { IfOk result (λ out. out.items ≡ (works_at (home_at self.old) (state_at self.old) place MachineValue.Lifecycle).out) }
-        ensures home { home_at self.new ≡ home_at self.old }
-        ensures err { OnErr result (state_at self.new ≡ state_at self.old) }
-        ensures kept { AreKept self.new.records.items self.new.calendar.bookings }
-        ensures indexed { AreIndexed self.new.now self.new.records.items self.new.waiting self.new.deadlines }
+        requires waits { waits MachineValue.Lifecycle (record_in self.old place) ≡ true }
+        ensures step { IsStep self.old self.new result
+            (λ setting s. works_at setting s place MachineValue.Lifecycle) }
+        ensures consistent { IsConsistent self.new }
     {
         let agent = self.agent.name.copy()?;
         let out = self.move_record(alloc, place, Move::Close { agent })?;
@@ -150,20 +134,18 @@ impl Desk {
     }
 }
 
-impl Desk {
+impl Core {
     /// What was asked is held, or what it lacks is told.
     #[tactic(auto, unfolding(crate::specs::Others::lacking))]
     fn decide(&mut self, alloc: Global, place: usize) -> Result<Vec<Message>, AllocError>
         requires ready { IsReady self.old }
         requires within { place < length self.old.records.items }
-        requires checking { (record_at place self.old.records.items).rsm ≡ Rsm.ReserveChecking }
-        requires waits { waits MachineValue.Reserve (record_at place self.old.records.items) ≡ true }
-        ensures state { OnOk result (let own = record_at place self.old.records.items in state_at self.new ≡ (keeps (home_at self.old) (state_at self.old) place (moves SideValue.Provider (MoveValue.Reservation (fit_or_lack (lacking (home_at self.old) (state_at self.old) place) self.old.agent.name (self.old.now + self.old.agent.hold))) self.old.now own)).state) }
-        ensures out { IfOk result (λ out. let own = record_at place self.old.records.items in out.items ≡ (keeps (home_at self.old) (state_at self.old) place (moves SideValue.Provider (MoveValue.Reservation (fit_or_lack (lacking (home_at self.old) (state_at self.old) place) self.old.agent.name (self.old.now + self.old.agent.hold))) self.old.now own)).out) }
-        ensures home { home_at self.new ≡ home_at self.old }
-        ensures err { OnErr result (state_at self.new ≡ state_at self.old) }
-        ensures kept { AreKept self.new.records.items self.new.calendar.bookings }
-        ensures indexed { AreIndexed self.new.now self.new.records.items self.new.waiting self.new.deadlines }
+        requires checking { (record_in self.old place).rsm ≡ Rsm.ReserveChecking }
+        requires waits { waits MachineValue.Reserve (record_in self.old place) ≡ true }
+        ensures step { let lack = lacking (setting_at self.old) (state_at self.old) place in
+            let move = fit_or_lack lack self.old.agent.name (self.old.now + self.old.agent.hold) in
+            IsStep self.old self.new result (moves_at (MoveValue.Reservation move) place) }
+        ensures consistent { IsConsistent self.new }
     {
         let cause = cause_at(&self.calendar, &self.records, place, self.now)?;
         match cause {
@@ -185,15 +167,13 @@ impl Desk {
     fn fit(&mut self, alloc: Global, place: usize) -> Result<Vec<Message>, AllocError>
         requires ready { IsReady self.old }
         requires within { place < length self.old.records.items }
-        requires checking { (record_at place self.old.records.items).rsm ≡ Rsm.ReserveChecking }
-        requires waits { waits MachineValue.Reserve (record_at place self.old.records.items) ≡ true }
-        requires fits { cause_among self.old.calendar.capacities self.old.records.items self.old.now place (record_at place self.old.records.items).pending ≡ None }
-        ensures state { OnOk result (let own = record_at place self.old.records.items in state_at self.new ≡ (keeps (home_at self.old) (state_at self.old) place (moves SideValue.Provider (MoveValue.Reservation (ReservationValue.Fit (Some (self.old.now + self.old.agent.hold)))) self.old.now own)).state) }
-        ensures out { IfOk result (λ out. let own = record_at place self.old.records.items in out.items ≡ (keeps (home_at self.old) (state_at self.old) place (moves SideValue.Provider (MoveValue.Reservation (ReservationValue.Fit (Some (self.old.now + self.old.agent.hold)))) self.old.now own)).out) }
-        ensures home { home_at self.new ≡ home_at self.old }
-        ensures err { OnErr result (state_at self.new ≡ state_at self.old) }
-        ensures kept { AreKept self.new.records.items self.new.calendar.bookings }
-        ensures indexed { AreIndexed self.new.now self.new.records.items self.new.waiting self.new.deadlines }
+        requires checking { (record_in self.old place).rsm ≡ Rsm.ReserveChecking }
+        requires waits { waits MachineValue.Reserve (record_in self.old place) ≡ true }
+        requires fits { Fits self.old place }
+        ensures step { let deadline = self.old.now + self.old.agent.hold in
+            let move = ReservationValue.Fit (Some deadline) in
+            IsStep self.old self.new result (moves_at (MoveValue.Reservation move) place) }
+        ensures consistent { IsConsistent self.new }
     {
         let deadline = self.now.get() + u64::from(self.agent.hold.get());
         self.name_second(place, deadline)?;
@@ -209,16 +189,13 @@ impl Desk {
     ) -> Result<Vec<Message>, AllocError>
         requires ready { IsReady self.old }
         requires within { place < length self.old.records.items }
-        requires checking { (record_at place self.old.records.items).rsm ≡ Rsm.ReserveChecking }
-        requires waits { waits MachineValue.Reserve (record_at place self.old.records.items) ≡ true }
-        requires fits { cause_among self.old.calendar.capacities self.old.records.items self.old.now place (record_at place self.old.records.items).pending ≡ None }
+        requires checking { (record_in self.old place).rsm ≡ Rsm.ReserveChecking }
+        requires waits { waits MachineValue.Reserve (record_in self.old place) ≡ true }
+        requires fits { Fits self.old place }
         requires named { Contains self.old.deadlines (deadline_of deadline place) }
-        ensures state { OnOk result (let own = record_at place self.old.records.items in state_at self.new ≡ (keeps (home_at self.old) (state_at self.old) place (moves SideValue.Provider (MoveValue.Reservation (ReservationValue.Fit (Some deadline))) self.old.now own)).state) }
-        ensures out { IfOk result (λ out. let own = record_at place self.old.records.items in out.items ≡ (keeps (home_at self.old) (state_at self.old) place (moves SideValue.Provider (MoveValue.Reservation (ReservationValue.Fit (Some deadline))) self.old.now own)).out) }
-        ensures home { home_at self.new ≡ home_at self.old }
-        ensures err { OnErr result (state_at self.new ≡ state_at self.old) }
-        ensures kept { AreKept self.new.records.items self.new.calendar.bookings }
-        ensures indexed { AreIndexed self.new.now self.new.records.items self.new.waiting self.new.deadlines }
+        ensures step { let move = ReservationValue.Fit (Some deadline) in
+            IsStep self.old self.new result (moves_at (MoveValue.Reservation move) place) }
+        ensures consistent { IsConsistent self.new }
     {
         let event = ReservationMove::Fit {
             deadline: Some(deadline),
@@ -237,14 +214,11 @@ impl Desk {
     fn commit(&mut self, alloc: Global, place: usize) -> Result<Vec<Message>, AllocError>
         requires ready { IsReady self.old }
         requires within { place < length self.old.records.items }
-        requires committing { (record_at place self.old.records.items).rsm ≡ Rsm.ReserveCommitting }
-        requires waits { waits MachineValue.Reserve (record_at place self.old.records.items) ≡ true }
-        ensures state { OnOk result (let own = record_at place self.old.records.items in state_at self.new ≡ (keeps (home_at self.old) (state_at self.old) place (moves SideValue.Provider (MoveValue.Reservation ReservationValue.Done) self.old.now own)).state) }
-        ensures out { IfOk result (λ out. let own = record_at place self.old.records.items in out.items ≡ (keeps (home_at self.old) (state_at self.old) place (moves SideValue.Provider (MoveValue.Reservation ReservationValue.Done) self.old.now own)).out) }
-        ensures home { home_at self.new ≡ home_at self.old }
-        ensures err { OnErr result (state_at self.new ≡ state_at self.old) }
-        ensures kept { AreKept self.new.records.items self.new.calendar.bookings }
-        ensures indexed { AreIndexed self.new.now self.new.records.items self.new.waiting self.new.deadlines }
+        requires committing { (record_in self.old place).rsm ≡ Rsm.ReserveCommitting }
+        requires waits { waits MachineValue.Reserve (record_in self.old place) ≡ true }
+        ensures step { let move = MoveValue.Reservation ReservationValue.Done in
+            IsStep self.old self.new result (moves_at move place) }
+        ensures consistent { IsConsistent self.new }
     {
         self.name_schedule(place)?;
         self.commit_named(alloc, place)
@@ -256,7 +230,8 @@ impl Desk {
         requires within { place < length self.old.records.items }
         ensures same { self.new ≡ record self.old { deadlines = self.new.deadlines } }
         ensures ready { IsReady self.new }
-        ensures named { OnOk result (IfSome (record_at place self.old.records.items).pending (λ c. Contains self.new.deadlines (deadline_of c.interval.start place) × Contains self.new.deadlines (deadline_of c.interval.end place))) }
+        ensures named { let asked = (record_in self.old place).pending in
+            OnOk result (NamesSchedule place asked self.new.deadlines) }
     {
         let Some(criteria) = self.records[place].pending else {
             return Ok(());
@@ -273,7 +248,8 @@ impl Desk {
         ensures same { self.new ≡ record self.old { deadlines = self.new.deadlines } }
         ensures ready { IsReady self.new }
         ensures named { OnOk result (Contains self.new.deadlines (deadline_of second place)) }
-        ensures before { (x : DeadlineValue) → Contains self.old.deadlines x → Contains self.new.deadlines x }
+        ensures before { (x : DeadlineValue) →
+            Contains self.old.deadlines x → Contains self.new.deadlines x }
     {
         self.deadlines.add(second, place)?;
         Ok(())
@@ -283,15 +259,12 @@ impl Desk {
     fn commit_named(&mut self, alloc: Global, place: usize) -> Result<Vec<Message>, AllocError>
         requires ready { IsReady self.old }
         requires within { place < length self.old.records.items }
-        requires committing { (record_at place self.old.records.items).rsm ≡ Rsm.ReserveCommitting }
-        requires waits { waits MachineValue.Reserve (record_at place self.old.records.items) ≡ true }
-        requires named { IfSome (record_at place self.old.records.items).pending (λ c. Contains self.old.deadlines (deadline_of c.interval.start place) × Contains self.old.deadlines (deadline_of c.interval.end place)) }
-        ensures state { OnOk result (let own = record_at place self.old.records.items in state_at self.new ≡ (keeps (home_at self.old) (state_at self.old) place (moves SideValue.Provider (MoveValue.Reservation ReservationValue.Done) self.old.now own)).state) }
-        ensures out { IfOk result (λ out. let own = record_at place self.old.records.items in out.items ≡ (keeps (home_at self.old) (state_at self.old) place (moves SideValue.Provider (MoveValue.Reservation ReservationValue.Done) self.old.now own)).out) }
-        ensures home { home_at self.new ≡ home_at self.old }
-        ensures err { OnErr result (state_at self.new ≡ state_at self.old) }
-        ensures kept { AreKept self.new.records.items self.new.calendar.bookings }
-        ensures indexed { AreIndexed self.new.now self.new.records.items self.new.waiting self.new.deadlines }
+        requires committing { (record_in self.old place).rsm ≡ Rsm.ReserveCommitting }
+        requires waits { waits MachineValue.Reserve (record_in self.old place) ≡ true }
+        requires named { NamesSchedule place (record_in self.old place).pending self.old.deadlines }
+        ensures step { let move = MoveValue.Reservation ReservationValue.Done in
+            IsStep self.old self.new result (moves_at move place) }
+        ensures consistent { IsConsistent self.new }
     {
         let is_held = has_pending(&self.records, place);
         let event = Move::Reservation(ReservationMove::Done);
@@ -311,12 +284,8 @@ impl Desk {
         requires within { place < length self.old.records.items }
         requires plain { is_plain event ≡ true }
         requires named { Contains self.old.waiting place }
-        ensures state { OnOk result (let own = record_at place self.old.records.items in state_at self.new ≡ (keeps (home_at self.old) (state_at self.old) place (moves SideValue.Provider (event) self.old.now own)).state) }
-        ensures out { IfOk result (λ out. let own = record_at place self.old.records.items in out.items ≡ (keeps (home_at self.old) (state_at self.old) place (moves SideValue.Provider (event) self.old.now own)).out) }
-        ensures home { home_at self.new ≡ home_at self.old }
-        ensures err { OnErr result (state_at self.new ≡ state_at self.old) }
-        ensures kept { AreKept self.new.records.items self.new.calendar.bookings }
-        ensures indexed { AreIndexed self.new.now self.new.records.items self.new.waiting self.new.deadlines }
+        ensures step { IsStep self.old self.new result (moves_at event place) }
+        ensures consistent { IsConsistent self.new }
     {
         let out = self.move_record(alloc, place, event)?;
         self.free_if_dropped(place);
@@ -332,25 +301,17 @@ impl Desk {
     ) -> Result<Vec<Message>, AllocError>
         requires within { place < length self.old.records.items }
         requires next { self.old.next ≤ 17592194433025 }
-        ensures state { OnOk result (let own = record_at place self.old.records.items in state_at self.new ≡ (keeps (home_at self.old) (state_at self.old) place (moves SideValue.Provider (event) self.old.now own)).state) }
-        ensures out { IfOk result (λ out. let own = record_at place self.old.records.items in out.items ≡ (keeps (home_at self.old) (state_at self.old) place (moves SideValue.Provider (event) self.old.now own)).out) }
-        ensures home { home_at self.new ≡ home_at self.old }
+        ensures step { IsStep self.old self.new result (moves_at event place) }
         ensures calendar { self.new.calendar ≡ self.old.calendar }
         ensures waiting { self.new.waiting ≡ self.old.waiting }
         ensures deadlines { self.new.deadlines ≡ self.old.deadlines }
-        ensures err { OnErr result (state_at self.new ≡ state_at self.old) }
     {
-        let next = self.next;
-        let turn = turn_at(
-            alloc,
-            &self.agent,
-            &mut self.records,
-            place,
-            event,
-            next,
-            self.now,
-        )?;
-        self.next = next + turn.drawn;
+        let moment = Moment {
+            second: self.now,
+            next: self.next,
+        };
+        let turn = turn_at(alloc, &self.agent, &mut self.records, place, event, moment)?;
+        self.next += turn.drawn;
         Ok(turn.out)
     }
 }
@@ -405,7 +366,8 @@ fn has_work(records: &[Record], place: usize) -> bool
 
 /// Whether a machine of the record at a place has work to do.
 fn is_waiting(records: &[Record], place: usize, machine: Machine) -> bool
-    ensures { result ≡ nat_lt place (length records.now) && waits machine (record_at place records.now) }
+    ensures { let own = record_at place records.now in
+        result ≡ nat_lt place (length records.now) && waits machine own }
 {
     match records.get(place) {
         Some(own) => own.waits(machine),
@@ -426,7 +388,9 @@ fn has_pending(records: &[Record], place: usize) -> bool
 fn settle_if(calendar: &mut Calendar, place: usize, is_held: bool)
     requires few { place ≤ 4194303 }
     requires pending { is_held ≡ true → IsSome (pending_of place calendar.old.bookings) }
-    ensures { calendar.new ≡ record calendar.old { bookings = if is_held then settled place calendar.old.bookings else calendar.old.bookings } }
+    ensures { let bookings = calendar.old.bookings in
+        let settled_if = if is_held then settled place bookings else bookings in
+        calendar.new ≡ record calendar.old { bookings = settled_if } }
 {
     if is_held {
         calendar.settle(number_of(place));
@@ -446,7 +410,8 @@ fn first_lack(
     requires few { place ≤ 4194303 }
     requires own { own.now ≡ record_at place records.now }
     ensures among { result ≡ lack_among calendar.now.capacities records.now place criteria }
-    ensures plan { result ≡ plan_lack calendar.now place (is_both_ways own.now.service.directionality) own.now.source own.now.dest criteria }
+    ensures plan { let both_ways = is_both_ways own.now.service.directionality in
+        result ≡ plan_lack calendar.now place both_ways own.now.source own.now.dest criteria }
 {
     calendar.facts();
     calendar.first_lack(
@@ -469,7 +434,9 @@ fn cause_at(
     requires kept { AreKept records.now calendar.now.bookings }
     requires within { place < length records.now }
     requires few { place ≤ 4194303 }
-    ensures { IfOk result (λ cause. cause ≡ cause_among calendar.now.capacities records.now now place (record_at place records.now).pending) }
+    ensures { let asked = (record_at place records.now).pending in
+        let found = cause_among calendar.now.capacities records.now now place asked in
+        IfOk result (λ cause. cause ≡ found) }
 {
     let own = &records[place];
     let Some(criteria) = own.pending else {
@@ -516,8 +483,12 @@ fn put(
     requires within { place < length records.now }
     requires few { place ≤ 4194303 }
     requires checking { (record_at place records.now).rsm ≡ Rsm.ReserveChecking }
-    requires fits { cause_among calendar.old.capacities records.now now place (record_at place records.now).pending ≡ None }
-    ensures ok { OnOk result (calendar.new ≡ record calendar.old { bookings = with_slot place (option_map (slot_of (record_at place records.now)) (record_at place records.now).pending) calendar.old.bookings }) }
+    requires fits { let asked = (record_at place records.now).pending in
+        cause_among calendar.old.capacities records.now now place asked ≡ None }
+    ensures ok { let own = record_at place records.now in
+        let slot = option_map (slot_of own) own.pending in
+        let bookings = with_slot place slot calendar.old.bookings in
+        OnOk result (calendar.new ≡ record calendar.old { bookings = bookings }) }
     ensures err { OnErr result (calendar.new ≡ calendar.old) }
 {
     let own = &records[place];

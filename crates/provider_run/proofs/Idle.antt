@@ -12,8 +12,8 @@ use Rattle.nsi_primitive.specs.declared.state.Machine.{Machine}
 use Rattle.nsi_primitive.specs.declared.state.Side.{Side}
 use Rattle.connection_record.specs.declared.record.Record.{Record}
 use Rattle.connection_record.specs.Replies.{Moved}
-use Rattle.connection_record.specs.Turns.{has_work, first_machine, waits, moves_if, status_of, tells}
-use Rattle.provider_agent.specs.Home.{Home}
+use Rattle.connection_record.specs.Applied.{has_work, first_machine, waits, moves_if, status_of, tells}
+use Rattle.provider_agent.specs.Setting.{Setting}
 use Rattle.provider_agent.specs.Others.{lacking}
 use Rattle.provider_agent.specs.State.{State, Stepped, no_record, record_at}
 use Rattle.provider_agent.specs.Steps.{step, works, work_at, is_waiting, after, may_take, waiting_work}
@@ -75,17 +75,17 @@ none_found s zero_works = by_test (nat_lt place (length s.records)) refl
 ---- One work
 
 -- the first waiting work takes one off
-pub one_less : (home : Home) (stp_of : List ℕ → Option ℕ) (s : State) (n : ℕ) (machine : Machine) → IsGood home s → s.taken < 4194304 → waiting_work s ≡ Some (n, machine)
-    → works_among (after home stp_of s (now_at s (Input.Work n machine))).state.records + 1 ≡ works_among s.records
+pub one_less : (setting : Setting) (stp_of : List ℕ → Option ℕ) (s : State) (n : ℕ) (machine : Machine) → IsGood setting s → s.taken < 4194304 → waiting_work s ≡ Some (n, machine)
+    → works_among (after setting stp_of s (now_at s (Input.Work n machine))).state.records + 1 ≡ works_among s.records
 unfolding step works
-one_less home stp_of s n machine good few e =
+one_less setting stp_of s n machine good few e =
     omega (
       arith,
       ap works_among is,
       sum_beside works_in s.records n r there,
       sum_with works_in s.records n r y there,
       told_works (status_of s.now r) c s.now x,
-      worked_less machine (lacking home s n) home.name (s.now + home.hold) s.now r (good.records n r there).asking found.waits,
+      worked_less machine (lacking setting s n) setting.name (s.now + setting.hold) s.now r (good.records n r there).asking found.waits,
     )
   where
     found : IsFirst s.records n machine
@@ -98,10 +98,10 @@ one_less home stp_of s n machine good few e =
     there = slice_get-get_or s.records n no_record found.within
 
     c : ℕ
-    c = id_of home.number s.next
+    c = id_of setting.number s.next
 
     x : Moved
-    x = moves_if Side.Provider (work_at home s n machine) s.now r
+    x = moves_if Side.Provider (work_at setting s n machine) s.now r
 
     y : Record
     y = (tells (status_of s.now r) c s.now x).rec
@@ -112,35 +112,35 @@ one_less home stp_of s n machine good few e =
     waits_is : is_waiting s n machine ≡ true
     waits_is = and_from (nat_lt n (length s.records)) (waits machine r) (lt-ltb n (length s.records) found.within) found.waits
 
-    is : (after home stp_of s work).state.records ≡ slice_set s.records n y
-    is = ap (λ (z : Stepped). z.state.records) (taken_is home stp_of s work (work_may s n machine few)) ∙ ap (λ b. (works b home s n machine).state.records) waits_is
+    is : (after setting stp_of s work).state.records ≡ slice_set s.records n y
+    is = ap (λ (z : Stepped). z.state.records) (taken_is setting stp_of s work (work_may s n machine few)) ∙ ap (λ b. (works b setting s n machine).state.records) waits_is
 
 -- all work is the first one, and all that waits behind it
-pub works_first : (home : Home) (stp_of : List ℕ → Option ℕ) (s : State) (n : ℕ) (machine : Machine) → IsGood home s → s.taken < 4194304 → waiting_work s ≡ Some (n, machine)
-    → all_works home stp_of s ≡ now_at s (Input.Work n machine) ∷ all_works home stp_of (after home stp_of s (now_at s (Input.Work n machine))).state
-works_first home stp_of s n machine good few e =
-    let left : works_among s.records ≡ suc (works_among (after home stp_of s (now_at s (Input.Work n machine))).state.records) = omega (arith, one_less home stp_of s n machine good few e) in
-    ap (λ k. works_of k home stp_of s) left ∙ works_some (works_among (after home stp_of s (now_at s (Input.Work n machine))).state.records) home stp_of s n machine e
+pub works_first : (setting : Setting) (stp_of : List ℕ → Option ℕ) (s : State) (n : ℕ) (machine : Machine) → IsGood setting s → s.taken < 4194304 → waiting_work s ≡ Some (n, machine)
+    → all_works setting stp_of s ≡ now_at s (Input.Work n machine) ∷ all_works setting stp_of (after setting stp_of s (now_at s (Input.Work n machine))).state
+works_first setting stp_of s n machine good few e =
+    let left : works_among s.records ≡ suc (works_among (after setting stp_of s (now_at s (Input.Work n machine))).state.records) = omega (arith, one_less setting stp_of s n machine good few e) in
+    ap (λ k. works_of k setting stp_of s) left ∙ works_some (works_among (after setting stp_of s (now_at s (Input.Work n machine))).state.records) setting stp_of s n machine e
 
 ---- All work
 
-idle_within : (most : ℕ) (home : Home) (stp_of : List ℕ → Option ℕ) (s : State) → IsGood home s → s.taken + most ≤ 4194304 → works_among s.records ≤ most → waiting_work (after_all home stp_of s (works_of most home stp_of s)).state ≡ None
+idle_within : (most : ℕ) (setting : Setting) (stp_of : List ℕ → Option ℕ) (s : State) → IsGood setting s → s.taken + most ≤ 4194304 → works_among s.records ≤ most → waiting_work (after_all setting stp_of s (works_of most setting stp_of s)).state ≡ None
 unfolding works_of after_all
-idle_within zero home stp_of s good few le = none_found s (omega (arith, le))
-idle_within (suc most) home stp_of s good few le = by_work (waiting_work s) refl (λ t g f l. idle_within most home stp_of t g f l)
+idle_within zero setting stp_of s good few le = none_found s (omega (arith, le))
+idle_within (suc most) setting stp_of s good few le = by_work (waiting_work s) refl (λ t g f l. idle_within most setting stp_of t g f l)
   where
     IsIdle : State → ℕ → Type 0
-    IsIdle t k = waiting_work (after_all home stp_of t (works_of k home stp_of t)).state ≡ None
+    IsIdle t k = waiting_work (after_all setting stp_of t (works_of k setting stp_of t)).state ≡ None
 
-    by_work : (o : Option (ℕ × Machine)) → waiting_work s ≡ o → ((t : State) → IsGood home t → t.taken + most ≤ 4194304 → works_among t.records ≤ most → IsIdle t most) → IsIdle s (suc most)
-    by_work None e behind = ap (λ (es : List Entry). waiting_work (after_all home stp_of s es).state) (works_none (suc most) home stp_of s e) ∙ e
+    by_work : (o : Option (ℕ × Machine)) → waiting_work s ≡ o → ((t : State) → IsGood setting t → t.taken + most ≤ 4194304 → works_among t.records ≤ most → IsIdle t most) → IsIdle s (suc most)
+    by_work None e behind = ap (λ (es : List Entry). waiting_work (after_all setting stp_of s es).state) (works_none (suc most) setting stp_of s e) ∙ e
     by_work (Some (n, machine)) e behind =
         let work : Entry = now_at s (Input.Work n machine) in
         let may : may_take s work ≡ true = work_may s n machine (omega arith) in
-        ap (λ (es : List Entry). waiting_work (after_all home stp_of s es).state) (works_some most home stp_of s n machine e)
-        ∙ behind (after home stp_of s work).state (good_after home stp_of s work good tt) (omega (arith, taken_after home stp_of s work may))
-        (omega (arith, le, one_less home stp_of s n machine good (omega arith) e))
+        ap (λ (es : List Entry). waiting_work (after_all setting stp_of s es).state) (works_some most setting stp_of s n machine e)
+        ∙ behind (after setting stp_of s work).state (good_after setting stp_of s work good tt) (omega (arith, taken_after setting stp_of s work may))
+        (omega (arith, le, one_less setting stp_of s n machine good (omega arith) e))
 
 -- Once all waiting work is done, none waits, where no more entries come than an agent takes.
-pub idle_after : (home : Home) (stp_of : List ℕ → Option ℕ) (s : State) → IsGood home s → s.taken ≤ 2000001 → waiting_work (after_all home stp_of s (all_works home stp_of s)).state ≡ None
-idle_after home stp_of s good few = idle_within (works_among s.records) home stp_of s good (omega (arith, few, good.works)) (omega arith)
+pub idle_after : (setting : Setting) (stp_of : List ℕ → Option ℕ) (s : State) → IsGood setting s → s.taken ≤ 2000001 → waiting_work (after_all setting stp_of s (all_works setting stp_of s)).state ≡ None
+idle_after setting stp_of s good few = idle_within (works_among s.records) setting stp_of s good (omega (arith, few, good.works)) (omega arith)

@@ -21,21 +21,21 @@ use Rattle.message_retry.specs.Taken.{is_taken, with_taken}
 use Rattle.capacity_calendar.specs.Lack.{lack_at, first_from, first_lack_by}
 use Rattle.capacity_calendar.specs.Plan.{places}
 use Rattle.connection_record.specs.Demand.{demand, load}
-use Rattle.connection_record.specs.Lives.{provisions, lives}
-use Rattle.connection_record.specs.Moves.{reserves, hold_end, is_live, is_working, worked}
+use Rattle.connection_record.specs.Lives.{provision_event, lifecycle_event, provisions, lives}
+use Rattle.connection_record.specs.Moves.{event_of, reserves, hold_end, is_live, is_working, worked}
 use Rattle.connection_record.specs.Refusal.{has_row, is_in_place, unnamed_refusal, modification_refusal, refusal}
-use Rattle.connection_record.specs.Turns.{moves, closes, reservation_closing, provision_closing, requested, first_machine, waits, work_of, provided, is_provisioning, is_terminating, ticks as record_ticks, tells, tells_plane}
-use Rattle.provider_agent.specs.Home.{Home}
+use Rattle.connection_record.specs.Applied.{moves, closes, reservation_closing, provision_closing, requested, first_machine, waits, work_of, provided, is_provisioning, is_terminating, ticks as record_ticks, tells, tells_plane}
+use Rattle.provider_agent.specs.Setting.{Setting}
 use Rattle.provider_agent.specs.Others.{lacking}
 use Rattle.provider_agent.specs.State.{State, Stepped, blank}
-use Rattle.provider_agent.specs.Steps.{hears, works, forces, ticks, ticks_all, step, after}
+use Rattle.provider_agent.specs.Steps.{receives, works, forces, ticks, ticks_all, step, after}
 use Rattle.provider_agent.specs.Runs.{after_all}
 use Rattle.provider_run.specs.Works.{now_at, works_of, all_works, with_works}
 
 ---- The provider and its requests
 
-abbrev home : Home
-home =
+abbrev setting : Setting
+setting =
     record {
       name = codes "p1";
       number = 0;
@@ -150,17 +150,17 @@ entries (input ∷ inputs) = now_at blank input ∷ entries inputs
 
 -- a message, and all work that waits then
 abbrev line : State → Message → Stepped
-line s message = after_all home stp_of s (with_works home stp_of s (now_at s (Input.Got message)))
+line s message = after_all setting stp_of s (with_works setting stp_of s (now_at s (Input.Got message)))
 
 abbrev tick : State → ℕ → Stepped
-tick s second = after_all home stp_of s (with_works home stp_of s (record { second = second; input = Input.Tick }))
+tick s second = after_all setting stp_of s (with_works setting stp_of s (record { second = second; input = Input.Tick }))
 
 abbrev force : State → Stepped
-force s = after_all home stp_of s (with_works home stp_of s (now_at s (Input.Force 0)))
+force s = after_all setting stp_of s (with_works setting stp_of s (now_at s (Input.Force 0)))
 
 -- entries of the first second, with no work but what is among them
 abbrev at_first : List Input → Stepped
-at_first inputs = after_all home stp_of blank (entries inputs)
+at_first inputs = after_all setting stp_of blank (entries inputs)
 
 abbrev load_at : ℕ → State → ℕ
 load_at t s = load Flow.Both 0 t s.records
@@ -193,7 +193,7 @@ pub record AreReserved : Type 0 where
   a_repeated_request_is_silent : (line held (m 1 (first 500 150 300))).out ≡ []
 
 reserved : AreReserved
-unfolding after_all after step hears works forces ticks ticks_all works_of lacking first_machine waits work_of worked provided is_provisioning is_terminating moves reserves provisions lives closes reservation_closing provision_closing requested record_ticks hold_end tells tells_plane status announces is_live is_working demand is_in_place has_row row_of provision_row_of lifecycle_row_of unnamed_refusal modification_refusal refusal is_taken with_taken lack_at first_from first_lack_by places connection_of
+unfolding after_all after step receives works forces ticks ticks_all works_of lacking first_machine waits work_of worked provided is_provisioning is_terminating moves reserves provisions lives closes reservation_closing provision_closing requested record_ticks hold_end tells tells_plane status announces is_live is_working demand is_in_place has_row row_of provision_row_of lifecycle_row_of unnamed_refusal modification_refusal refusal is_taken with_taken lack_at first_from first_lack_by places connection_of event_of provision_event lifecycle_event
 reserved = record {
   a_first_reserve_is_held = refl;
   the_first_lack_is_named = refl;
@@ -220,7 +220,7 @@ pub record AreHeld : Type 0 where
       ≡ from (codes "r2") 1 (Body.Error (Some (id_of 0 1)) (record { nsa = codes "p1"; cause = Cause.Plain ErrorName.Nonexistent })) ∷ []
 
 are_held : AreHeld
-unfolding after_all after step hears works forces ticks ticks_all works_of lacking first_machine waits work_of worked provided is_provisioning is_terminating moves reserves provisions lives closes reservation_closing provision_closing requested record_ticks hold_end tells tells_plane status announces is_live is_working demand is_in_place has_row row_of provision_row_of lifecycle_row_of unnamed_refusal modification_refusal refusal is_taken with_taken lack_at first_from first_lack_by places connection_of
+unfolding after_all after step receives works forces ticks ticks_all works_of lacking first_machine waits work_of worked provided is_provisioning is_terminating moves reserves provisions lives closes reservation_closing provision_closing requested record_ticks hold_end tells tells_plane status announces is_live is_working demand is_in_place has_row row_of provision_row_of lifecycle_row_of unnamed_refusal modification_refusal refusal is_taken with_taken lack_at first_from first_lack_by places connection_of event_of provision_event lifecycle_event
 are_held = record {
   a_hold_lasts_its_time = refl;
   a_hold_ends_with_its_time = refl;
@@ -247,7 +247,7 @@ pub record AreModified : Type 0 where
       ≡ refuses 5 (Some (id_of 0 1)) ErrorName.Version ∷ []
 
 are_modified : AreModified
-unfolding after_all after step hears works forces ticks ticks_all works_of lacking first_machine waits work_of worked provided is_provisioning is_terminating moves reserves provisions lives closes reservation_closing provision_closing requested record_ticks hold_end tells tells_plane status announces is_live is_working demand is_in_place has_row row_of provision_row_of lifecycle_row_of unnamed_refusal modification_refusal refusal is_taken with_taken lack_at first_from first_lack_by places connection_of
+unfolding after_all after step receives works forces ticks ticks_all works_of lacking first_machine waits work_of worked provided is_provisioning is_terminating moves reserves provisions lives closes reservation_closing provision_closing requested record_ticks hold_end tells tells_plane status announces is_live is_working demand is_in_place has_row row_of provision_row_of lifecycle_row_of unnamed_refusal modification_refusal refusal is_taken with_taken lack_at first_from first_lack_by places connection_of event_of provision_event lifecycle_event
 are_modified = record {
   a_modification_has_the_next_version = refl;
   the_larger_counts_while_it_is_held = refl;
@@ -273,7 +273,7 @@ pub record AreProvisioned : Type 0 where
   a_second_one_does_nothing : (force (force active).state).out ≡ []
 
 are_provisioned : AreProvisioned
-unfolding after_all after step hears works forces ticks ticks_all works_of lacking first_machine waits work_of worked provided is_provisioning is_terminating moves reserves provisions lives closes reservation_closing provision_closing requested record_ticks hold_end tells tells_plane status announces is_live is_working demand is_in_place has_row row_of provision_row_of lifecycle_row_of unnamed_refusal modification_refusal refusal is_taken with_taken lack_at first_from first_lack_by places connection_of
+unfolding after_all after step receives works forces ticks ticks_all works_of lacking first_machine waits work_of worked provided is_provisioning is_terminating moves reserves provisions lives closes reservation_closing provision_closing requested record_ticks hold_end tells tells_plane status announces is_live is_working demand is_in_place has_row row_of provision_row_of lifecycle_row_of unnamed_refusal modification_refusal refusal is_taken with_taken lack_at first_from first_lack_by places connection_of event_of provision_event lifecycle_event
 are_provisioned = record {
   what_is_held_cannot_be_provisioned = refl;
   what_is_committed_can = refl;
@@ -294,10 +294,10 @@ pub record AreEnded : Type 0 where
   what_is_open_is_answered_first : (at_first (Input.Got (m 1 (first 600 100 200)) ∷ Input.Got (m 2 terminate) ∷ Input.Work 0 Machine.Lifecycle ∷ [])).out
       ≡ responds 1 1 ∷ fails 1 1 (Cause.Plain ErrorName.Gone) ∷ m 2 (Body.TerminateConfirmed (id_of 0 1)) ∷ []
   work_that_no_longer_waits_does_nothing : (at_first (Input.Got (m 1 (first 600 100 200)) ∷ Input.Got (m 2 terminate) ∷ Input.Work 0 Machine.Reserve ∷ [])).out ≡ responds 1 1 ∷ []
-  two_machines_may_wait : length (all_works home stp_of (after_all home stp_of committed (now_at committed (Input.Got (m 3 (modify None 300 100 400))) ∷ now_at committed (Input.Got (m 4 provision)) ∷ [])).state) ≡ 2
+  two_machines_may_wait : length (all_works setting stp_of (after_all setting stp_of committed (now_at committed (Input.Got (m 3 (modify None 300 100 400))) ∷ now_at committed (Input.Got (m 4 provision)) ∷ [])).state) ≡ 2
 
 are_ended : AreEnded
-unfolding after_all after step hears works forces ticks ticks_all works_of lacking first_machine waits work_of worked provided is_provisioning is_terminating moves reserves provisions lives closes reservation_closing provision_closing requested record_ticks hold_end tells tells_plane status announces is_live is_working demand is_in_place has_row row_of provision_row_of lifecycle_row_of unnamed_refusal modification_refusal refusal is_taken with_taken lack_at first_from first_lack_by places connection_of
+unfolding after_all after step receives works forces ticks ticks_all works_of lacking first_machine waits work_of worked provided is_provisioning is_terminating moves reserves provisions lives closes reservation_closing provision_closing requested record_ticks hold_end tells tells_plane status announces is_live is_working demand is_in_place has_row row_of provision_row_of lifecycle_row_of unnamed_refusal modification_refusal refusal is_taken with_taken lack_at first_from first_lack_by places connection_of event_of provision_event lifecycle_event
 are_ended = record {
   a_terminate_is_confirmed = refl;
   it_takes_nothing_then = refl;

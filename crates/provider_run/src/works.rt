@@ -3,7 +3,7 @@
 ghost use Rattle.std.specs.Prelude.{◌≡◌, ◌<◌, ◌≤◌, ◌+◌, ◌++◌, All, IfOk, OnOk, length, true, None};
 ghost use Rattle.nsi_primitive.specs.Printable.{IsPrintable, IsPrintableInput};
 ghost use Rattle.nsi_primitive.specs.declared.entry.Input.TheVariants.{Work as WorkInput};
-ghost use Rattle.provider_agent.specs.Home.{own_stp};
+ghost use Rattle.provider_agent.specs.Setting.{own_stp};
 ghost use Rattle.provider_agent.specs.Runs.{after_all};
 ghost use Rattle.provider_agent.specs.Steps.{after, may_take, waiting_work};
 ghost use Rattle.provider_run.specs.Works.{all_works, now_at, with_works};
@@ -33,10 +33,15 @@ impl Run {
         requires few { self.old.count < 4194304 }
         requires may_take { may_take provider.old.state entry.now ≡ true }
         requires input { IsPrintableInput entry.now.input }
-        ensures state { OnOk result (let stp_of = own_stp topology.now provider.old.home.number in provider.new ≡ record provider.old { state = (after provider.old.home stp_of provider.old.state entry.now).state }) }
-        ensures messages { OnOk result (let stp_of = own_stp topology.now provider.old.home.number in self.new.messages.items ≡ self.old.messages.items ++ (after provider.old.home stp_of provider.old.state entry.now).out) }
+        ensures state { let p = provider.old in
+            let then = after p.setting (own_stp topology.now p.setting.number) p.state entry.now in
+            OnOk result (provider.new ≡ record p { state = then.state }) }
+        ensures messages { let p = provider.old in
+            let then = after p.setting (own_stp topology.now p.setting.number) p.state entry.now in
+            OnOk result (self.new.messages.items ≡ self.old.messages.items ++ then.out) }
         ensures count { OnOk result (self.new.count ≡ self.old.count + 1) }
-        ensures printable { OnOk result (All IsPrintable self.old.messages.items → All IsPrintable self.new.messages.items) }
+        ensures printable { OnOk result
+            (All IsPrintable self.old.messages.items → All IsPrintable self.new.messages.items) }
     {
         let mut out = provider.next(alloc, topology, entry)?;
         self.messages.append(&mut out)?;
@@ -54,10 +59,17 @@ impl Run {
     ) -> Result<(), AllocError>
         requires few { self.old.count < 4194304 }
         requires few_taken { provider.old.state.taken < 4194304 }
-        ensures state { OnOk result (let stp_of = own_stp topology.now provider.old.home.number in let entry = now_at provider.old.state (WorkInput work.0 work.1) in provider.new ≡ record provider.old { state = (after provider.old.home stp_of provider.old.state entry).state }) }
-        ensures messages { OnOk result (let stp_of = own_stp topology.now provider.old.home.number in let entry = now_at provider.old.state (WorkInput work.0 work.1) in self.new.messages.items ≡ self.old.messages.items ++ (after provider.old.home stp_of provider.old.state entry).out) }
+        ensures state { let p = provider.old in
+            let entry = now_at p.state (WorkInput work.0 work.1) in
+            let then = after p.setting (own_stp topology.now p.setting.number) p.state entry in
+            OnOk result (provider.new ≡ record p { state = then.state }) }
+        ensures messages { let p = provider.old in
+            let entry = now_at p.state (WorkInput work.0 work.1) in
+            let then = after p.setting (own_stp topology.now p.setting.number) p.state entry in
+            OnOk result (self.new.messages.items ≡ self.old.messages.items ++ then.out) }
         ensures count { OnOk result (self.new.count ≡ self.old.count + 1) }
-        ensures printable { OnOk result (All IsPrintable self.old.messages.items → All IsPrintable self.new.messages.items) }
+        ensures printable { OnOk result
+            (All IsPrintable self.old.messages.items → All IsPrintable self.new.messages.items) }
     {
         let (number, machine) = work;
         let entry = Entry {
@@ -76,12 +88,24 @@ impl Run {
     ) -> Result<(), AllocError>
         requires first { self.old.count ≤ 1 }
         requires few { provider.old.state.taken ≤ 2000001 }
-        ensures state { OnOk result (let stp_of = own_stp topology.now provider.old.home.number in provider.new ≡ record provider.old { state = (after_all provider.old.home stp_of provider.old.state (all_works provider.old.home stp_of provider.old.state)).state }) }
-        ensures messages { OnOk result (let stp_of = own_stp topology.now provider.old.home.number in self.new.messages.items ≡ self.old.messages.items ++ (after_all provider.old.home stp_of provider.old.state (all_works provider.old.home stp_of provider.old.state)).out) }
-        ensures count { OnOk result (let stp_of = own_stp topology.now provider.old.home.number in self.new.count ≡ self.old.count + length (all_works provider.old.home stp_of provider.old.state)) }
+        ensures state { let p = provider.old in
+            let stp_of = own_stp topology.now p.setting.number in
+            let works = all_works p.setting stp_of p.state in
+            let then = after_all p.setting stp_of p.state works in
+            OnOk result (provider.new ≡ record p { state = then.state }) }
+        ensures messages { let p = provider.old in
+            let stp_of = own_stp topology.now p.setting.number in
+            let works = all_works p.setting stp_of p.state in
+            let then = after_all p.setting stp_of p.state works in
+            OnOk result (self.new.messages.items ≡ self.old.messages.items ++ then.out) }
+        ensures count { let p = provider.old in
+            let works = all_works p.setting (own_stp topology.now p.setting.number) p.state in
+            OnOk result (self.new.count ≡ self.old.count + length works) }
         ensures few { OnOk result (self.new.count ≤ 2000002) }
-        ensures taken { OnOk result (provider.new.state.taken + self.old.count ≡ provider.old.state.taken + self.new.count) }
-        ensures printable { OnOk result (All IsPrintable self.old.messages.items → All IsPrintable self.new.messages.items) }
+        ensures taken { let before = provider.old.state.taken in
+            OnOk result (provider.new.state.taken + self.old.count ≡ before + self.new.count) }
+        ensures printable { OnOk result
+            (All IsPrintable self.old.messages.items → All IsPrintable self.new.messages.items) }
         ensures idle { OnOk result (waiting_work provider.new.state ≡ None) }
     {
         provider.facts();
@@ -102,11 +126,21 @@ pub fn take_with_works(
     requires few { provider.old.state.taken ≤ 2000000 }
     requires may_take { may_take provider.old.state entry.now ≡ true }
     requires printable { IsPrintableInput entry.now.input }
-    ensures state { OnOk result (let stp_of = own_stp topology.now provider.old.home.number in let es = with_works provider.old.home stp_of provider.old.state entry.now in provider.new ≡ record provider.old { state = (after_all provider.old.home stp_of provider.old.state es).state }) }
-    ensures messages { IfOk result (λ run. let stp_of = own_stp topology.now provider.old.home.number in let es = with_works provider.old.home stp_of provider.old.state entry.now in run.messages.items ≡ (after_all provider.old.home stp_of provider.old.state es).out) }
-    ensures count { IfOk result (λ run. let stp_of = own_stp topology.now provider.old.home.number in run.count ≡ length (with_works provider.old.home stp_of provider.old.state entry.now)) }
+    ensures state { let p = provider.old in
+        let stp_of = own_stp topology.now p.setting.number in
+        let es = with_works p.setting stp_of p.state entry.now in
+        let then = after_all p.setting stp_of p.state es in
+        OnOk result (provider.new ≡ record p { state = then.state }) }
+    ensures messages { let p = provider.old in
+        let stp_of = own_stp topology.now p.setting.number in
+        let es = with_works p.setting stp_of p.state entry.now in
+        IfOk result (λ run. run.messages.items ≡ (after_all p.setting stp_of p.state es).out) }
+    ensures count { let p = provider.old in
+        let es = with_works p.setting (own_stp topology.now p.setting.number) p.state entry.now in
+        IfOk result (λ run. run.count ≡ length es) }
     ensures few { IfOk result (λ run. run.count ≤ 2000002) }
-    ensures taken { IfOk result (λ run. provider.new.state.taken ≡ provider.old.state.taken + run.count) }
+    ensures taken { let before = provider.old.state.taken in
+        IfOk result (λ run. provider.new.state.taken ≡ before + run.count) }
     ensures printable { IfOk result (λ run. All IsPrintable run.messages.items) }
     ensures idle { OnOk result (waiting_work provider.new.state ≡ None) }
 {

@@ -86,7 +86,7 @@ fn take(
     provider.next(alloc, topology, &entry)
 }
 
-fn hear(
+fn receive(
     alloc: Global,
     topology: &Topology,
     provider: &mut Provider,
@@ -173,7 +173,7 @@ fn enter(
         return Err(Fail::from("it takes no more"));
     }
     match step {
-        Step::Got(asked) => hear(alloc, topology, provider, asked),
+        Step::Got(asked) => receive(alloc, topology, provider, asked),
         Step::Work(number, machine) => work(alloc, topology, provider, number, machine),
         Step::Force(number) => force(alloc, topology, provider, number),
         Step::Tick(second) => tick(alloc, topology, provider, second),

@@ -6,7 +6,7 @@ use std::alloc::Global;
 use std::test::Fail;
 
 /// A key, and whether it has to be there.
-type KeyOf = (Key, bool);
+pub type KeyOf = (Key, bool);
 
 /// The keys of every line, but its kind.
 const HEADER: [KeyOf; 3] = [
@@ -16,7 +16,7 @@ const HEADER: [KeyOf; 3] = [
 ];
 
 /// Requests that say more than a connection, and an acknowledgement.
-const REQUESTS: [(&str, &[KeyOf]); 6] = [
+pub const REQUESTS: [(&str, &[KeyOf]); 6] = [
     (
         r#"{"capacity":700,"connectionId":"urn:uuid:00000000-0000-8000-8000-000000000001","correlationId":"urn:uuid:00000000-0001-8000-8000-000000000001","description":"d","destSTP":"B","directionality":"Bidirectional","endTime":300,"globalReservationId":"g","kind":"reserve","providerNSA":"p1","requesterNSA":"r1","sourceSTP":"A","startTime":100,"symmetricPath":true,"version":1}"#,
         &[
@@ -70,7 +70,7 @@ const REQUESTS: [(&str, &[KeyOf]); 6] = [
 ];
 
 /// Answers that say more than a connection.
-const ANSWERS: [(&str, &[KeyOf]); 7] = [
+pub const ANSWERS: [(&str, &[KeyOf]); 7] = [
     (
         r#"{"capacity":600,"connectionId":"urn:uuid:00000000-0000-8000-8000-000000000001","correlationId":"urn:uuid:00000000-0001-8000-8000-000000000001","description":"d","destSTP":"B","directionality":"Unidirectional","endTime":200,"globalReservationId":"g","kind":"reserveConfirmed","providerNSA":"p1","requesterNSA":"r1","sourceSTP":"A","startTime":100,"symmetricPath":false,"version":0}"#,
         &[
@@ -152,7 +152,7 @@ const ANSWERS: [(&str, &[KeyOf]); 7] = [
 ];
 
 /// Errors, which need not name a connection.
-const ERRORS: [(&str, &[KeyOf]); 3] = [
+pub const ERRORS: [(&str, &[KeyOf]); 3] = [
     (
         r#"{"connectionId":"urn:uuid:00000000-0000-8000-8000-000000000001","correlationId":"urn:uuid:00000000-0001-8000-8000-000000000001","errorId":"GONE","kind":"error","nsaId":"p1","providerNSA":"p1","requesterNSA":"r1"}"#,
         &[
@@ -187,7 +187,7 @@ const ERRORS: [(&str, &[KeyOf]); 3] = [
 ];
 
 /// Notifications.
-const NOTIFICATIONS: [(&str, &[KeyOf]); 4] = [
+pub const NOTIFICATIONS: [(&str, &[KeyOf]); 4] = [
     (
         r#"{"connectionId":"urn:uuid:00000000-0000-8000-8000-000000000001","correlationId":"urn:uuid:00000000-0001-8000-8000-000000000001","kind":"reserveTimeout","notificationId":1,"originatingConnectionId":"urn:uuid:00000000-0000-8000-8000-000000000001","originatingNSA":"p1","providerNSA":"p1","requesterNSA":"r1","timeStamp":60,"timeoutValue":60}"#,
         &[
@@ -233,10 +233,10 @@ const NOTIFICATIONS: [(&str, &[KeyOf]); 4] = [
 ];
 
 /// A line that says a connection and nothing else.
-const COMMIT: &str =
+pub const COMMIT: &str =
     r#"{"connectionId":"urn:uuid:00000000-0000-8000-8000-000000000001","correlationId":"urn:uuid:00000000-0001-8000-8000-000000000001","kind":"reserveCommit","providerNSA":"p1","requesterNSA":"r1"}"#;
 
-const OF_A_CONNECTION: [&str; 12] = [
+pub const OF_A_CONNECTION: [&str; 12] = [
     "reserveResponse",
     "reserveCommit",
     "reserveCommitConfirmed",

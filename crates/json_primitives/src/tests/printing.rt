@@ -3,7 +3,7 @@
 ghost use Rattle.std.specs.Prelude.{◌≡◌, IfOk, None};
 ghost use Rattle.nsi_primitive.specs.Printable.{IsPrintable, IsPrintableBody, IsPrintableCause};
 
-use crate::{Key, LineFault, PayloadFault, print_message, print_payload};
+use crate::{Key, print_message, print_payload};
 use nsi_base::{Flow, HoldTime, Mbps, Name, Second, Version};
 use nsi_primitive::{
     Body, Cause, DeliveryTimeout, Directionality, ErrorName, Exception, FaultEvent, FaultNotice,
@@ -58,10 +58,6 @@ const PAYLOAD_WITH_KEY: &str =
     r#"{"errorId":"PAYLOAD","fault":"Bad","key":"capacity","kind":"error","line":6}"#;
 
 const PAYLOAD: &str = r#"{"errorId":"PAYLOAD","fault":"NotJson","kind":"error","line":7}"#;
-
-const UNBUILT: &str = r#"{"errorId":"PAYLOAD","fault":"Unbuilt","kind":"error","line":8}"#;
-
-const TICK: &str = r#"{"errorId":"PAYLOAD","fault":"Tick","kind":"error","line":9}"#;
 
 fn header(alloc: Global, correlation: &[u8]) -> Result<Header, Fail> {
     Ok(Header {
@@ -301,17 +297,11 @@ fn delivery_timeout_is_written(rt: HostRuntime) -> Result<(), Fail> {
 #[test]
 fn unread_lines_are_answered(rt: HostRuntime) -> Result<(), Fail> {
     let answers = [
-        (
-            PayloadFault::Line(LineFault::Bad(Key::Capacity)),
-            6,
-            PAYLOAD_WITH_KEY,
-        ),
-        (PayloadFault::Line(LineFault::NotJson), 7, PAYLOAD),
-        (PayloadFault::Unbuilt, 8, UNBUILT),
-        (PayloadFault::Tick, 9, TICK),
+        ("Bad", Some(Key::Capacity), 6, PAYLOAD_WITH_KEY),
+        ("NotJson", None, 7, PAYLOAD),
     ];
-    for (fault, line, want) in answers {
-        let written = print_payload(rt.alloc(), fault, line)?;
+    for (fault, key, line, want) in answers {
+        let written = print_payload(rt.alloc(), fault, key, line)?;
         assert_eq!(rt; written.as_slice(), want.as_bytes());
     }
     Ok(())

@@ -55,7 +55,7 @@ const OUTCOMES_OF_ONE: &str =
 const OUTCOMES_OF_TWO: &str =
     r#"{"connectionId":"urn:uuid:00000000-0000-8000-8000-000000000001","correlationId":"urn:uuid:00000000-0001-8000-8000-000000000003","kind":"queryResultConfirmed","more":false,"providerNSA":"p1","requesterNSA":"r1","results":[{"correlationId":"urn:uuid:00000000-0000-8000-8000-000000000001","kind":"reserveConfirmed","resultId":2,"timeStamp":150},{"correlationId":"urn:uuid:00000000-0000-8000-8000-000000000002","kind":"terminateConfirmed","resultId":3,"timeStamp":253370764799}]}"#;
 
-const ANSWERS: [&str; 12] = [
+pub const ANSWERS: [&str; 12] = [
     SUMMARY_OF_NONE,
     SUMMARY_OF_ONE,
     SUMMARY_OF_TWO,

@@ -13,7 +13,7 @@ pub lines-preserved : goal.lines-preserved
 lines-preserved g c = record {
   answered = answers_next c.args.topology.now (lines_of c.args.lines.now) c.cut_line.result.0.now (lines_of c.lines.rest.now) (lines_of c.cut_line.result.1.now)
       (g.K.Sink.content c.args.out.now) (g.K.Sink.content c.lines.out) (g.K.Sink.content c.answer_line.new.out) c.cut_line.ensures.lines c.lines.invariant.answered c.in_ok-answer_line.ensures.all;
-  quiet = c.in_ok-answer_line.ensures.quiet ∙ c.lines.invariant.quiet;
+  quiet = c.in_ok-answer_line.ensures.faults.quiet ∙ c.lines.invariant.quiet;
 }
 
 pub returns-clause-all : goal.returns-clause-all

@@ -42,4 +42,4 @@ loop-one-preserved c =
     }
 
 pub returns : goal.returns
-returns c rs saved back = all_back rs c.loop-one.records.items c.args.kept.now c.loop-one.one-index c.loop-one-test.false (c.loop-one.invariant.back rs saved back)
+returns c rs undo = all_back rs c.loop-one.records.items c.args.kept.now c.loop-one.one-index c.loop-one-test.false (c.loop-one.invariant.back rs undo.saved undo.back)

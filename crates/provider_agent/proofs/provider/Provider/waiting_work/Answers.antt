@@ -6,4 +6,4 @@ pub waiting_work-requires-clause-few : goal.waiting_work-requires-clause-few
 waiting_work-requires-clause-few c = omega (arith, c.self.invariant.most, c.self.invariant.good.few, ap length c.deref.ensures.value)
 
 pub waiting_work-requires-clause-named : goal.waiting_work-requires-clause-named
-waiting_work-requires-clause-named c = subst (λ rs. NamesWork rs c.self.inside.desk.waiting) (sym c.deref.ensures.value) c.self.invariant.indexed.works
+waiting_work-requires-clause-named c = subst (λ rs. NamesWork rs c.self.inside.core.waiting) (sym c.deref.ensures.value) c.self.invariant.consistent.indexed.works

@@ -1,5 +1,4 @@
-use Rattle.std.proofs.Common.{◌+◌, ◌∙◌, get_or, refl, sym, ap, subst, arith}
-use Rattle.provider_agent.specs.Steps.{Ticked}
+use Rattle.std.proofs.Common.{◌+◌, ◌∙◌, get_or, refl, sym, subst, arith}
 use Rattle.provider_agent.proofs.TickSeams.{IsTicked, ticked_none, ticked_here, ticked_more, ticked_next, ticked_all, ticked_as, place_within, touched_at}
 use Rattle.provider_agent.proofs.TickUndo.{none_saved, none_moved}
 use Rattle.provider_agent.proofs.tick.Ticking.tick_each.Goals as goal
@@ -13,15 +12,14 @@ loop-place-init c =
           (ticked_none c.args.agent.now a.before a.now a.next xs c.args.due.now c.requires.due);
       before = refl;
       now = refl;
-      saved = none_saved xs a.kept.items c.requires.none_kept;
-      back = none_moved xs a.kept.items;
+      undo = record { saved = none_saved xs a.kept.items c.requires.none_kept; back = none_moved xs a.kept.items };
     }
 
 pub tick_at-requires-clause-within : goal.tick_at-requires-clause-within
 tick_at-requires-clause-within c =
     let a = c.args.self.now in
     let inside = place_within a.before a.now c.args.records.now.items c.args.due.now c.loop-place.place-index c.requires.due c.loop-place-test.true in
-    omega (arith, inside, c.loop-place.invariant.back.long)
+    omega (arith, inside, c.loop-place.invariant.undo.back.long)
 
 pub tick_at-requires-clause-next : goal.tick_at-requires-clause-next
 tick_at-requires-clause-next c =
@@ -30,21 +28,13 @@ tick_at-requires-clause-next c =
     let most = ticked_next c.args.agent.now a.before a.now a.next c.args.records.now.items c.args.due.now c.requires.due c.loop-place.place-index t c.loop-place-test.true c.loop-place.invariant.ticked in
     omega (arith, most, c.requires.next, c.requires.few)
 
-pub returns-in_err-tick_at-clause-saved : goal.returns-in_err-tick_at-clause-saved
-returns-in_err-tick_at-clause-saved c =
+pub returns-in_err-tick_at-clause-undo : goal.returns-in_err-tick_at-clause-undo
+returns-in_err-tick_at-clause-undo c =
     let a = c.args.self.now in
     let xs = c.args.records.now.items in
     let t = ticked_as c.loop-place.records.items c.loop-place.self.out.items c.loop-place.self.next in
     let here = ticked_here c.args.agent.now a.before a.now a.next xs c.args.due.now c.requires.due c.loop-place.place-index t c.loop-place-test.true c.loop-place.invariant.ticked in
-    c.tick_at.ensures.saved xs c.loop-place.invariant.saved c.loop-place.invariant.back here
-
-pub returns-in_err-tick_at-clause-back : goal.returns-in_err-tick_at-clause-back
-returns-in_err-tick_at-clause-back c =
-    let a = c.args.self.now in
-    let xs = c.args.records.now.items in
-    let t = ticked_as c.loop-place.records.items c.loop-place.self.out.items c.loop-place.self.next in
-    let here = ticked_here c.args.agent.now a.before a.now a.next xs c.args.due.now c.requires.due c.loop-place.place-index t c.loop-place-test.true c.loop-place.invariant.ticked in
-    c.tick_at.ensures.back xs c.loop-place.invariant.saved c.loop-place.invariant.back here
+    c.tick_at.ensures.undo xs c.loop-place.invariant.undo here
 
 pub loop-place-preserved : goal.loop-place-preserved
 loop-place-preserved c =
@@ -63,24 +53,11 @@ loop-place-preserved c =
       ticked = subst (IsTicked agent a.before a.now a.next xs due (i + 1)) (sym is) more;
       before = c.tick_at.ensures.same.0 ∙ c.loop-place.invariant.before;
       now = c.tick_at.ensures.same.1 ∙ c.loop-place.invariant.now;
-      saved = c.tick_at.ensures.saved xs c.loop-place.invariant.saved c.loop-place.invariant.back here;
-      back = c.tick_at.ensures.back xs c.loop-place.invariant.saved c.loop-place.invariant.back here;
+      undo = c.tick_at.ensures.undo xs c.loop-place.invariant.undo here;
     }
 
-pub returns-clause-records : goal.returns-clause-records
-returns-clause-records c =
+pub returns-clause-ticked : goal.returns-clause-ticked
+returns-clause-ticked c =
     let a = c.args.self.now in
     let t = ticked_as c.loop-place.records.items c.loop-place.self.out.items c.loop-place.self.next in
-    ap (λ (z : Ticked). z.records) (ticked_all c.args.agent.now a.before a.now a.next c.args.records.now.items c.args.due.now c.requires.due c.loop-place.place-index t (omega arith) c.loop-place-test.false c.loop-place.invariant.ticked)
-
-pub returns-clause-out : goal.returns-clause-out
-returns-clause-out c =
-    let a = c.args.self.now in
-    let t = ticked_as c.loop-place.records.items c.loop-place.self.out.items c.loop-place.self.next in
-    ap (λ (z : Ticked). z.out) (ticked_all c.args.agent.now a.before a.now a.next c.args.records.now.items c.args.due.now c.requires.due c.loop-place.place-index t (omega arith) c.loop-place-test.false c.loop-place.invariant.ticked)
-
-pub returns-clause-next : goal.returns-clause-next
-returns-clause-next c =
-    let a = c.args.self.now in
-    let t = ticked_as c.loop-place.records.items c.loop-place.self.out.items c.loop-place.self.next in
-    ap (λ (z : Ticked). z.next) (ticked_all c.args.agent.now a.before a.now a.next c.args.records.now.items c.args.due.now c.requires.due c.loop-place.place-index t (omega arith) c.loop-place-test.false c.loop-place.invariant.ticked)
+    ticked_all c.args.agent.now a.before a.now a.next c.args.records.now.items c.args.due.now c.requires.due c.loop-place.place-index t (omega arith) c.loop-place-test.false c.loop-place.invariant.ticked

@@ -1,5 +1,5 @@
 use Rattle.std.proofs.Common.{◌≡◌, ◌+◌, ◌∙◌, Some, None, arith, ap, sym, subst}
-use Rattle.provider_agent.specs.Home.{own_stp}
+use Rattle.provider_agent.specs.Setting.{own_stp}
 use Rattle.provider_agent.specs.State.{Standing}
 use Rattle.provider_agent.specs.Steps.{waiting_work}
 use Rattle.provider_agent.specs.Good.{works_among, IsGood}
@@ -8,16 +8,16 @@ use Rattle.provider_run.proofs.UnderWay.{IsDone, done_where_none, under_way_more
 use Rattle.provider_run.proofs.works.Run.take_works.Goals as goal
 
 -- where none waits, all is done
-done : (c : goal.In_default) → IsDone c.args.provider.now.home (own_stp c.args.topology.now c.args.provider.now.home.number) c.args.provider.now.state c.loop-work.provider.state
+done : (c : goal.In_default) → IsDone c.args.provider.now.setting (own_stp c.args.topology.now c.args.provider.now.setting.number) c.args.provider.now.state c.loop-work.provider.state
     c.args.self.now.messages.items c.loop-work.self.messages.items c.args.self.now.count c.loop-work.self.count
 done c =
     let p = c.args.provider.now in
     let now = c.loop-work.provider.state in
     let none : waiting_work now ≡ None = sym c.waiting_work.ensures.work ∙ c.in_default.is in
-    done_where_none p.home (own_stp c.args.topology.now p.home.number) p.state now c.args.self.now.messages.items c.loop-work.self.messages.items c.args.self.now.count c.loop-work.self.count c.loop-work.invariant.way none
+    done_where_none p.setting (own_stp c.args.topology.now p.setting.number) p.state now c.args.self.now.messages.items c.loop-work.self.messages.items c.args.self.now.count c.loop-work.self.count c.loop-work.invariant.way none
 
 pub returns-clause-state : goal.returns-clause-state
-returns-clause-state c = standing_is c.loop-work.provider c.args.provider.now.home _ c.loop-work.invariant.home (done c).state_is
+returns-clause-state c = standing_is c.loop-work.provider c.args.provider.now.setting _ c.loop-work.invariant.setting (done c).state_is
 
 pub returns-clause-messages : goal.returns-clause-messages
 returns-clause-messages c = (done c).out_is
@@ -32,8 +32,8 @@ loop-work-smaller c =
     let n = c.in-Some.work.0 in
     let machine = c.in-Some.work.1 in
     let found : waiting_work old.state ≡ Some (n, machine) = sym c.waiting_work.ensures.work ∙ c.in-Some.is in
-    let good : IsGood old.home old.state = subst (λ h. IsGood h old.state) (sym l.invariant.home) l.invariant.way.good in
-    let less = one_less old.home (own_stp c.args.topology.now old.home.number) old.state n machine good (omega (arith, l.invariant.way.fits)) found in
+    let good : IsGood old.setting old.state = subst (λ h. IsGood h old.state) (sym l.invariant.setting) l.invariant.way.good in
+    let less = one_less old.setting (own_stp c.args.topology.now old.setting.number) old.state n machine good (omega (arith, l.invariant.way.fits)) found in
     omega (arith, less, ap (λ (x : Standing). works_among x.state.records) c.in_ok-take_work.ensures.state)
 
 pub loop-work-preserved : goal.loop-work-preserved
@@ -44,10 +44,10 @@ loop-work-preserved c =
     let n = c.in-Some.work.0 in
     let machine = c.in-Some.work.1 in
     let found : waiting_work l.provider.state ≡ Some (n, machine) = sym c.waiting_work.ensures.work ∙ c.in-Some.is in
-    let more = under_way_more p.home (own_stp t p.home.number) p.state l.provider.state c.args.self.now.messages.items l.self.messages.items c.args.self.now.count l.self.count l.invariant.way n machine found in
+    let more = under_way_more p.setting (own_stp t p.setting.number) p.state l.provider.state c.args.self.now.messages.items l.self.messages.items c.args.self.now.count l.self.count l.invariant.way n machine found in
     record {
-      home = ap (λ (x : Standing). x.home) c.in_ok-take_work.ensures.state ∙ l.invariant.home;
-      way = moved p.home (own_stp t) p.state l.provider c.take_work.new.provider.state c.args.self.now.messages.items l.self.messages.items c.take_work.new.self.messages.items c.args.self.now.count (l.self.count + 1) c.take_work.new.self.count
-          n machine l.invariant.home (ap (λ (x : Standing). x.state) c.in_ok-take_work.ensures.state) c.in_ok-take_work.ensures.messages c.in_ok-take_work.ensures.count more;
+      setting = ap (λ (x : Standing). x.setting) c.in_ok-take_work.ensures.state ∙ l.invariant.setting;
+      way = moved p.setting (own_stp t) p.state l.provider c.take_work.new.provider.state c.args.self.now.messages.items l.self.messages.items c.take_work.new.self.messages.items c.args.self.now.count (l.self.count + 1) c.take_work.new.self.count
+          n machine l.invariant.setting (ap (λ (x : Standing). x.state) c.in_ok-take_work.ensures.state) c.in_ok-take_work.ensures.messages c.in_ok-take_work.ensures.count more;
       printable = λ q. c.in_ok-take_work.ensures.printable (l.invariant.printable q);
     }

@@ -1,6 +1,0 @@
-use Rattle.std.proofs.Common.{◌≡◌}
-use Rattle.provider_agent.specs.Home.{capacities_among}
-use Rattle.provider_agent.proofs.home.capacities_among.Given as goal
-
-abbrev pub invariant-points : goal.invariant-points
-invariant-points l = l.capacities ≡ capacities_among l.topology l.provider l.n
