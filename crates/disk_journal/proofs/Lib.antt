@@ -1,0 +1,4 @@
+mod Begin
+mod Loop
+mod Ready
+mod Steps

@@ -1,0 +1,3 @@
+pub mod FileNames
+pub mod Outcomes
+pub mod Tallies

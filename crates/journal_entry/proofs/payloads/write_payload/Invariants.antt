@@ -1,0 +1,7 @@
+use Rattle.std.proofs.Common.{◌≡◌, ◌∷◌, take, All}
+use Rattle.std.specs.List.{flat_map}
+use Rattle.journal_entry.specs.Entries.{entry_spelling, IsReadAgain}
+use Rattle.journal_entry.proofs.payloads.write_payload.Given as goal
+
+abbrev pub invariant-loop-entry : goal.invariant-loop-entry
+invariant-loop-entry l = (l.out.items ≡ 1 ∷ flat_map entry_spelling (take l.entry-index l.entries)) × All IsReadAgain (take l.entry-index l.entries)

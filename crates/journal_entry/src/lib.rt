@@ -1,0 +1,20 @@
+//! Entries as the bytes of a journal, both ways.
+#![tactic(auto)]
+
+pub mod fault;
+pub mod fields;
+pub mod journal;
+pub mod laws;
+pub mod lines;
+pub mod payloads;
+pub mod reading;
+pub mod writing;
+
+pub use fault::{EntryFault, PayloadFault};
+pub use journal::{Journal, JournalFault, keep};
+pub use payloads::{read_batch, read_payload, write_payload};
+pub use reading::read_entry;
+pub use writing::write_entry;
+
+#[cfg(test)]
+mod tests;
