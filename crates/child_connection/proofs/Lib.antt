@@ -1,0 +1,7 @@
+mod Rows
+pub mod Places
+pub mod Saying
+pub mod Holds
+pub mod Reservations
+pub mod Learning
+pub mod AtRest

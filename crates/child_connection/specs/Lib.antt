@@ -1,0 +1,6 @@
+pub mod Views
+pub mod Asks
+pub mod Hearing
+pub mod Holding
+pub mod Standing
+pub mod Laws

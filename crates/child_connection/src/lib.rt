@@ -1,0 +1,12 @@
+//! A parent's view of a child's connection: what it asked, and what the child's answers made of it.
+#![tactic(auto)]
+
+pub mod laws;
+pub mod state;
+pub mod view;
+
+pub use state::{AskFault, Phase, Sent, Taken};
+pub use view::ChildConnection;
+
+#[cfg(test)]
+mod tests;

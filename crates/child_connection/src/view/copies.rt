@@ -1,0 +1,48 @@
+//! Copies of a view.
+
+ghost use Rattle.std.specs.Prelude.{◌≡◌, ◌<◌, IfOk, vec_len, vec_capacity};
+
+use super::ChildConnection;
+use nsi_base::Version;
+use std::alloc::{AllocError, Global};
+
+impl ChildConnection {
+    /// An equal view, which has room for the version of an unanswered commit too.
+    pub fn copy(&self) -> Result<ChildConnection, AllocError>
+        ensures { IfOk result (λ x. x ≡ self.now) }
+    {
+        let committed = copy_versions(*self.committed.allocator(), &self.committed)?;
+        Ok(ChildConnection {
+            child: self.child.copy()?,
+            source: self.source.copy()?,
+            dest: self.dest.copy()?,
+            connection: self.connection,
+            phase: self.phase,
+            before: self.before,
+            attempt: self.attempt,
+            pending: self.pending,
+            committed,
+            error: self.error,
+            reserve_request: self.reserve_request,
+            provision_request: self.provision_request,
+            lifecycle_request: self.lifecycle_request,
+            provision_error: self.provision_error,
+            gone: self.gone,
+            plane: self.plane,
+            plane_notice: self.plane_notice,
+        })
+    }
+}
+
+/// The same versions, with room for one more.
+fn copy_versions(alloc: Global, versions: &[Version]) -> Result<Vec<Version>, AllocError>
+    ensures copy { IfOk result (λ copy. copy.items ≡ versions.now) }
+    ensures room { IfOk result (λ copy. vec_len copy < vec_capacity copy) }
+{
+    let mut copy = Vec::new(alloc);
+    for version in versions {
+        copy.push(*version)?;
+    }
+    copy.reserve(1)?;
+    Ok(copy)
+}
