@@ -90,7 +90,8 @@ fn push_what(alloc: Global, text: &mut Vec<u8>, what: &What) -> Result<(), Alloc
 }
 
 fn push_reserve(alloc: Global, text: &mut Vec<u8>, reserve: &ReserveAsk) -> Result<(), AllocError>
-    ensures put { OnOk result (text.new.items ≡ text.old.items ++ behind (reserve_words reserve.now)) }
+    ensures put { OnOk result
+        (text.new.items ≡ text.old.items ++ behind (reserve_words reserve.now)) }
     ensures ranged { OnOk result (IsRangedReserveAsk reserve.now) }
 {
     push_name(text, &reserve.source)?;
@@ -106,7 +107,8 @@ fn push_version(
     text: &mut Vec<u8>,
     version: &Option<Version>,
 ) -> Result<(), AllocError>
-    ensures put { OnOk result (text.new.items ≡ text.old.items ++ behind (version_words version.now)) }
+    ensures put { OnOk result
+        (text.new.items ≡ text.old.items ++ behind (version_words version.now)) }
     ensures ranged { OnOk result (IfSome version.now IsVersion) }
 {
     match version {
@@ -120,7 +122,8 @@ fn push_numbers(
     text: &mut Vec<u8>,
     numbers: &Option<NumbersAsked>,
 ) -> Result<(), AllocError>
-    ensures put { OnOk result (text.new.items ≡ text.old.items ++ behind (numbers_words numbers.now)) }
+    ensures put { OnOk result
+        (text.new.items ≡ text.old.items ++ behind (numbers_words numbers.now)) }
     ensures ranged { OnOk result (IfSome numbers.now AreCounts) }
 {
     match numbers {

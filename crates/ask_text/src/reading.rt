@@ -1,6 +1,6 @@
 //! From a text to the ask that it is.
 
-ghost use Rattle.std.specs.Prelude.{◌≡◌, ℕ, ◌≤◌, ◌<◌, length, map, IfOk, IfSome, Some, true};
+ghost use Rattle.std.specs.Prelude.{◌≡◌, ◌≤◌, ◌<◌, length, map, IfOk, IfSome, Some};
 ghost use Rattle.nsi_base.specs.Digits.{number_of};
 ghost use Rattle.nsi_base.specs.Range.{greatest_second, least_mbps, greatest_mbps, greatest_version};
 ghost use Rattle.nsi_base.specs.Words.{words_of};

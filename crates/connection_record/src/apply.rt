@@ -44,9 +44,14 @@ impl Record {
         correlation: Id,
         now: Second,
     ) -> Result<bool, AllocError>
-        ensures rec { OnOk result (self.new ≡ (tells (status_of now self.old) correlation now (moves side event now self.old)).rec) }
-        ensures out { OnOk result (replies.new.items ≡ replies.old.items ++ (tells (status_of now self.old) correlation now (moves side event now self.old)).out) }
-        ensures told { IfOk result (λ told. told ≡ is_told (status_of now self.old) now (moves side event now self.old).rec) }
+        ensures rec { OnOk result (self.new
+            ≡ (tells (status_of now self.old) correlation now
+            (moves side event now self.old)).rec) }
+        ensures out { OnOk result (replies.new.items ≡ replies.old.items
+            ++ (tells (status_of now self.old) correlation now
+            (moves side event now self.old)).out) }
+        ensures told { IfOk result (λ told.
+            told ≡ is_told (status_of now self.old) now (moves side event now self.old).rec) }
         ensures later { IsLater self.old self.new }
     {
         let before = self.status(now);
@@ -65,9 +70,14 @@ impl Record {
         before: Second,
         now: Second,
     ) -> Result<bool, AllocError>
-        ensures rec { OnOk result (self.new ≡ (tells (status_of before self.old) correlation now (ticked origin now self.old)).rec) }
-        ensures out { OnOk result (replies.new.items ≡ replies.old.items ++ (tells (status_of before self.old) correlation now (ticked origin now self.old)).out) }
-        ensures told { IfOk result (λ told. told ≡ is_told (status_of before self.old) now (ticked origin now self.old).rec) }
+        ensures rec { OnOk result (self.new
+            ≡ (tells (status_of before self.old) correlation now
+            (ticked origin now self.old)).rec) }
+        ensures out { OnOk result (replies.new.items ≡ replies.old.items
+            ++ (tells (status_of before self.old) correlation now
+            (ticked origin now self.old)).out) }
+        ensures told { IfOk result (λ told.
+            told ≡ is_told (status_of before self.old) now (ticked origin now self.old).rec) }
         ensures later { IsLater self.old self.new }
     {
         let plane = self.status(before);
@@ -91,8 +101,11 @@ impl Record {
         correlation: Id,
         now: Second,
     ) -> Result<bool, AllocError>
-        ensures rec { OnOk result (self.new ≡ (tells_plane (is_told before.now now self.old) (status_of now self.old) correlation now self.old).rec) }
-        ensures out { OnOk result (replies.new.items ≡ replies.old.items ++ (tells_plane (is_told before.now now self.old) (status_of now self.old) correlation now self.old).out) }
+        ensures rec { OnOk result (self.new ≡ (tells_plane (is_told before.now now self.old)
+            (status_of now self.old) correlation now self.old).rec) }
+        ensures out { OnOk result (replies.new.items ≡ replies.old.items
+            ++ (tells_plane (is_told before.now now self.old)
+            (status_of now self.old) correlation now self.old).out) }
         ensures told { IfOk result (λ told. told ≡ is_told before.now now self.old) }
         ensures later { IsLater self.old self.new }
     {
@@ -125,7 +138,8 @@ impl Record {
         now: Second,
     ) -> Result<(), AllocError>
         ensures rec { OnOk result (self.new ≡ (moves side event now self.old).rec) }
-        ensures out { OnOk result (replies.new.items ≡ replies.old.items ++ (moves side event now self.old).out) }
+        ensures out { OnOk result (replies.new.items ≡ replies.old.items
+            ++ (moves side event now self.old).out) }
         ensures later { IsLater self.old self.new }
     {
         match event {
@@ -144,7 +158,8 @@ impl Record {
         now: Second,
     ) -> Result<(), AllocError>
         ensures rec { OnOk result (self.new ≡ (reserves self.old.rsm event now self.old).rec) }
-        ensures out { OnOk result (replies.new.items ≡ replies.old.items ++ (reserves self.old.rsm event now self.old).out) }
+        ensures out { OnOk result (replies.new.items ≡ replies.old.items
+            ++ (reserves self.old.rsm event now self.old).out) }
         ensures later { IsLater self.old self.new }
     {
         let reply = self.apply_reservation(event, now)?;
@@ -159,8 +174,10 @@ impl Record {
         event: ProvisionMove,
         now: Second,
     ) -> Result<(), AllocError>
-        ensures rec { OnOk result (self.new ≡ (provisions side self.old.psm event now self.old).rec) }
-        ensures out { OnOk result (replies.new.items ≡ replies.old.items ++ (provisions side self.old.psm event now self.old).out) }
+        ensures rec { OnOk result (self.new
+            ≡ (provisions side self.old.psm event now self.old).rec) }
+        ensures out { OnOk result (replies.new.items ≡ replies.old.items
+            ++ (provisions side self.old.psm event now self.old).out) }
         ensures later { IsLater self.old self.new }
     {
         let reply = self.apply_provision(side, event, now)?;
@@ -175,7 +192,8 @@ impl Record {
         now: Second,
     ) -> Result<(), AllocError>
         ensures rec { OnOk result (self.new ≡ (lives self.old.lsm event now self.old).rec) }
-        ensures out { OnOk result (replies.new.items ≡ replies.old.items ++ (lives self.old.lsm event now self.old).out) }
+        ensures out { OnOk result (replies.new.items ≡ replies.old.items
+            ++ (lives self.old.lsm event now self.old).out) }
         ensures later { IsLater self.old self.new }
     {
         let reply = self.apply_lifecycle(event, now)?;
@@ -192,7 +210,8 @@ impl Record {
         now: Second,
     ) -> Result<(), AllocError>
         ensures rec { OnOk result (self.new ≡ (closes agent.now side now self.old).rec) }
-        ensures out { OnOk result (replies.new.items ≡ replies.old.items ++ (closes agent.now side now self.old).out) }
+        ensures out { OnOk result (replies.new.items ≡ replies.old.items
+            ++ (closes agent.now side now self.old).out) }
         ensures later { IsLater self.old self.new }
     {
         self.close_reservation(replies, agent, now)?;
@@ -207,7 +226,8 @@ impl Record {
         now: Second,
     ) -> Result<(), AllocError>
         ensures rec { OnOk result (self.new ≡ (closes_reservation agent.now now self.old).rec) }
-        ensures out { OnOk result (replies.new.items ≡ replies.old.items ++ (closes_reservation agent.now now self.old).out) }
+        ensures out { OnOk result (replies.new.items ≡ replies.old.items
+            ++ (closes_reservation agent.now now self.old).out) }
         ensures later { IsLater self.old self.new }
     {
         match reservation_closing(self.rsm, agent)? {
@@ -224,7 +244,8 @@ impl Record {
         now: Second,
     ) -> Result<(), AllocError>
         ensures rec { OnOk result (self.new ≡ (closes_provision agent.now side now self.old).rec) }
-        ensures out { OnOk result (replies.new.items ≡ replies.old.items ++ (closes_provision agent.now side now self.old).out) }
+        ensures out { OnOk result (replies.new.items ≡ replies.old.items
+            ++ (closes_provision agent.now side now self.old).out) }
         ensures later { IsLater self.old self.new }
     {
         match provision_closing(self.psm, agent)? {
@@ -242,7 +263,8 @@ impl Record {
         now: Second,
     ) -> Result<(), AllocError>
         ensures rec { OnOk result (self.new ≡ (ticked origin now self.old).rec) }
-        ensures out { OnOk result (replies.new.items ≡ replies.old.items ++ (ticked origin now self.old).out) }
+        ensures out { OnOk result (replies.new.items ≡ replies.old.items
+            ++ (ticked origin now self.old).out) }
         ensures later { IsLater self.old self.new }
     {
         if !self.is_live() {
@@ -259,8 +281,10 @@ impl Record {
         origin: Origin,
         now: Second,
     ) -> Result<(), AllocError>
-        ensures rec { OnOk result (self.new ≡ (reserves_if (hold_end self.old.rsm self.old.deadline now origin) now self.old).rec) }
-        ensures out { OnOk result (replies.new.items ≡ replies.old.items ++ (reserves_if (hold_end self.old.rsm self.old.deadline now origin) now self.old).out) }
+        ensures rec { OnOk result (self.new
+            ≡ (reserves_if (hold_end self.old.rsm self.old.deadline now origin) now self.old).rec) }
+        ensures out { OnOk result (replies.new.items ≡ replies.old.items
+            ++ (reserves_if (hold_end self.old.rsm self.old.deadline now origin) now self.old).out) }
         ensures later { IsLater self.old self.new }
     {
         if !self.is_hold_over(now) {
@@ -272,14 +296,17 @@ impl Record {
     /// Whether what it holds isn't held any more at that second.
     #[tactic(auto, unfolding(crate::specs::Moves::hold_end))]
     fn is_hold_over(&self, now: Second) -> bool
-        ensures { (origin : Origin) → hold_end self.now.rsm self.now.deadline now origin ≡ (if result then Some (ReservationMove.HoldEnd origin) else None) }
+        ensures { (origin : Origin) → hold_end self.now.rsm self.now.deadline now origin
+            ≡ (if result then Some (ReservationMove.HoldEnd origin) else None) }
     {
         self.rsm == Rsm::ReserveHeld && is_due(self.deadline, now)
     }
 
     fn pass_schedule(&mut self, replies: &mut Vec<Reply>, now: Second) -> Result<(), AllocError>
-        ensures rec { OnOk result (self.new ≡ (lives_if (schedule_end (last self.old.committed) now) now self.old).rec) }
-        ensures out { OnOk result (replies.new.items ≡ replies.old.items ++ (lives_if (schedule_end (last self.old.committed) now) now self.old).out) }
+        ensures rec { OnOk result (self.new
+            ≡ (lives_if (schedule_end (last self.old.committed) now) now self.old).rec) }
+        ensures out { OnOk result (replies.new.items ≡ replies.old.items
+            ++ (lives_if (schedule_end (last self.old.committed) now) now self.old).out) }
         ensures later { IsLater self.old self.new }
     {
         if !self.is_schedule_over(now) {
@@ -416,7 +443,8 @@ fn gone(agent: &Name) -> Result<Exception, AllocError>
 /// What answers an open request of the reservation machine when the connection ends.
 #[tactic(auto, unfolding(crate::specs::Applied::reservation_closing))]
 fn reservation_closing(state: Rsm, agent: &Name) -> Result<Option<ReservationMove>, AllocError>
-    ensures { IfOk result (λ event. event ≡ reservation_closing state (plain agent.now ErrorName.Gone)) }
+    ensures { IfOk result (λ event.
+        event ≡ reservation_closing state (plain agent.now ErrorName.Gone)) }
 {
     match state {
         Rsm::ReserveChecking => Ok(Some(ReservationMove::Lack {
@@ -434,7 +462,8 @@ fn reservation_closing(state: Rsm, agent: &Name) -> Result<Option<ReservationMov
 /// What answers an open request of the provision machine then.
 #[tactic(auto, unfolding(crate::specs::Applied::provision_closing))]
 fn provision_closing(state: Psm, agent: &Name) -> Result<Option<ProvisionMove>, AllocError>
-    ensures { IfOk result (λ event. event ≡ provision_closing state (plain agent.now ErrorName.Gone)) }
+    ensures { IfOk result (λ event.
+        event ≡ provision_closing state (plain agent.now ErrorName.Gone)) }
 {
     match state {
         Psm::Provisioning | Psm::Releasing => Ok(Some(ProvisionMove::Spoiled {

@@ -12,26 +12,21 @@ impl Record {
     pub fn copy(&self) -> Result<Record, AllocError>
         ensures { IfOk result (λ r. r ≡ self.now) }
     {
-        let mut copy = Record::new(
-            self.committed.allocator(),
-            self.id,
-            self.owner.copy()?,
-            self.service.copy()?,
-            self.source,
-            self.dest,
-        );
-        copy.committed = copy_criteria(&self.committed)?;
-        copy.notices = copy_notices(&self.notices)?;
-        copy.results = copy_outcomes(&self.results)?;
-        copy.restore(&self.save());
-        Ok(copy)
+        Ok(Record {
+            owner: self.owner.copy()?,
+            service: self.service.copy()?,
+            committed: copy_criteria(&self.committed)?,
+            notices: copy_notices(&self.notices)?,
+            results: copy_outcomes(&self.results)?,
+            ..*self
+        })
     }
 }
 
 fn copy_criteria(committed: &List<Criteria>) -> Result<List<Criteria>, AllocError>
     ensures { IfOk result (λ copy. copy ≡ committed.now) }
 {
-    let mut copy = List::new(committed.allocator());
+    let mut copy = committed.new_alike();
     for criteria in committed.items() {
         copy.push(*criteria)?;
     }

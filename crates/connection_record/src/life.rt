@@ -48,7 +48,8 @@ impl Record {
         now: Second,
     ) -> Result<Option<Reply>, AllocError>
         ensures rec { IfOk result (λ _. self.new ≡ (lives self.old.lsm event now self.old).rec) }
-        ensures out { IfOk result (λ out. option_to_list out ≡ (lives self.old.lsm event now self.old).out) }
+        ensures out { IfOk result (λ out.
+            option_to_list out ≡ (lives self.old.lsm event now self.old).out) }
         ensures err { OnErr result (self.new ≡ self.old) }
     {
         let Some((next, _)) = step(self.lsm, event.event()) else {
@@ -75,8 +76,10 @@ impl Record {
         next: Lsm,
         now: Second,
     ) -> Result<Option<Reply>, AllocError>
-        ensures rec { IfOk result (λ _. self.new ≡ (forced correlation origin next now self.old).rec) }
-        ensures out { IfOk result (λ out. option_to_list out ≡ (forced correlation origin next now self.old).out) }
+        ensures rec { IfOk result (λ _.
+            self.new ≡ (forced correlation origin next now self.old).rec) }
+        ensures out { IfOk result (λ out.
+            option_to_list out ≡ (forced correlation origin next now self.old).out) }
         ensures err { OnErr result (self.new ≡ self.old) }
     {
         let notification = self.add_notice(Kind::ErrorEvent, correlation, now)?;

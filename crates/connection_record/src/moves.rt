@@ -2,7 +2,7 @@
 
 ghost use Rattle.std.specs.Prelude.{◌≡◌, [], ◌∷◌, IfOk, OnErr, option_to_list};
 ghost use Rattle.connection_record.specs.Demand.{last};
-ghost use Rattle.connection_record.specs.Replies.{Moved, stays, id_or};
+ghost use Rattle.connection_record.specs.Replies.{id_or};
 ghost use Rattle.connection_record.specs.Moves.{event_of, asked, checks, answered, fits, fails, times_out, commits, committed_with, spoils, frees, asked_criteria, asked_version};
 
 use crate::record::Record;
@@ -75,7 +75,8 @@ impl Record {
         now: Second,
     ) -> Result<Option<Reply>, AllocError>
         ensures rec { IfOk result (λ _. self.new ≡ (reserves self.old.rsm event now self.old).rec) }
-        ensures out { IfOk result (λ out. option_to_list out ≡ (reserves self.old.rsm event now self.old).out) }
+        ensures out { IfOk result (λ out.
+            option_to_list out ≡ (reserves self.old.rsm event now self.old).out) }
         ensures err { OnErr result (self.new ≡ self.old) }
     {
         let Some((next, _)) = step(self.rsm, event.event()) else {
@@ -148,8 +149,10 @@ impl Record {
         next: Rsm,
         now: Second,
     ) -> Result<Option<Reply>, AllocError>
-        ensures rec { IfOk result (λ _. self.new ≡ (fits self.old.pending deadline next now self.old).rec) }
-        ensures out { IfOk result (λ out. option_to_list out ≡ (fits self.old.pending deadline next now self.old).out) }
+        ensures rec { IfOk result (λ _.
+            self.new ≡ (fits self.old.pending deadline next now self.old).rec) }
+        ensures out { IfOk result (λ out.
+            option_to_list out ≡ (fits self.old.pending deadline next now self.old).out) }
         ensures err { OnErr result (self.new ≡ self.old) }
     {
         let Some(criteria) = self.pending else {
@@ -171,7 +174,8 @@ impl Record {
         now: Second,
     ) -> Result<Option<Reply>, AllocError>
         ensures rec { IfOk result (λ _. self.new ≡ (fails exception next now self.old).rec) }
-        ensures out { IfOk result (λ out. option_to_list out ≡ (fails exception next now self.old).out) }
+        ensures out { IfOk result (λ out.
+            option_to_list out ≡ (fails exception next now self.old).out) }
         ensures err { OnErr result (self.new ≡ self.old) }
     {
         let correlation = self.answer(Kind::ReserveFailed, next, now)?;
@@ -193,7 +197,8 @@ impl Record {
         now: Second,
     ) -> Result<Option<Reply>, AllocError>
         ensures rec { IfOk result (λ _. self.new ≡ (times_out origin next now self.old).rec) }
-        ensures out { IfOk result (λ out. option_to_list out ≡ (times_out origin next now self.old).out) }
+        ensures out { IfOk result (λ out.
+            option_to_list out ≡ (times_out origin next now self.old).out) }
         ensures err { OnErr result (self.new ≡ self.old) }
     {
         let correlation = id_or(self.attempt);
@@ -237,7 +242,8 @@ impl Record {
     }
 
     fn push_pending(&mut self) -> Result<(), AllocError>
-        ensures ok { IfOk result (λ _. self.new ≡ record self.old { committed = committed_with self.old.committed self.old.pending }) }
+        ensures ok { IfOk result (λ _. self.new
+            ≡ record self.old { committed = committed_with self.old.committed self.old.pending }) }
         ensures err { OnErr result (self.new ≡ self.old) }
     {
         match self.pending {
@@ -247,7 +253,9 @@ impl Record {
     }
 
     fn take_back_pending(&mut self)
-        ensures { (r : Record) → self.old ≡ record r { committed = committed_with r.committed r.pending } → self.new ≡ r }
+        ensures { (r : Record)
+            → self.old ≡ record r { committed = committed_with r.committed r.pending }
+            → self.new ≡ r }
     {
         if self.pending.is_some() {
             self.committed.take_back();
@@ -262,7 +270,8 @@ impl Record {
         now: Second,
     ) -> Result<Option<Reply>, AllocError>
         ensures rec { IfOk result (λ _. self.new ≡ (spoils exception mixed next now self.old).rec) }
-        ensures out { IfOk result (λ out. option_to_list out ≡ (spoils exception mixed next now self.old).out) }
+        ensures out { IfOk result (λ out.
+            option_to_list out ≡ (spoils exception mixed next now self.old).out) }
         ensures err { OnErr result (self.new ≡ self.old) }
     {
         let correlation = self.answer(Kind::ReserveCommitFailed, next, now)?;

@@ -47,8 +47,10 @@ impl Record {
         event: ProvisionMove,
         now: Second,
     ) -> Result<Option<Reply>, AllocError>
-        ensures rec { IfOk result (λ _. self.new ≡ (provisions side self.old.psm event now self.old).rec) }
-        ensures out { IfOk result (λ out. option_to_list out ≡ (provisions side self.old.psm event now self.old).out) }
+        ensures rec { IfOk result (λ _.
+            self.new ≡ (provisions side self.old.psm event now self.old).rec) }
+        ensures out { IfOk result (λ out.
+            option_to_list out ≡ (provisions side self.old.psm event now self.old).out) }
         ensures err { OnErr result (self.new ≡ self.old) }
     {
         let Some((next, said)) = step(side, self.psm, event.event()) else {
@@ -72,8 +74,10 @@ impl Record {
         said: Option<Kind>,
         now: Second,
     ) -> Result<Option<Reply>, AllocError>
-        ensures rec { IfOk result (λ _. self.new ≡ (provision_taken correlation next said now self.old).rec) }
-        ensures out { IfOk result (λ out. option_to_list out ≡ (provision_taken correlation next said now self.old).out) }
+        ensures rec { IfOk result (λ _.
+            self.new ≡ (provision_taken correlation next said now self.old).rec) }
+        ensures out { IfOk result (λ out.
+            option_to_list out ≡ (provision_taken correlation next said now self.old).out) }
         ensures err { OnErr result (self.new ≡ self.old) }
     {
         if said.is_some() {
@@ -91,8 +95,10 @@ impl Record {
         next: Psm,
         now: Second,
     ) -> Result<Option<Reply>, AllocError>
-        ensures rec { IfOk result (λ _. self.new ≡ (provision_confirmed correlation next now self.old).rec) }
-        ensures out { IfOk result (λ out. option_to_list out ≡ (provision_confirmed correlation next now self.old).out) }
+        ensures rec { IfOk result (λ _.
+            self.new ≡ (provision_confirmed correlation next now self.old).rec) }
+        ensures out { IfOk result (λ out.
+            option_to_list out ≡ (provision_confirmed correlation next now self.old).out) }
         ensures err { OnErr result (self.new ≡ self.old) }
     {
         self.add_outcome(confirmed_kind(next), correlation, now)?;

@@ -2,8 +2,7 @@
 
 ghost use Rattle.std.specs.Prelude.{◌≡◌, ◌<◌, ◌+◌, ◌++◌, ◌∷◌, [], length, IfOk, OnOk, OnErr, IfSome};
 ghost use Rattle.std.specs.Option.{option_copied};
-ghost use Rattle.nsi_base.specs.Flows.{books};
-ghost use Rattle.connection_record.specs.Demand.{last, claim, held, claims, is_booked, is_terminated, holds_pending};
+ghost use Rattle.connection_record.specs.Demand.{last, claim, held, claims, is_booked, holds_pending};
 
 use nsi_base::{Flow, List, Name, Second, StpNo};
 use nsi_primitive::{Criteria, Id, Kind, Lsm, Notice, Outcome, Psm, Rsm, Service};
@@ -89,7 +88,8 @@ impl Record {
     #[tactic(auto, using(crate::proofs::Rising::rising_more))]
     pub fn push_committed(&mut self, criteria: Criteria) -> Result<(), AllocError>
         requires { IfSome (last self.old.committed) (λ c. c.version < criteria.version) }
-        ensures ok { OnOk result (self.new ≡ record self.old { committed = self.old.committed ++ criteria ∷ [] }) }
+        ensures ok { OnOk result (self.new
+            ≡ record self.old { committed = self.old.committed ++ criteria ∷ [] }) }
         ensures rising { AreRising self.old.committed → AreRising self.new.committed }
         ensures err { OnErr result (self.new ≡ self.old) }
     {
@@ -143,7 +143,8 @@ impl Record {
         second: Second,
     ) -> Result<u64, AllocError>
         ensures number { IfOk result (λ n. n ≡ length self.old.notices + 1) }
-        ensures ok { OnOk result (self.new ≡ record self.old { notices = noted kind correlation second self.old.notices }) }
+        ensures ok { OnOk result (self.new
+            ≡ record self.old { notices = noted kind correlation second self.old.notices }) }
         ensures err { OnErr result (self.new ≡ self.old) }
     {
         let number = number_after(self.notices.items().len())?;
@@ -164,7 +165,8 @@ impl Record {
         second: Second,
     ) -> Result<u64, AllocError>
         ensures number { IfOk result (λ n. n ≡ length self.old.results + 1) }
-        ensures ok { OnOk result (self.new ≡ record self.old { results = counted kind correlation second self.old.results }) }
+        ensures ok { OnOk result (self.new
+            ≡ record self.old { results = counted kind correlation second self.old.results }) }
         ensures err { OnErr result (self.new ≡ self.old) }
     {
         let number = number_after(self.results.items().len())?;

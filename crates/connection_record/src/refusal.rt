@@ -3,7 +3,6 @@
 ghost use Rattle.std.specs.Prelude.{◌≡◌, IfSome, false};
 ghost use Rattle.nsi_primitive.specs.Printable.{has_further_keys};
 ghost use Rattle.connection_record.specs.Demand.{last};
-ghost use Rattle.connection_record.specs.Moves.{is_live};
 ghost use Rattle.connection_record.specs.Refusal.{has_row, is_in_place, agrees, is_same_direction, direction_agrees, keeps_service, version_refusal, schedule_refusal, modification_refusal, record_refusal};
 
 use crate::record::Record;

@@ -1,7 +1,6 @@
 //! What stands at a key of an object.
 
-ghost use Rattle.std.specs.Prelude.{◌≡◌, ◌≤◌, false, length, option_map, is_some, Some, None, IfOk, IfErr, IfSome, IsTrue, ◌≢◌};
-ghost use Rattle.serde_json.specs.Data.{Data};
+ghost use Rattle.std.specs.Prelude.{◌≡◌, ◌≤◌, false, length, option_map, is_some, Some, None, IfOk, IfErr, IfSome, ◌≢◌};
 ghost use Rattle.serde_json.specs.Find.{get};
 ghost use Rattle.serde_json.specs.View.{view};
 ghost use Rattle.nsi_primitive.specs.Ids.{id_from_text};
@@ -21,7 +20,8 @@ use std::alloc::Global;
 /// float holds are not JSON here.
 pub fn read_json(alloc: Global, bytes: &[u8]) -> Result<Value, LineFault>
     ensures read { IfOk result (λ v. json_of bytes.now ≡ Some (view v)) }
-    ensures refused { IfErr result (λ e. e ≢ LineFault.NoMemory → (e ≡ LineFault.NotJson) × (json_of bytes.now ≡ None)) }
+    ensures refused { IfErr result (λ e.
+        e ≢ LineFault.NoMemory → (e ≡ LineFault.NotJson) × (json_of bytes.now ≡ None)) }
 {
     match Value::from_slice(alloc, bytes) {
         Ok(value) => Ok(value),

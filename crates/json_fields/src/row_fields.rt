@@ -17,7 +17,8 @@ use serde_json::Value;
 /// The items of a list, in their order.
 #[tactic(auto, unfolding(crate::specs::Fields::required))]
 pub fn required_items(value: &Value, key: Key) -> Result<&[Value], LineFault>
-    ensures found { IfOk result (λ items. required as_array key (view value.now) ≡ Ok (items_view items.now)) }
+    ensures found { IfOk result (λ items.
+        required as_array key (view value.now) ≡ Ok (items_view items.now)) }
     ensures refused { IfErr result (λ fault. Fails fault (required as_array key (view value.now))) }
 {
     let Some(found) = at(value, key) else {

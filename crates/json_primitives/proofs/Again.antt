@@ -19,6 +19,7 @@ use Rattle.json_fields.specs.Objects.{Field, digits, words, flag, id_scalar, tim
 use Rattle.json_fields.specs.declared.key.Key.{Key}
 use Rattle.json_fields.proofs.Members.{field_at, is_absent, are_apart, get_member-with_fields}
 use Rattle.json_fields.proofs.Again.{required_again, optional_again, absent_again, text_again, count_again, flag_again, directionality_again, kind_again}
+use Rattle.json_primitives.specs.Headers.{header_from}
 use Rattle.json_primitives.specs.Requests.{point_from, is_one_point, reserve_from}
 use Rattle.json_primitives.specs.Connected.{connected_from, about}
 use Rattle.json_primitives.specs.Queries.{summary_from, ranged_from, notifications_from, results_from}
@@ -62,7 +63,7 @@ unfolding rows_in name_of field_at is_absent are_apart
 at h r key = found_at (reserve_of h r) key refl refl
 
 reserve_again : (h : Header) (r : ReserveRequest) → IsValidHeader h → IsValidReserve r → IsPrintableReserve r → reserve_from (data_of (reserve_of h r)) ≡ Ok (reserve_of h r)
-unfolding reserve_from name_of field_at
+unfolding reserve_from name_of field_at header_from
 reserve_again h r vh v p =
     let d = data_of (reserve_of h r) in
     let capacity = required_again capacity_from Key.Capacity d (digits r.capacity) r.capacity (at h r Key.Capacity) v.capacity in
@@ -93,7 +94,7 @@ unfolding name_of field_at is_absent are_apart
 connected_at kind h connection key = get_member-with_fields (name_of key) (header_fields kind h ++ connection_fields connection) no_members refl refl
 
 connected_again : (kind : Kind) (h : Header) (connection : ℕ) → IsValidHeader h → IsReadBack id_from (id_scalar connection) connection → connected_from (connected_data kind h connection) ≡ Ok (connection, h)
-unfolding connected_from name_of field_at
+unfolding connected_from name_of field_at header_from
 connected_again kind h connection vh v =
     let d = connected_data kind h connection in
     let about = required_again id_from Key.ConnectionId d (id_scalar connection) connection (connected_at kind h connection Key.ConnectionId) v in
@@ -112,7 +113,7 @@ unfolding name_of field_at is_absent are_apart
 summary_at h connection key = get_member-with_fields (name_of key) (header_fields Kind.QuerySummary h ++ ((Key.ConnectionId, option_map id_scalar connection) ∷ [])) no_members refl refl
 
 summary_again : (h : Header) (connection : Option ℕ) → IsValidHeader h → IfSome connection (λ n. IsReadBack id_from (id_scalar n) n) → summary_from (summary_data h connection) ≡ Ok (record { header = h; body = Body.QuerySummary connection })
-unfolding summary_from name_of field_at
+unfolding summary_from name_of field_at header_from
 summary_again h connection vh v =
     let d = summary_data h connection in
     let about = optional_again id_from Key.ConnectionId d id_scalar connection (summary_at h connection Key.ConnectionId) v in
@@ -138,7 +139,7 @@ record IsRanged (d : Data) (end_key start_key : Key) (h : Header) (r : NumberRan
   start : get (name_of start_key) d ≡ option_map scalar_data (option_map digits r.start)
 
 ranged_again : (d : Data) (end_key start_key : Key) (h : Header) (r : NumberRange) → IsRanged d end_key start_key h r → IsValidHeader h → IsReadBack id_from (id_scalar r.connection) r.connection → ranged_from end_key start_key d ≡ Ok (r, h)
-unfolding ranged_from
+unfolding ranged_from header_from
 ranged_again d end_key start_key h r has vh v =
     let about = required_again id_from Key.ConnectionId d (id_scalar r.connection) r.connection has.connection v in
     let correlation = required_again id_from Key.CorrelationId d (id_scalar h.correlation) h.correlation has.correlation vh.correlation in

@@ -20,6 +20,7 @@ use Rattle.json_fields.specs.Objects.{Field, digits, words, flag, id_scalar, tim
 use Rattle.json_fields.specs.declared.key.Key.{Key}
 use Rattle.json_fields.proofs.Members.{field_at, is_absent, are_apart}
 use Rattle.json_fields.proofs.Again.{required_again, optional_again, absent_again, text_again, flag_again, one_direction_again, error_again, plain_error_again}
+use Rattle.json_primitives.specs.Headers.{header_from}
 use Rattle.json_primitives.specs.Answers.{confirmation_from, connection_from, plain_from, lack_from, child_from, flow_or_both, refused_by, refused_from}
 use Rattle.json_primitives.specs.Rows.{rows_in}
 use Rattle.json_primitives.specs.Spelling.{header_fields, refusal_fields, flow_text, fields_of, data_of}
@@ -35,7 +36,7 @@ unfolding rows_in name_of field_at is_absent are_apart
 confirmation_at h r key = found_at (confirmation_of h r) key refl refl
 
 pub confirmation_again : (h : Header) (r : ReserveConfirmation) → IsValidHeader h → IsValidConfirmation r → IsShort 256 r.description → IsShort 128 r.global → confirmation_from (data_of (confirmation_of h r)) ≡ Ok (confirmation_of h r)
-unfolding confirmation_from name_of field_at
+unfolding confirmation_from name_of field_at header_from
 confirmation_again h r vh v description_short global_short =
     let d = data_of (confirmation_of h r) in
     let capacity = required_again capacity_from Key.Capacity d (digits r.capacity) r.capacity (confirmation_at h r Key.Capacity) (v.capacity) in
@@ -105,7 +106,7 @@ unfolding name_of field_at is_absent are_apart
 plain_at kind h connection nsa error key = found_with (refusal_list kind h connection nsa (Cause.Plain error)) key refl
 
 plain_again : (is_needed : Bool) (kind : Kind) (h : Header) (connection : Option ℕ) (nsa : List ℕ) (error : ErrorName) → IsGood is_needed h connection nsa → has_further_keys error ≡ false → plain_from is_needed (refusal_data kind h connection nsa (Cause.Plain error)) ≡ Ok (refusal_of h connection nsa (Cause.Plain error))
-unfolding plain_from name_of field_at
+unfolding plain_from name_of field_at header_from
 plain_again is_needed kind h connection nsa error good plain =
     let d = refusal_data kind h connection nsa (Cause.Plain error) in
     let vh = good.header in
@@ -123,7 +124,7 @@ unfolding name_of field_at is_absent are_apart
 lack_at kind h connection nsa stp flow second load capacity key = found_with (refusal_list kind h connection nsa (Cause.Bandwidth stp flow second load capacity)) key refl
 
 lack_again : (is_needed : Bool) (kind : Kind) (h : Header) (connection : Option ℕ) (nsa : List ℕ) (stp : List ℕ) (flow : Flow) (second load capacity : ℕ) → IsGood is_needed h connection nsa → IsValidCause (Cause.Bandwidth stp flow second load capacity) → lack_from is_needed (refusal_data kind h connection nsa (Cause.Bandwidth stp flow second load capacity)) ≡ Ok (refusal_of h connection nsa (Cause.Bandwidth stp flow second load capacity))
-unfolding lack_from name_of field_at
+unfolding lack_from name_of field_at header_from
 lack_again is_needed kind h connection nsa stp flow second load capacity good v =
     let d = refusal_data kind h connection nsa (Cause.Bandwidth stp flow second load capacity) in
     let vh = good.header in
@@ -146,7 +147,7 @@ unfolding name_of field_at is_absent are_apart
 child_at kind h connection nsa child why key = found_with (refusal_list kind h connection nsa (Cause.Child child why)) key refl
 
 child_again : (is_needed : Bool) (kind : Kind) (h : Header) (connection : Option ℕ) (nsa : List ℕ) (child : List ℕ) (why : ErrorName) → IsGood is_needed h connection nsa → IsValidCause (Cause.Child child why) → child_from is_needed (refusal_data kind h connection nsa (Cause.Child child why)) ≡ Ok (refusal_of h connection nsa (Cause.Child child why))
-unfolding child_from name_of field_at
+unfolding child_from name_of field_at header_from
 child_again is_needed kind h connection nsa child why good v =
     let d = refusal_data kind h connection nsa (Cause.Child child why) in
     let vh = good.header in

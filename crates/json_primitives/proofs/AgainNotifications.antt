@@ -15,6 +15,7 @@ use Rattle.json_fields.specs.Objects.{digits, words, flag, id_scalar, scalar_dat
 use Rattle.json_fields.specs.declared.key.Key.{Key}
 use Rattle.json_fields.proofs.Members.{field_at, is_absent, are_apart}
 use Rattle.json_fields.proofs.Again.{required_again, one_flag_again, event_again}
+use Rattle.json_primitives.specs.Headers.{header_from}
 use Rattle.json_primitives.specs.Notifications.{timeout_from, fault_from, plane_from, delivery_from}
 use Rattle.json_primitives.specs.Rows.{rows_in}
 use Rattle.json_primitives.specs.Spelling.{fields_of, data_of}
@@ -38,7 +39,7 @@ unfolding rows_in name_of field_at is_absent are_apart
 timeout_at h t key = found_at (timeout_of h t) key refl refl
 
 pub timeout_again : (h : Header) (t : HoldTimeout) → IsValidHeader h → IsValidTimeout t → timeout_from (data_of (timeout_of h t)) ≡ Ok (timeout_of h t)
-unfolding timeout_from name_of field_at
+unfolding timeout_from name_of field_at header_from
 timeout_again h t vh v =
     let d = data_of (timeout_of h t) in
     let connection = required_again id_from Key.ConnectionId d (id_scalar t.connection) t.connection (timeout_at h t Key.ConnectionId) (v.connection) in
@@ -57,7 +58,7 @@ unfolding rows_in name_of field_at is_absent are_apart
 fault_at h n key = found_at (fault_of h n) key refl refl
 
 pub fault_again : (h : Header) (n : FaultNotice) → IsValidHeader h → IsValidFault n → fault_from (data_of (fault_of h n)) ≡ Ok (fault_of h n)
-unfolding fault_from name_of field_at
+unfolding fault_from name_of field_at header_from
 fault_again h n vh v =
     let d = data_of (fault_of h n) in
     let connection = required_again id_from Key.ConnectionId d (id_scalar n.connection) n.connection (fault_at h n Key.ConnectionId) (v.connection) in
@@ -76,7 +77,7 @@ unfolding rows_in name_of field_at is_absent are_apart
 plane_at h n key = found_at (plane_of h n) key refl refl
 
 pub plane_again : (h : Header) (n : PlaneNotice) → IsValidHeader h → IsValidPlane n → plane_from (data_of (plane_of h n)) ≡ Ok (plane_of h n)
-unfolding plane_from name_of field_at
+unfolding plane_from name_of field_at header_from
 plane_again h n vh v =
     let d = data_of (plane_of h n) in
     let active = required_again flag_from Key.Active d (flag n.active) n.active (plane_at h n Key.Active) (one_flag_again n.active) in
@@ -95,7 +96,7 @@ unfolding rows_in name_of field_at is_absent are_apart
 delivery_at h t key = found_at (delivery_of h t) key refl refl
 
 pub delivery_again : (h : Header) (t : DeliveryTimeout) → IsValidHeader h → IsValidDelivery t → delivery_from (data_of (delivery_of h t)) ≡ Ok (delivery_of h t)
-unfolding delivery_from name_of field_at
+unfolding delivery_from name_of field_at header_from
 delivery_again h t vh v =
     let d = data_of (delivery_of h t) in
     let connection = required_again id_from Key.ConnectionId d (id_scalar t.connection) t.connection (delivery_at h t Key.ConnectionId) (v.connection) in

@@ -26,6 +26,7 @@ use Rattle.json_fields.specs.declared.fault.LineFault.{LineFault}
 use Rattle.json_fields.proofs.Members.{field_at, is_absent, are_apart, get_member-put_at, get_member-with_fields}
 use Rattle.json_fields.proofs.Again.{required_again, optional_again, text_again, kind_again, one_direction_again}
 use Rattle.json_fields.proofs.AgainRows.{rsm_again, psm_again, lsm_again, depth_again}
+use Rattle.json_primitives.specs.Headers.{header_from}
 use Rattle.json_primitives.specs.Rows.{summary_fields, recursive_fields, notice_fields, outcome_fields, row_data, rows_in}
 use Rattle.json_primitives.specs.RowLines.{summary_row_from, recursive_row_from, notice_from, outcome_from, summary_rows_from, recursive_rows_from, notice_rows_from, outcome_rows_from}
 use Rattle.json_primitives.specs.Spelling.{fields_of, data_of}
@@ -156,7 +157,7 @@ summary_kind h more rows = summary_beside h more rows Key.Kind refl
 
 pub summary_rows_again : (h : Header) (more : Bool) (rows : List SummaryRow) → IsValidHeader h → AllByRecursion IsValidSummaryRow rows → All (λ r. IsShort 256 r.description × IsShort 128 r.global) rows
     → summary_rows_from (data_of (summary_message h more rows)) ≡ Ok (summary_message h more rows)
-unfolding summary_rows_from name_of field_at
+unfolding summary_rows_from name_of field_at header_from
 summary_rows_again h more rows vh v p =
     let d = data_of (summary_message h more rows) in
     let at = summary_beside h more rows in
@@ -184,7 +185,7 @@ unfolding name_of field_at
 recursive_kind h c more rows = recursive_beside h c more rows Key.Kind refl
 
 pub recursive_rows_again : (h : Header) (c : ℕ) (more : Bool) (rows : List RecursiveRow) → IsValidHeader h → IsReadBack id_from (id_scalar c) c → AllByRecursion IsValidRecursiveRow rows → recursive_rows_from (data_of (recursive_message h c more rows)) ≡ Ok (recursive_message h c more rows)
-unfolding recursive_rows_from name_of field_at
+unfolding recursive_rows_from name_of field_at header_from
 recursive_rows_again h c more rows vh vc v =
     let d = data_of (recursive_message h c more rows) in
     let at = recursive_beside h c more rows in
@@ -213,7 +214,7 @@ unfolding name_of field_at
 notice_kind h c more rows = notice_beside h c more rows Key.Kind refl
 
 pub notice_rows_again : (h : Header) (c : ℕ) (more : Bool) (rows : List Notice) → IsValidHeader h → IsReadBack id_from (id_scalar c) c → AllByRecursion IsValidNotice rows → notice_rows_from (data_of (notice_message h c more rows)) ≡ Ok (notice_message h c more rows)
-unfolding notice_rows_from name_of field_at
+unfolding notice_rows_from name_of field_at header_from
 notice_rows_again h c more rows vh vc v =
     let d = data_of (notice_message h c more rows) in
     let at = notice_beside h c more rows in
@@ -242,7 +243,7 @@ unfolding name_of field_at
 outcome_kind h c more rows = outcome_beside h c more rows Key.Kind refl
 
 pub outcome_rows_again : (h : Header) (c : ℕ) (more : Bool) (rows : List Outcome) → IsValidHeader h → IsReadBack id_from (id_scalar c) c → AllByRecursion IsValidOutcome rows → outcome_rows_from (data_of (outcome_message h c more rows)) ≡ Ok (outcome_message h c more rows)
-unfolding outcome_rows_from name_of field_at
+unfolding outcome_rows_from name_of field_at header_from
 outcome_rows_again h c more rows vh vc v =
     let d = data_of (outcome_message h c more rows) in
     let at = outcome_beside h c more rows in

@@ -1,10 +1,10 @@
 -- The lines of messages read as their objects.
-use Rattle.std.proofs.Common.{◌≡◌, ◌≤◌, ℕ, List, [], ◌∷◌, ◌++◌, Bool, true, codes, Option, Some, None, IfSome, option_map, Ok, map, refl, sym, ap, subst, inl, arith}
+use Rattle.std.proofs.Common.{◌≡◌, ◌≤◌, ℕ, List, [], ◌∷◌, ◌++◌, Bool, true, codes, Option, Some, None, IfSome, option_map, map, refl, inl, arith}
 use Rattle.std.specs.List.{AllByRecursion}
 use Rattle.std.specs.Str.{IsUtf8}
 use Rattle.std.proofs.lemmas.Str.{IsUtf8-from_ascii}
 use Rattle.json.proofs.Printed.Utf8.{are_ascii, IsUtf8-are_ascii}
-use Rattle.serde_json.specs.Data.{Data, Members, no_members, object}
+use Rattle.serde_json.specs.Data.{Members}
 use Rattle.serde_json.specs.Written.{compact_text}
 use Rattle.uuid.specs.Text.{lower}
 use Rattle.uuid.proofs.TextLemmas.{urn_ascii}
@@ -13,7 +13,7 @@ use Rattle.nsi_base.proofs.Ascii.{IsUtf8-from_name}
 use Rattle.nsi_primitive.specs.Ids.{bytes_of, id_text}
 use Rattle.nsi_primitive.specs.Kinds.{kind_name, error_text, event_text, direction_text}
 use Rattle.nsi_primitive.specs.Messages.{kind_of}
-use Rattle.nsi_primitive.specs.Ranges.{IsId, IsCount, IsSecond, IsMbps, IsVersion, IsHoldTime, IsName, IsRangedHeader, IsRangedIdentity, IsRangedReserve, IsRangedConfirmation, IsRangedCause, IsRangedException, IsRangedTimeout, IsRangedFault, IsRangedPlane, IsRangedDelivery, IsRangedNumbers, IsRangedSummary, IsRangedRecursive, IsRangedNotice, IsRangedOutcome, IsRangedBody, IsRanged}
+use Rattle.nsi_primitive.specs.Ranges.{IsCount, IsSecond, IsMbps, IsVersion, IsHoldTime, IsName, IsRangedHeader, IsRangedIdentity, IsRangedReserve, IsRangedConfirmation, IsRangedCause, IsRangedException, IsRangedTimeout, IsRangedFault, IsRangedPlane, IsRangedDelivery, IsRangedNumbers, IsRangedSummary, IsRangedRecursive, IsRangedNotice, IsRangedOutcome, IsRangedBody, IsRanged}
 use Rattle.nsi_primitive.specs.States.{rsm_text, psm_text, lsm_text}
 use Rattle.nsi_primitive.specs.declared.kind.Directionality.{Directionality}
 use Rattle.nsi_primitive.specs.declared.kind.ErrorName.{ErrorName}
@@ -40,11 +40,11 @@ use Rattle.nsi_primitive.specs.declared.state.Rsm.{Rsm}
 use Rattle.nsi_primitive.specs.declared.state.Psm.{Psm}
 use Rattle.nsi_primitive.specs.declared.state.Lsm.{Lsm}
 use Rattle.json_fields.specs.Fields.{json_of}
-use Rattle.json_fields.specs.Objects.{Scalar, digits, words, flag, id_scalar, time_value, directionality_scalar, Field, with_fields}
+use Rattle.json_fields.specs.Objects.{Scalar, digits, words, flag, id_scalar, time_value, directionality_scalar, Field}
 use Rattle.json_fields.specs.declared.key.Key.{Key}
 use Rattle.json_fields.proofs.PlainFields.{IsPlainScalar, IsPlainField, IsPlainRow, ArePlainWithin, plain_fields, plain_row, plain_rows, wider, object_spelled}
 use Rattle.json_primitives.specs.Rows.{summary_fields, recursive_fields, notice_fields, outcome_fields, row_data, rows_in}
-use Rattle.json_primitives.specs.Spelling.{header_fields, reserve_fields, connection_fields, confirmation_fields, flow_text, cause_fields, exception_fields, refusal_fields, timeout_fields, fault_fields, plane_fields, delivery_fields, range_fields, listed_fields, body_fields, fields_of, with_rows_in, data_of, ack_fields, ack_data}
+use Rattle.json_primitives.specs.Spelling.{header_fields, reserve_fields, connection_fields, confirmation_fields, flow_text, cause_fields, refusal_fields, timeout_fields, fault_fields, plane_fields, delivery_fields, range_fields, body_fields, fields_of, with_rows_in, data_of, ack_fields, ack_data}
 
 ---- Scalars
 

@@ -21,6 +21,7 @@ use Rattle.json_fields.specs.Fields.{json_of, required, optional, needed, allowe
 use Rattle.json_fields.specs.RowFields.{rsm_from, psm_from, lsm_from, row_of, each_from}
 use Rattle.json_fields.specs.declared.key.Key.{Key}
 use Rattle.json_fields.specs.declared.fault.LineFault.{LineFault}
+use Rattle.json_primitives.specs.Headers.{header_from}
 use Rattle.json_primitives.specs.Requests.{point_from, is_one_point, reserve_from}
 use Rattle.json_primitives.specs.Connected.{connected_from, about}
 use Rattle.json_primitives.specs.Queries.{summary_from, ranged_from, notifications_from, results_from}
@@ -127,14 +128,13 @@ reserve_read d =
     then_any IsPrintable (required time_from Key.EndTime d) _ (λ end.
     then_any IsPrintable (optional empty_list_from Key.Ero d) _ (λ ero.
     then_with IsPrintable (IsShort 128) (optional (text_from 128) Key.GlobalReservationId d) _ (text_short 128 Key.GlobalReservationId d) (λ global global_short.
-    then_any IsPrintable (required name_from Key.ProviderNsa d) _ (λ provider.
-    then_any IsPrintable (required name_from Key.RequesterNsa d) _ (λ requester.
+    then_any IsPrintable (header_from correlation d) _ (λ header.
     then_with IsPrintable (λ o. IfNone connection (IsSome o)) (point_from connection Key.SourceStp d) _ (point_given connection Key.SourceStp d) (λ source source_given.
     then_any IsPrintable (required time_from Key.StartTime d) _ (λ start.
     then_any IsPrintable (optional flag_from Key.SymmetricPath d) _ (λ symmetric.
     then_any IsPrintable (optional version_from Key.Version d) _ (λ version.
     or_fault IsPrintable (is_one_point source dest) (LineFault.Bad Key.DestStp) _ (λ e.
-    record { description = short; global = global_short; apart = are_apart source dest e; complete = both_given connection source dest source_given dest_given }))))))))))))))))
+    record { description = short; global = global_short; apart = are_apart source dest e; complete = both_given connection source dest source_given dest_given })))))))))))))))
 
 about_read : (body : ℕ → Body) → ((connection : ℕ) → IsPrintableBody (body connection)) → (d : Data) → IfOk (about body d) IsPrintable
 unfolding about
@@ -145,9 +145,8 @@ unfolding summary_from
 summary_read d =
     then_any IsPrintable (optional id_from Key.ConnectionId d) _ (λ connection.
     then_any IsPrintable (required id_from Key.CorrelationId d) _ (λ correlation.
-    then_any IsPrintable (required name_from Key.ProviderNsa d) _ (λ provider.
-    then_any IsPrintable (required name_from Key.RequesterNsa d) _ (λ requester.
-    tt))))
+    then_any IsPrintable (header_from correlation d) _ (λ header.
+    tt)))
 
 confirmation_read : (d : Data) → IfOk (confirmation_from d) IsPrintable
 unfolding confirmation_from
@@ -160,13 +159,12 @@ confirmation_read d =
     then_any IsPrintable (required directionality_from Key.Directionality d) _ (λ directionality.
     then_any IsPrintable (required time_from Key.EndTime d) _ (λ end.
     then_with IsPrintable (IsShort 128) (optional (text_from 128) Key.GlobalReservationId d) _ (text_short 128 Key.GlobalReservationId d) (λ global global_short.
-    then_any IsPrintable (required name_from Key.ProviderNsa d) _ (λ provider.
-    then_any IsPrintable (required name_from Key.RequesterNsa d) _ (λ requester.
+    then_any IsPrintable (header_from correlation d) _ (λ header.
     then_any IsPrintable (required name_from Key.SourceStp d) _ (λ source.
     then_any IsPrintable (required time_from Key.StartTime d) _ (λ start.
     then_any IsPrintable (optional flag_from Key.SymmetricPath d) _ (λ symmetric.
     then_any IsPrintable (required version_from Key.Version d) _ (λ version.
-    (short, global_short)))))))))))))))
+    (short, global_short))))))))))))))
 
 -- its cause has a spelling
 abbrev IsPrintableRefusal : Refusal → Type 0
@@ -179,9 +177,8 @@ plain_read is_needed d =
     then_any IsPrintableRefusal (required id_from Key.CorrelationId d) _ (λ correlation.
     then_with IsPrintableRefusal (λ e. has_further_keys e ≡ false) (required plain_error_from Key.ErrorId d) _ (plain_named Key.ErrorId d) (λ error plain.
     then_any IsPrintableRefusal (required name_from Key.NsaId d) _ (λ nsa.
-    then_any IsPrintableRefusal (required name_from Key.ProviderNsa d) _ (λ provider.
-    then_any IsPrintableRefusal (required name_from Key.RequesterNsa d) _ (λ requester.
-    plain))))))
+    then_any IsPrintableRefusal (header_from correlation d) _ (λ header.
+    plain)))))
 
 lack_read : (is_needed : Bool) (d : Data) → IfOk (lack_from is_needed d) IsPrintableRefusal
 unfolding lack_from
@@ -193,11 +190,10 @@ lack_read is_needed d =
     then_any IsPrintableRefusal (required error_from Key.ErrorId d) _ (λ error.
     then_any IsPrintableRefusal (required count_from Key.Load d) _ (λ load.
     then_any IsPrintableRefusal (required name_from Key.NsaId d) _ (λ nsa.
-    then_any IsPrintableRefusal (required name_from Key.ProviderNsa d) _ (λ provider.
-    then_any IsPrintableRefusal (required name_from Key.RequesterNsa d) _ (λ requester.
+    then_any IsPrintableRefusal (header_from correlation d) _ (λ header.
     then_any IsPrintableRefusal (required second_from Key.Second d) _ (λ second.
     then_any IsPrintableRefusal (required name_from Key.Stp d) _ (λ stp.
-    tt)))))))))))
+    tt))))))))))
 
 child_read : (is_needed : Bool) (d : Data) → IfOk (child_from is_needed d) IsPrintableRefusal
 unfolding child_from
@@ -208,9 +204,8 @@ child_read is_needed d =
     then_any IsPrintableRefusal (required id_from Key.CorrelationId d) _ (λ correlation.
     then_any IsPrintableRefusal (required error_from Key.ErrorId d) _ (λ error.
     then_any IsPrintableRefusal (required name_from Key.NsaId d) _ (λ nsa.
-    then_any IsPrintableRefusal (required name_from Key.ProviderNsa d) _ (λ provider.
-    then_any IsPrintableRefusal (required name_from Key.RequesterNsa d) _ (λ requester.
-    tt))))))))
+    then_any IsPrintableRefusal (header_from correlation d) _ (λ header.
+    tt)))))))
 
 refused_read : (is_needed : Bool) (d : Data) → IfOk (refused_from is_needed d) IsPrintableRefusal
 unfolding refused_from
@@ -253,11 +248,10 @@ timeout_read d =
     then_any IsPrintable (required count_from Key.NotificationId d) _ (λ notification.
     then_any IsPrintable (required id_from Key.OriginatingConnectionId d) _ (λ originating_connection.
     then_any IsPrintable (required name_from Key.OriginatingNsa d) _ (λ originating_nsa.
-    then_any IsPrintable (required name_from Key.ProviderNsa d) _ (λ provider.
-    then_any IsPrintable (required name_from Key.RequesterNsa d) _ (λ requester.
+    then_any IsPrintable (header_from correlation d) _ (λ header.
     then_any IsPrintable (required second_from Key.TimeStamp d) _ (λ time.
     then_any IsPrintable (required hold_from Key.TimeoutValue d) _ (λ value.
-    tt)))))))))
+    tt))))))))
 
 fault_read : (d : Data) → IfOk (fault_from d) IsPrintable
 unfolding fault_from
@@ -268,10 +262,9 @@ fault_read d =
     then_any IsPrintable (required count_from Key.NotificationId d) _ (λ notification.
     then_any IsPrintable (required id_from Key.OriginatingConnectionId d) _ (λ originating_connection.
     then_any IsPrintable (required name_from Key.OriginatingNsa d) _ (λ originating_nsa.
-    then_any IsPrintable (required name_from Key.ProviderNsa d) _ (λ provider.
-    then_any IsPrintable (required name_from Key.RequesterNsa d) _ (λ requester.
+    then_any IsPrintable (header_from correlation d) _ (λ header.
     then_any IsPrintable (required second_from Key.TimeStamp d) _ (λ time.
-    tt)))))))))
+    tt))))))))
 
 plane_read : (d : Data) → IfOk (plane_from d) IsPrintable
 unfolding plane_from
@@ -280,12 +273,11 @@ plane_read d =
     then_any IsPrintable (required id_from Key.ConnectionId d) _ (λ connection.
     then_any IsPrintable (required id_from Key.CorrelationId d) _ (λ correlation.
     then_any IsPrintable (required count_from Key.NotificationId d) _ (λ notification.
-    then_any IsPrintable (required name_from Key.ProviderNsa d) _ (λ provider.
-    then_any IsPrintable (required name_from Key.RequesterNsa d) _ (λ requester.
+    then_any IsPrintable (header_from correlation d) _ (λ header.
     then_any IsPrintable (required second_from Key.TimeStamp d) _ (λ time.
     then_any IsPrintable (required version_from Key.Version d) _ (λ version.
     then_any IsPrintable (required flag_from Key.VersionConsistent d) _ (λ consistent.
-    tt)))))))))
+    tt))))))))
 
 delivery_read : (d : Data) → IfOk (delivery_from d) IsPrintable
 unfolding delivery_from
@@ -294,10 +286,9 @@ delivery_read d =
     then_any IsPrintable (required id_from Key.CorrelationId d) _ (λ correlation.
     then_any IsPrintable (required id_from Key.DeliveryCorrelationId d) _ (λ delivery.
     then_any IsPrintable (required count_from Key.NotificationId d) _ (λ notification.
-    then_any IsPrintable (required name_from Key.ProviderNsa d) _ (λ provider.
-    then_any IsPrintable (required name_from Key.RequesterNsa d) _ (λ requester.
+    then_any IsPrintable (header_from correlation d) _ (λ header.
     then_any IsPrintable (required second_from Key.TimeStamp d) _ (λ time.
-    tt)))))))
+    tt))))))
 
 ---- Rows
 
@@ -346,11 +337,10 @@ unfolding summary_rows_from
 summary_rows_read d =
     then_any IsPrintable (required id_from Key.CorrelationId d) _ (λ correlation.
     then_any IsPrintable (required flag_from Key.More d) _ (λ more.
-    then_any IsPrintable (required name_from Key.ProviderNsa d) _ (λ provider.
-    then_any IsPrintable (required name_from Key.RequesterNsa d) _ (λ requester.
+    then_any IsPrintable (header_from correlation d) _ (λ header.
     then_any IsPrintable (required as_array Key.Reservations d) _ (λ items.
     then_with IsPrintable (All IsShortRow) (formed Key.Reservations (each_from summary_row_from items)) _ (list_short _ (each_short items)) (λ rows p.
-    p))))))
+    p)))))
 
 recursive_rows_read : (d : Data) → IfOk (recursive_rows_from d) IsPrintable
 unfolding recursive_rows_from
@@ -358,11 +348,10 @@ recursive_rows_read d =
     then_any IsPrintable (required id_from Key.ConnectionId d) _ (λ connection.
     then_any IsPrintable (required id_from Key.CorrelationId d) _ (λ correlation.
     then_any IsPrintable (required flag_from Key.More d) _ (λ more.
-    then_any IsPrintable (required name_from Key.ProviderNsa d) _ (λ provider.
-    then_any IsPrintable (required name_from Key.RequesterNsa d) _ (λ requester.
+    then_any IsPrintable (header_from correlation d) _ (λ header.
     then_any IsPrintable (required as_array Key.Reservations d) _ (λ items.
     then_any IsPrintable (formed Key.Reservations (each_from recursive_row_from items)) _ (λ rows.
-    tt)))))))
+    tt))))))
 
 notice_rows_read : (d : Data) → IfOk (notice_rows_from d) IsPrintable
 unfolding notice_rows_from
@@ -372,9 +361,8 @@ notice_rows_read d =
     then_any IsPrintable (required flag_from Key.More d) _ (λ more.
     then_any IsPrintable (required as_array Key.Notifications d) _ (λ items.
     then_any IsPrintable (formed Key.Notifications (each_from notice_from items)) _ (λ rows.
-    then_any IsPrintable (required name_from Key.ProviderNsa d) _ (λ provider.
-    then_any IsPrintable (required name_from Key.RequesterNsa d) _ (λ requester.
-    tt)))))))
+    then_any IsPrintable (header_from correlation d) _ (λ header.
+    tt))))))
 
 outcome_rows_read : (d : Data) → IfOk (outcome_rows_from d) IsPrintable
 unfolding outcome_rows_from
@@ -382,11 +370,10 @@ outcome_rows_read d =
     then_any IsPrintable (required id_from Key.ConnectionId d) _ (λ connection.
     then_any IsPrintable (required id_from Key.CorrelationId d) _ (λ correlation.
     then_any IsPrintable (required flag_from Key.More d) _ (λ more.
-    then_any IsPrintable (required name_from Key.ProviderNsa d) _ (λ provider.
-    then_any IsPrintable (required name_from Key.RequesterNsa d) _ (λ requester.
+    then_any IsPrintable (header_from correlation d) _ (λ header.
     then_any IsPrintable (required as_array Key.Results d) _ (λ items.
     then_any IsPrintable (formed Key.Results (each_from outcome_from items)) _ (λ rows.
-    tt)))))))
+    tt))))))
 
 ---- Parcels
 

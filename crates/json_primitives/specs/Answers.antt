@@ -12,6 +12,7 @@ use Rattle.json_fields.specs.Keys.{name_of}
 use Rattle.json_fields.specs.Fields.{required, optional, wrapped, id_from, name_from, text_from, capacity_from, second_from, time_from, version_from, count_from, flag_from, directionality_from, error_from, plain_error_from, flow_from}
 use Rattle.json_fields.specs.declared.key.Key.{Key}
 use Rattle.json_fields.specs.declared.fault.LineFault.{LineFault}
+use Rattle.json_primitives.specs.Headers.{header_from}
 use Rattle.json_primitives.specs.declared.reading.answers.Refusal.{Refusal}
 
 unfoldable pub confirmation_from : Data → Result Message LineFault
@@ -24,14 +25,13 @@ confirmation_from d = do
   directionality ← required directionality_from Key.Directionality d
   end ← required time_from Key.EndTime d
   global ← optional (text_from 128) Key.GlobalReservationId d
-  provider ← required name_from Key.ProviderNsa d
-  requester ← required name_from Key.RequesterNsa d
+  header ← header_from correlation d
   source ← required name_from Key.SourceStp d
   start ← required time_from Key.StartTime d
   symmetric ← optional flag_from Key.SymmetricPath d
   version ← required version_from Key.Version d
   Ok (record {
-    header = record { correlation = correlation; requester = requester; provider = provider };
+    header = header;
     body = Body.ReserveConfirmed (record { capacity = capacity; connection = connection; description = description; dest = dest; directionality = directionality; end = end; global = global; source = source; start = start; symmetric = symmetric; version = version });
   })
 
@@ -49,10 +49,9 @@ plain_from is_needed d = do
   correlation ← required id_from Key.CorrelationId d
   error ← required plain_error_from Key.ErrorId d
   nsa ← required name_from Key.NsaId d
-  provider ← required name_from Key.ProviderNsa d
-  requester ← required name_from Key.RequesterNsa d
+  header ← header_from correlation d
   Ok (record {
-    header = record { correlation = correlation; requester = requester; provider = provider };
+    header = header;
     connection = connection;
     exception = record { nsa = nsa; cause = Cause.Plain error };
   })
@@ -72,12 +71,11 @@ lack_from is_needed d = do
   error ← required error_from Key.ErrorId d
   load ← required count_from Key.Load d
   nsa ← required name_from Key.NsaId d
-  provider ← required name_from Key.ProviderNsa d
-  requester ← required name_from Key.RequesterNsa d
+  header ← header_from correlation d
   second ← required second_from Key.Second d
   stp ← required name_from Key.Stp d
   Ok (record {
-    header = record { correlation = correlation; requester = requester; provider = provider };
+    header = header;
     connection = connection;
     exception = record { nsa = nsa; cause = Cause.Bandwidth stp (flow_or_both flow) second load capacity };
   })
@@ -91,10 +89,9 @@ child_from is_needed d = do
   correlation ← required id_from Key.CorrelationId d
   error ← required error_from Key.ErrorId d
   nsa ← required name_from Key.NsaId d
-  provider ← required name_from Key.ProviderNsa d
-  requester ← required name_from Key.RequesterNsa d
+  header ← header_from correlation d
   Ok (record {
-    header = record { correlation = correlation; requester = requester; provider = provider };
+    header = header;
     connection = connection;
     exception = record { nsa = nsa; cause = Cause.Child child child_error };
   })

@@ -5,18 +5,18 @@ use Rattle.nsi_primitive.specs.declared.message.Header.{Header}
 use Rattle.nsi_primitive.specs.declared.message.Body.{Body}
 use Rattle.nsi_primitive.specs.declared.message.Message.{Message}
 use Rattle.json_fields.specs.Faults.{◌>>=◌}
-use Rattle.json_fields.specs.Fields.{required, id_from, name_from}
+use Rattle.json_fields.specs.Fields.{required, id_from}
 use Rattle.json_fields.specs.declared.key.Key.{Key}
 use Rattle.json_fields.specs.declared.fault.LineFault.{LineFault}
+use Rattle.json_primitives.specs.Headers.{header_from}
 
 -- the connection and the header
 unfoldable pub connected_from : Data → Result (ℕ × Header) LineFault
 connected_from d = do
   connection ← required id_from Key.ConnectionId d
   correlation ← required id_from Key.CorrelationId d
-  provider ← required name_from Key.ProviderNsa d
-  requester ← required name_from Key.RequesterNsa d
-  Ok (connection, record { correlation = correlation; requester = requester; provider = provider })
+  header ← header_from correlation d
+  Ok (connection, header)
 
 -- the message whose body says the connection
 unfoldable pub about : (ℕ → Body) → Data → Result Message LineFault

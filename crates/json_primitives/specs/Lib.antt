@@ -1,3 +1,4 @@
+pub mod Headers
 pub mod Requests
 pub mod Connected
 pub mod Answers

@@ -7,6 +7,7 @@ use Rattle.json_fields.specs.Faults.{◌>>=◌}
 use Rattle.json_fields.specs.Fields.{required, id_from, name_from, second_from, version_from, hold_from, count_from, flag_from, event_from}
 use Rattle.json_fields.specs.declared.key.Key.{Key}
 use Rattle.json_fields.specs.declared.fault.LineFault.{LineFault}
+use Rattle.json_primitives.specs.Headers.{header_from}
 
 unfoldable pub timeout_from : Data → Result Message LineFault
 timeout_from d = do
@@ -15,12 +16,11 @@ timeout_from d = do
   notification ← required count_from Key.NotificationId d
   originating_connection ← required id_from Key.OriginatingConnectionId d
   originating_nsa ← required name_from Key.OriginatingNsa d
-  provider ← required name_from Key.ProviderNsa d
-  requester ← required name_from Key.RequesterNsa d
+  header ← header_from correlation d
   time ← required second_from Key.TimeStamp d
   value ← required hold_from Key.TimeoutValue d
   Ok (record {
-    header = record { correlation = correlation; requester = requester; provider = provider };
+    header = header;
     body = Body.ReserveTimeout (record { connection = connection; notification = notification; originating_connection = originating_connection; originating_nsa = originating_nsa; time = time; value = value });
   })
 
@@ -32,11 +32,10 @@ fault_from d = do
   notification ← required count_from Key.NotificationId d
   originating_connection ← required id_from Key.OriginatingConnectionId d
   originating_nsa ← required name_from Key.OriginatingNsa d
-  provider ← required name_from Key.ProviderNsa d
-  requester ← required name_from Key.RequesterNsa d
+  header ← header_from correlation d
   time ← required second_from Key.TimeStamp d
   Ok (record {
-    header = record { correlation = correlation; requester = requester; provider = provider };
+    header = header;
     body = Body.ErrorEvent (record { connection = connection; event = event; notification = notification; originating_connection = originating_connection; originating_nsa = originating_nsa; time = time });
   })
 
@@ -46,13 +45,12 @@ plane_from d = do
   connection ← required id_from Key.ConnectionId d
   correlation ← required id_from Key.CorrelationId d
   notification ← required count_from Key.NotificationId d
-  provider ← required name_from Key.ProviderNsa d
-  requester ← required name_from Key.RequesterNsa d
+  header ← header_from correlation d
   time ← required second_from Key.TimeStamp d
   version ← required version_from Key.Version d
   consistent ← required flag_from Key.VersionConsistent d
   Ok (record {
-    header = record { correlation = correlation; requester = requester; provider = provider };
+    header = header;
     body = Body.DataPlaneStateChange (record { active = active; connection = connection; notification = notification; time = time; version = version; consistent = consistent });
   })
 
@@ -62,10 +60,9 @@ delivery_from d = do
   correlation ← required id_from Key.CorrelationId d
   delivery ← required id_from Key.DeliveryCorrelationId d
   notification ← required count_from Key.NotificationId d
-  provider ← required name_from Key.ProviderNsa d
-  requester ← required name_from Key.RequesterNsa d
+  header ← header_from correlation d
   time ← required second_from Key.TimeStamp d
   Ok (record {
-    header = record { correlation = correlation; requester = requester; provider = provider };
+    header = header;
     body = Body.MessageDeliveryTimeout (record { connection = connection; delivery = delivery; notification = notification; time = time });
   })

@@ -8,6 +8,7 @@ use Rattle.json_fields.specs.Faults.{◌>>=◌}
 use Rattle.json_fields.specs.Fields.{required, optional, wrapped, id_from, name_from, text_from, capacity_from, time_from, version_from, flag_from, directionality_from, empty_list_from}
 use Rattle.json_fields.specs.declared.key.Key.{Key}
 use Rattle.json_fields.specs.declared.fault.LineFault.{LineFault}
+use Rattle.json_primitives.specs.Headers.{header_from}
 
 -- a point, which a reserve has to name where it names no connection
 abbrev pub point_from : Option ℕ → Key → Data → Result (Option (List ℕ)) LineFault
@@ -36,13 +37,12 @@ reserve_from d = do
   end ← required time_from Key.EndTime d
   ero ← optional empty_list_from Key.Ero d
   global ← optional (text_from 128) Key.GlobalReservationId d
-  provider ← required name_from Key.ProviderNsa d
-  requester ← required name_from Key.RequesterNsa d
+  header ← header_from correlation d
   source ← point_from connection Key.SourceStp d
   start ← required time_from Key.StartTime d
   symmetric ← optional flag_from Key.SymmetricPath d
   version ← optional version_from Key.Version d
   between source dest (record {
-    header = record { correlation = correlation; requester = requester; provider = provider };
+    header = header;
     body = Body.Reserve (record { capacity = capacity; connection = connection; description = description; dest = dest; directionality = directionality; end = end; global = global; source = source; start = start; symmetric = symmetric; version = version });
   })

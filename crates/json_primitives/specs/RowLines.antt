@@ -13,6 +13,7 @@ use Rattle.json_fields.specs.Fields.{formed, required, optional, id_from, name_f
 use Rattle.json_fields.specs.RowFields.{rsm_from, psm_from, lsm_from, depth_from, each_from}
 use Rattle.json_fields.specs.declared.key.Key.{Key}
 use Rattle.json_fields.specs.declared.fault.LineFault.{LineFault}
+use Rattle.json_primitives.specs.Headers.{header_from}
 
 ---- Rows
 
@@ -69,22 +70,20 @@ unfoldable pub summary_rows_from : Data → Result Message LineFault
 summary_rows_from d = do
   correlation ← required id_from Key.CorrelationId d
   more ← required flag_from Key.More d
-  provider ← required name_from Key.ProviderNsa d
-  requester ← required name_from Key.RequesterNsa d
+  header ← header_from correlation d
   items ← required as_array Key.Reservations d
   rows ← formed Key.Reservations (each_from summary_row_from items)
-  Ok (record { header = record { correlation = correlation; requester = requester; provider = provider }; body = Body.QuerySummaryConfirmed more rows })
+  Ok (record { header = header; body = Body.QuerySummaryConfirmed more rows })
 
 unfoldable pub recursive_rows_from : Data → Result Message LineFault
 recursive_rows_from d = do
   connection ← required id_from Key.ConnectionId d
   correlation ← required id_from Key.CorrelationId d
   more ← required flag_from Key.More d
-  provider ← required name_from Key.ProviderNsa d
-  requester ← required name_from Key.RequesterNsa d
+  header ← header_from correlation d
   items ← required as_array Key.Reservations d
   rows ← formed Key.Reservations (each_from recursive_row_from items)
-  Ok (record { header = record { correlation = correlation; requester = requester; provider = provider }; body = Body.QueryRecursiveConfirmed connection more rows })
+  Ok (record { header = header; body = Body.QueryRecursiveConfirmed connection more rows })
 
 unfoldable pub notice_rows_from : Data → Result Message LineFault
 notice_rows_from d = do
@@ -93,17 +92,15 @@ notice_rows_from d = do
   more ← required flag_from Key.More d
   items ← required as_array Key.Notifications d
   rows ← formed Key.Notifications (each_from notice_from items)
-  provider ← required name_from Key.ProviderNsa d
-  requester ← required name_from Key.RequesterNsa d
-  Ok (record { header = record { correlation = correlation; requester = requester; provider = provider }; body = Body.QueryNotificationConfirmed connection more rows })
+  header ← header_from correlation d
+  Ok (record { header = header; body = Body.QueryNotificationConfirmed connection more rows })
 
 unfoldable pub outcome_rows_from : Data → Result Message LineFault
 outcome_rows_from d = do
   connection ← required id_from Key.ConnectionId d
   correlation ← required id_from Key.CorrelationId d
   more ← required flag_from Key.More d
-  provider ← required name_from Key.ProviderNsa d
-  requester ← required name_from Key.RequesterNsa d
+  header ← header_from correlation d
   items ← required as_array Key.Results d
   rows ← formed Key.Results (each_from outcome_from items)
-  Ok (record { header = record { correlation = correlation; requester = requester; provider = provider }; body = Body.QueryResultConfirmed connection more rows })
+  Ok (record { header = header; body = Body.QueryResultConfirmed connection more rows })

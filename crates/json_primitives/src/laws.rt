@@ -10,6 +10,8 @@ ghost use Rattle.json_primitives.specs.Spelling.{spelling, parcel_spelling};
 
 /// The line of a message or an acknowledgement is read as what it was written for, whatever type holds that.
 pub fn lines_are_read_again()
-    ensures messages { (m : Message) → IsSpellable m → object_of (spelling m) ≡ Ok (Parcel.Message m) }
-    ensures acks { (i : Identity) → IsRangedIdentity i → object_of (parcel_spelling (Parcel.Ack i)) ≡ Ok (Parcel.Ack i) }
+    ensures messages { (m : Message) → IsSpellable m
+        → object_of (spelling m) ≡ Ok (Parcel.Message m) }
+    ensures acks { (i : Identity) → IsRangedIdentity i
+        → object_of (parcel_spelling (Parcel.Ack i)) ≡ Ok (Parcel.Ack i) }
 {}

@@ -59,7 +59,8 @@ pub fn print_ack(alloc: Global, identity: &Identity) -> Result<Vec<u8>, AllocErr
 
 #[tactic(auto, unfolding(json_fields::specs::Objects::with_fields))]
 fn ack_of(alloc: Global, identity: &Identity) -> Result<JsonObject, AllocError>
-    ensures fields { IfOk result (λ o. members_of o ≡ with_fields no_members (ack_fields identity.now)) }
+    ensures fields { IfOk result (λ o.
+        members_of o ≡ with_fields no_members (ack_fields identity.now)) }
     ensures valid { OnOk result (IsValidIdentity identity.now) }
 {
     let mut object = JsonObject::new(alloc);
@@ -72,7 +73,8 @@ fn ack_of(alloc: Global, identity: &Identity) -> Result<JsonObject, AllocError>
 }
 
 fn object_of(alloc: Global, message: &Message) -> Result<JsonObject, AllocError>
-    ensures fields { IfOk result (λ o. members_of o ≡ with_fields no_members (fields_of message.now)) }
+    ensures fields { IfOk result (λ o.
+        members_of o ≡ with_fields no_members (fields_of message.now)) }
     ensures valid { OnOk result (IsValid message.now) }
 {
     let mut object = JsonObject::new(alloc);
@@ -88,7 +90,8 @@ fn put_header(
     kind: Kind,
     header: &Header,
 ) -> Result<(), AllocError>
-    ensures put { OnOk result (members_of object.new ≡ with_fields (members_of object.old) (header_fields kind header.now)) }
+    ensures put { OnOk result (members_of object.new
+        ≡ with_fields (members_of object.old) (header_fields kind header.now)) }
     ensures valid { OnOk result (IsValidHeader header.now) }
 {
     object.put_id(alloc, Key::CorrelationId, header.correlation)?;
@@ -99,7 +102,8 @@ fn put_header(
 
 #[tactic(auto, unfolding(json_fields::specs::Objects::with_fields))]
 fn put_body(alloc: Global, object: &mut JsonObject, body: &Body) -> Result<(), AllocError>
-    ensures put { OnOk result (members_of object.new ≡ with_fields (members_of object.old) (body_fields body.now)) }
+    ensures put { OnOk result (members_of object.new
+        ≡ with_fields (members_of object.old) (body_fields body.now)) }
     ensures valid { OnOk result (IsValidBody body.now) }
 {
     match body {
@@ -138,7 +142,8 @@ fn put_body(alloc: Global, object: &mut JsonObject, body: &Body) -> Result<(), A
 /// What answers and notifications have, rows aside.
 #[tactic(auto, unfolding(json_fields::specs::Objects::with_fields))]
 fn put_told(alloc: Global, object: &mut JsonObject, body: &Body) -> Result<(), AllocError>
-    ensures put { OnOk result (members_of object.new ≡ with_fields (members_of object.old) (told_fields body.now)) }
+    ensures put { OnOk result (members_of object.new
+        ≡ with_fields (members_of object.old) (told_fields body.now)) }
     ensures valid { OnOk result (IsValidTold body.now) }
 {
     match body {

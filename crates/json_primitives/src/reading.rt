@@ -1,6 +1,6 @@
 //! From the bytes of a line to a parcel.
 
-ghost use Rattle.std.specs.Prelude.{◌≡◌, IfOk, Some};
+ghost use Rattle.std.specs.Prelude.{IfOk, Some};
 ghost use Rattle.serde_json.specs.View.{view};
 ghost use Rattle.nsi_primitive.specs.Printable.{IsPrintable, IsPrintableParcel};
 ghost use Rattle.json_fields.specs.Faults.{Gives};
@@ -8,6 +8,7 @@ ghost use Rattle.json_primitives.specs.Lines.{line_of, object_of, parcel_from, o
 
 mod answers;
 mod connected;
+mod headers;
 mod notifications;
 mod queries;
 mod requests;

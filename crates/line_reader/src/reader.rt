@@ -69,16 +69,22 @@ impl LineReader {
     /// Takes the next line. What was read behind it is kept. After a failed read the next call reads on; after want of
     /// memory the reader is of no more use, since bytes may be lost.
     pub fn next<S: Source>(&mut self, alloc: Global, input: &mut S) -> Result<Next, ReadError>
-        ensures next { IfOk result (Takes (to_come self.old (S.left input.old)) (to_come self.new (S.left input.new))) }
-        ensures cut { IfOk result (Cuts (rest_of self.old (S.left input.old)) (rest_of self.new (S.left input.new))) }
-        ensures shrinks { IfOk result (λ next. is_line next ≡ true → budget self.new < budget self.old) }
+        ensures next { IfOk result
+            (Takes (to_come self.old (S.left input.old)) (to_come self.new (S.left input.new))) }
+        ensures cut { IfOk result
+            (Cuts (rest_of self.old (S.left input.old)) (rest_of self.new (S.left input.new))) }
+        ensures shrinks { IfOk result (λ next.
+            is_line next ≡ true → budget self.new < budget self.old) }
         ensures failed { IsErrOf result ReadError.Failed → S.faults input.old < S.faults input.new }
         ensures counted { S.faults input.old ≤ S.faults input.new }
         ensures quiet { OnOk result (S.faults input.new ≡ S.faults input.old) }
-        ensures memory { IsErrOf result ReadError.NoMemory → S.faults input.new ≡ S.faults input.old }
+        ensures memory { IsErrOf result ReadError.NoMemory
+            → S.faults input.new ≡ S.faults input.old }
         // After a failed read the reader has all that it was given, and no whole line.
-        ensures reads_on { IsErrOf result ReadError.Failed → IsSame (to_come self.old (S.left input.old)) (to_come self.new (S.left input.new)) }
-        ensures keeps { IsErrOf result ReadError.Failed → IsSame (rest_of self.old (S.left input.old)) (rest_of self.new (S.left input.new)) }
+        ensures reads_on { IsErrOf result ReadError.Failed
+            → IsSame (to_come self.old (S.left input.old)) (to_come self.new (S.left input.new)) }
+        ensures keeps { IsErrOf result ReadError.Failed
+            → IsSame (rest_of self.old (S.left input.old)) (rest_of self.new (S.left input.new)) }
         ensures waits { IsErrOf result ReadError.Failed → feed_at self.new.bytes ≡ None }
     {
         'reading: loop {
@@ -99,7 +105,8 @@ impl LineReader {
     /// Takes the first line that has an end.
     fn take_line(&mut self, alloc: Global) -> Result<Option<Vec<u8>>, ReadError>
         ensures none { result ≡ Ok None → (self.new ≡ self.old) × (feed_at self.old.bytes ≡ None) }
-        ensures some { IfOk result (λ o. IfSome o (λ line. (i : ℕ) × (feed_at self.old.bytes ≡ Some i)
+        ensures some { IfOk result (λ o.
+            IfSome o (λ line. (i : ℕ) × (feed_at self.old.bytes ≡ Some i)
             × (line.items ≡ without_return (take i self.old.bytes))
             × (self.new ≡ record { bytes = drop (suc i) self.old.bytes; room = self.old.room }))) }
         ensures not_read { IsErrOf result ReadError.Failed → ⊥ }
@@ -155,12 +162,15 @@ impl LineReader {
 
     /// Reads on.
     fn fill<S: Source>(&mut self, alloc: Global, input: &mut S) -> Result<Filled, ReadError>
-        ensures filled { IfOk result (Fills self.old (S.left input.old) self.new (S.left input.new)) }
+        ensures filled { IfOk result
+            (Fills self.old (S.left input.old) self.new (S.left input.new)) }
         ensures failed { IsErrOf result ReadError.Failed → S.faults input.old < S.faults input.new }
         ensures quiet { OnOk result (S.faults input.new ≡ S.faults input.old) }
-        ensures memory { IsErrOf result ReadError.NoMemory → S.faults input.new ≡ S.faults input.old }
+        ensures memory { IsErrOf result ReadError.NoMemory
+            → S.faults input.new ≡ S.faults input.old }
         ensures same { IsErrOf result ReadError.Failed → self.new ≡ self.old }
-        ensures left { IsErrOf result ReadError.Failed → IsSame (S.left input.old) (S.left input.new) }
+        ensures left { IsErrOf result ReadError.Failed
+            → IsSame (S.left input.old) (S.left input.new) }
     {
         if self.room == 0 {
             return probe(input);
@@ -187,7 +197,8 @@ pub(crate) fn read_piece<S: Source>(
 ) -> Result<Vec<u8>, ReadError>
     requires { 0 < most }
     ensures few { IfOk result (λ piece. length piece.items ≤ most) }
-    ensures piece { IfOk result (λ piece. IsCutFrom (S.left input.old) (S.left input.new) piece.items) }
+    ensures piece { IfOk result (λ piece.
+        IsCutFrom (S.left input.old) (S.left input.new) piece.items) }
     ensures failed { IsErrOf result ReadError.Failed → S.faults input.old < S.faults input.new }
     ensures quiet { OnOk result (S.faults input.new ≡ S.faults input.old) }
     ensures memory { IsErrOf result ReadError.NoMemory → S.faults input.new ≡ S.faults input.old }
@@ -206,7 +217,8 @@ pub(crate) fn read_piece<S: Source>(
 
 /// Whether the input ends here.
 fn probe<S: Source>(input: &mut S) -> Result<Filled, ReadError>
-    ensures end { result ≡ Ok Filled.End → IfSome (S.left input.old) (λ bytes. (bytes ≡ []) × (S.left input.new ≡ Some [])) }
+    ensures end { result ≡ Ok Filled.End → IfSome (S.left input.old) (λ bytes.
+        (bytes ≡ []) × (S.left input.new ≡ Some [])) }
     ensures full { result ≡ Ok Filled.Full → IfSome (S.left input.old) (λ bytes. (bytes ≡ []) → ⊥) }
     ensures not_more { result ≡ Ok Filled.More → ⊥ }
     ensures failed { IsErrOf result ReadError.Failed → S.faults input.old < S.faults input.new }

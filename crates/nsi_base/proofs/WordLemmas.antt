@@ -1,9 +1,9 @@
 -- Words by their blanks.
-use Rattle.std.proofs.Common.{◌≡◌, ℕ, zero, suc, ◌+◌, ◌<◌, List, [], ◌∷◌, ◌++◌, true, false, cond, map, length, take, drop, sym, ◌∙◌, refl, ap, arith, slice_index, append_assoc, Bor, drop-drop}
+use Rattle.std.proofs.Common.{◌≡◌, ℕ, zero, suc, ◌+◌, ◌<◌, List, [], ◌∷◌, ◌++◌, true, cond, map, length, take, drop, sym, ◌∙◌, refl, ap, arith, slice_index, append_assoc, Bor, drop-drop}
 use Rattle.nsi_base.specs.declared.words.Blanks.{Blanks}
-use Rattle.nsi_base.specs.Words.{is_blank, words_of, with_front}
+use Rattle.nsi_base.specs.Words.{is_blank, words_of, with_front, HasNoBlank}
 
-pub cut : (blanks : Blanks) (bs : List ℕ) (k : ℕ) → k < length bs → is_blank blanks (slice_index bs k) ≡ true → ((j : ℕ) → j < k → is_blank blanks (slice_index bs j) ≡ false)
+pub cut : (blanks : Blanks) (bs : List ℕ) (k : ℕ) → k < length bs → is_blank blanks (slice_index bs k) ≡ true → HasNoBlank blanks bs k
     → words_of blanks bs ≡ take k bs ∷ words_of blanks (drop (suc k) bs)
 unfolding words_of
 cut blanks [] k l h f = absurd (omega arith)
@@ -11,7 +11,7 @@ cut blanks (b ∷ bs) zero l h f = ap (λ t. cond t ([] ∷ words_of blanks bs) 
 cut blanks (b ∷ bs) (suc k) l h f = ap (λ t. cond t ([] ∷ words_of blanks bs) (with_front b (words_of blanks bs))) (f 0 (omega arith))
     ∙ ap (with_front b) (cut blanks bs k (omega arith) h (λ j i. f (suc j) (omega arith)))
 
-pub uncut : (blanks : Blanks) (bs : List ℕ) → ((j : ℕ) → j < length bs → is_blank blanks (slice_index bs j) ≡ false) → words_of blanks bs ≡ bs ∷ []
+pub uncut : (blanks : Blanks) (bs : List ℕ) → HasNoBlank blanks bs (length bs) → words_of blanks bs ≡ bs ∷ []
 unfolding words_of
 uncut blanks [] f = refl
 uncut blanks (b ∷ bs) f = ap (λ t. cond t ([] ∷ words_of blanks bs) (with_front b (words_of blanks bs))) (f 0 (omega arith))

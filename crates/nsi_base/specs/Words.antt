@@ -1,5 +1,5 @@
 -- Words between single blanks.
-use Rattle.std.specs.Prelude.{◌≡◌, ℕ, List, [], ◌∷◌, ◌++◌, Bool, true, ◌||◌, not, ◌==◌, if◌then◌else◌}
+use Rattle.std.specs.Prelude.{◌≡◌, ℕ, ◌<◌, List, [], ◌∷◌, ◌++◌, Bool, true, false, ◌||◌, not, ◌==◌, if◌then◌else◌, length, slice_index}
 use Rattle.std.specs.List.{list_all, AllByRecursion}
 use Rattle.nsi_base.specs.declared.words.Blanks.{Blanks}
 use Rattle.nsi_base.specs.declared.words.Blanks.TheVariants.{Space, SpaceOrTab}
@@ -7,6 +7,16 @@ use Rattle.nsi_base.specs.declared.words.Blanks.TheVariants.{Space, SpaceOrTab}
 abbrev pub is_blank : Blanks → ℕ → Bool
 is_blank Space b = b == 32
 is_blank SpaceOrTab b = b == 32 || b == 9
+
+-- none of the first bytes is a blank
+abbrev pub HasNoBlank : Blanks → List ℕ → ℕ → Type 0
+HasNoBlank blanks bytes count =
+    (j : ℕ) → j < count → is_blank blanks (slice_index bytes j) ≡ false
+
+-- the first blank of the bytes
+abbrev pub IsFirstBlank : Blanks → List ℕ → ℕ → Type 0
+IsFirstBlank blanks bytes k =
+    (k < length bytes) × (is_blank blanks (slice_index bytes k) ≡ true) × HasNoBlank blanks bytes k
 
 -- a byte in front of the first word
 abbrev pub with_front : ℕ → List (List ℕ) → List (List ℕ)
@@ -30,5 +40,6 @@ is_word blanks bytes = list_all (λ b. not (is_blank blanks b)) bytes
 -- words that are written with a space between them are read again
 abbrev pub AreReadAgain : Blanks → Type 0
 AreReadAgain blanks =
-    (word : List ℕ) (others : List (List ℕ)) → is_word blanks word ≡ true → AllByRecursion (λ w. is_word blanks w ≡ true) others
+    (word : List ℕ) (others : List (List ℕ)) → is_word blanks word ≡ true
+    → AllByRecursion (λ w. is_word blanks w ≡ true) others
     → words_of blanks (word ++ behind others) ≡ word ∷ others

@@ -63,9 +63,11 @@ impl<T> List<T> {
         self.items.truncate(count);
     }
 
-    /// Where the list takes its memory from.
-    pub fn allocator(&self) -> Global {
-        *self.items.allocator()
+    /// An empty list, which takes its memory from where this one does.
+    pub fn new_alike(&self) -> Self
+        ensures { result ≡ [] }
+    {
+        List::new(*self.items.allocator())
     }
 
     pub fn items(&self) -> &[T]

@@ -1,7 +1,7 @@
 //! The words of a text between single blanks.
 
-ghost use Rattle.std.specs.Prelude.{◌≡◌, ℕ, ◌<◌, length, map, IfOk, IfSome, IfNone, slice_index, true, false};
-ghost use Rattle.nsi_base.specs.Words.{is_blank, words_of, AreReadAgain};
+ghost use Rattle.std.specs.Prelude.{◌≡◌, length, map, IfOk, IfSome, IfNone};
+ghost use Rattle.nsi_base.specs.Words.{is_blank, words_of, HasNoBlank, IsFirstBlank, AreReadAgain};
 
 use std::alloc::{AllocError, Global};
 
@@ -24,8 +24,8 @@ impl Blanks {
 }
 
 fn first_blank(blanks: Blanks, bytes: &[u8]) -> Option<usize>
-    ensures found { IfSome result (λ k. (k < length bytes.now) × (is_blank blanks (slice_index bytes.now k) ≡ true) × ((j : ℕ) → j < k → is_blank blanks (slice_index bytes.now j) ≡ false)) }
-    ensures none { IfNone result ((j : ℕ) → j < length bytes.now → is_blank blanks (slice_index bytes.now j) ≡ false) }
+    ensures found { IfSome result (λ k. IsFirstBlank blanks bytes.now k) }
+    ensures none { IfNone result (HasNoBlank blanks bytes.now (length bytes.now)) }
 {
     for (i, b) in bytes.iter().enumerate() {
         if blanks.has(*b) {

@@ -40,6 +40,10 @@ MayLeave (CutTo n now h) c = (d : List ℕ) × MayLeave h d × IsTornCut n d c
 MayLeave (Synced h) c = c ≡ seen h
 MayLeave (Broke now h) c = MayLeave h c
 
+-- a file that was fetched anew after a crash
+abbrev pub IsImageOf : History → History → Type 0
+IsImageOf old new = (c : List ℕ) × MayLeave old c × (new ≡ Fresh c)
+
 -- the moment, as a number
 abbrev pub age : History → ℕ
 age (Fresh bytes) = 0
@@ -59,6 +63,18 @@ Since t (Broke now h) c = MayLeave (Broke now h) c ⊎ ((t ≤ age h) × Since t
 -- new is old with these bytes at this place
 abbrev pub written : ℕ → List ℕ → List ℕ → List ℕ
 written at piece old = take at old ++ piece ++ drop (at + length piece) old
+
+-- what a write of the piece makes of what was before
+abbrev pub wrote : ℕ → List ℕ → History → History
+wrote at piece h = Wrote at (length piece) (written at piece (seen h)) h
+
+-- what a cut to n bytes makes of what was before
+abbrev pub was_cut : ℕ → History → History
+was_cut n h = CutTo n (take n (seen h)) h
+
+-- what a call that failed or stopped, and changed nothing, makes of what was before
+abbrev pub went_wrong : History → History
+went_wrong h = Broke (seen h) h
 
 -- how many bytes a cut takes away, where that is told
 abbrev pub cut_away : Option History → ℕ → ℕ
@@ -110,6 +126,15 @@ pub record KeepsRoom {T : Type 0} (old new : Meter) (spent : ℕ) (result : Resu
   pub calls : new.calls ≡ old.calls - 1
   pub longest : new.longest ≡ old.longest
   pub bytes : old.bytes ≤ new.bytes + spent
+
+-- the same, where there is room for it
+abbrev pub KeepsRoomOf : {T : Type 0} → Option History → ℕ → ℕ → Meter → Meter → Result T DiskError → Type 0
+KeepsRoomOf history reach spent old new result =
+    HasRoom old history reach spent → KeepsRoom old new spent result
+
+-- the meter with this room
+abbrev pub with_room : ℕ → ℕ → ℕ → Meter → Meter
+with_room calls longest bytes m = record m { calls = calls; longest = longest; bytes = bytes }
 
 -- a crash at any moment since old leaves a file that has P
 pub record Leaves (old new : History) (P : List ℕ → Type 0) : Type 0 where

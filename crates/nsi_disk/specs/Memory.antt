@@ -1,5 +1,5 @@
 -- A disk in memory: its history, from what it reads, its past calls and the bytes that they overwrote.
-use Rattle.std.specs.Prelude.{◌≡◌, ℕ, Bool, true, false, ◌+◌, ◌-◌, ◌≤◌, List, [], ◌∷◌, ◌++◌, length, take, drop, reverse, vec_len, vec_capacity, Result, OnErr}
+use Rattle.std.specs.Prelude.{◌≡◌, ℕ, Bool, true, false, ◌+◌, ◌-◌, ◌≤◌, List, [], ◌∷◌, ◌++◌, length, take, drop, reverse, vec_len, vec_capacity, Result, OnOk, OnErr}
 use Rattle.nsi_disk.specs.Disk.{History, Fresh, Wrote, CutTo, Synced, Broke}
 use Rattle.nsi_disk.specs.declared.content.Past.{Past}
 use Rattle.nsi_disk.specs.declared.content.Past.TheVariants.{Write, Cut, Sync, Pause}
@@ -39,7 +39,16 @@ pub record HasSpace (calls longest more : ℕ) (c : Content) : Type 0 where
 -- a call that reaches so far and overwrites so many bytes needs no more than the room of one call
 abbrev pub TakesRoom : {T E : Type 0} → ℕ → ℕ → Content → Content → Result T E → Type 0
 TakesRoom reach spent old new result =
-    (calls longest more : ℕ) → HasSpace (calls + 1) longest (more + spent) old → reach ≤ longest → length (reads old) ≤ longest → OnErr result ⊥ × HasSpace calls longest more new
+    (calls longest more : ℕ) → HasSpace (calls + 1) longest (more + spent) old
+    → reach ≤ longest → length (reads old) ≤ longest → OnErr result ⊥ × HasSpace calls longest more new
+
+-- what a call leaves besides what it has been through at `Ok`: what it reads then, the same past after an error, and what is
+-- left of the room
+pub record LeavesContent {T E : Type 0} (now : List ℕ) (reach spent : ℕ) (old new : Content) (result : Result T E) : Type 0 where
+  pub reads : OnOk result (new.bytes.items ≡ now)
+  pub same : OnErr result (told_by new ≡ told_by old)
+  pub room : TakesRoom reach spent old new result
+  pub kept : (l : ℕ) → HasSpace 0 l 0 old → HasSpace 0 l 0 new
 
 abbrev pub is_sync : Past → Bool
 is_sync (Write at n k) = false

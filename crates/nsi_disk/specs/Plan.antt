@@ -14,6 +14,11 @@ pub record Planned : Type 0 where
   pub failing : List ℕ
   pub stopping : List Stop
 
+-- nothing was called yet, and so much is planned
+abbrev pub first_plan : List ℕ → List Stop → Planned
+first_plan failing stopping =
+    record { calls = 0; faults = 0; stops = 0; failing = failing; stopping = stopping }
+
 -- how many calls can be counted
 abbrev pub most_calls : ℕ
 most_calls = 18446744073709551615

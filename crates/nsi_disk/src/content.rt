@@ -1,8 +1,8 @@
 //! What a disk in memory reads, with its past calls and the bytes that they overwrote.
 
-ghost use Rattle.std.specs.Prelude.{◌≡◌, ◌≤◌, ◌<◌, ◌+◌, ◌-◌, List, ℕ, length, take, drop, min, IfOk, OnOk, OnErr, IsErr, vec_len, vec_capacity, ◌++◌};
+ghost use Rattle.std.specs.Prelude.{◌≡◌, ◌≤◌, ◌<◌, ◌+◌, ◌-◌, ℕ, length, take, OnOk, OnErr, vec_len, vec_capacity};
 ghost use Rattle.nsi_disk.specs.Disk.{Wrote, CutTo, Synced, Broke, written};
-ghost use Rattle.nsi_disk.specs.Memory.{told_by, reads, SameContent, HasSpace, TakesRoom, is_sync};
+ghost use Rattle.nsi_disk.specs.Memory.{told_by, reads, SameContent, HasSpace, LeavesContent, is_sync};
 
 use std::alloc::AllocError;
 
@@ -65,11 +65,11 @@ impl Content {
 
     pub fn write(&mut self, place: u64, piece: &[u8]) -> Result<(), AllocError>
         requires { place ≤ length (reads self.old) }
-        ensures done { OnOk result (told_by self.new ≡ Wrote place (length piece.now) (written place piece.now (reads self.old)) (told_by self.old)) }
-        ensures reads { OnOk result (reads self.new ≡ written place piece.now (reads self.old)) }
-        ensures same { OnErr result (told_by self.new ≡ told_by self.old) }
-        ensures room { TakesRoom (place + length piece.now) (length piece.now) self.old self.new result }
-        ensures kept { (l : ℕ) → HasSpace 0 l 0 self.old → HasSpace 0 l 0 self.new }
+        ensures done { OnOk result (told_by self.new
+            ≡ Wrote place (length piece.now) (written place piece.now (reads self.old))
+            (told_by self.old)) }
+        ensures leaves { LeavesContent (written place piece.now (reads self.old))
+            (place + length piece.now) (length piece.now) self.old self.new result }
     {
         let at = place as usize;
         let inside = piece.len().min(self.bytes.len() - at);
@@ -90,11 +90,10 @@ impl Content {
 
     pub fn cut(&mut self, len: u64) -> Result<(), AllocError>
         requires { len ≤ length (reads self.old) }
-        ensures done { OnOk result (told_by self.new ≡ CutTo len (take len (reads self.old)) (told_by self.old)) }
-        ensures reads { OnOk result (reads self.new ≡ take len (reads self.old)) }
-        ensures same { OnErr result (told_by self.new ≡ told_by self.old) }
-        ensures room { TakesRoom (len + 0) (length (reads self.old) - len) self.old self.new result }
-        ensures kept { (l : ℕ) → HasSpace 0 l 0 self.old → HasSpace 0 l 0 self.new }
+        ensures done { OnOk result (told_by self.new
+            ≡ CutTo len (take len (reads self.old)) (told_by self.old)) }
+        ensures leaves { LeavesContent (take len (reads self.old))
+            (len + 0) (length (reads self.old) - len) self.old self.new result }
     {
         let at = len as usize;
         self.log.reserve(1)?;
@@ -111,9 +110,7 @@ impl Content {
     pub fn sync(&mut self) -> Result<(), AllocError>
         ensures done { OnOk result (told_by self.new ≡ Synced (told_by self.old)) }
         ensures reads { reads self.new ≡ reads self.old }
-        ensures same { OnErr result (told_by self.new ≡ told_by self.old) }
-        ensures room { TakesRoom 0 0 self.old self.new result }
-        ensures kept { (l : ℕ) → HasSpace 0 l 0 self.old → HasSpace 0 l 0 self.new }
+        ensures leaves { LeavesContent (reads self.old) 0 0 self.old self.new result }
     {
         self.log.reserve(1)?;
         self.log.push_reserved(Past::Sync);
@@ -123,9 +120,7 @@ impl Content {
     pub fn pause(&mut self) -> Result<(), AllocError>
         ensures done { OnOk result (told_by self.new ≡ Broke (reads self.old) (told_by self.old)) }
         ensures reads { reads self.new ≡ reads self.old }
-        ensures same { OnErr result (told_by self.new ≡ told_by self.old) }
-        ensures room { TakesRoom 0 0 self.old self.new result }
-        ensures kept { (l : ℕ) → HasSpace 0 l 0 self.old → HasSpace 0 l 0 self.new }
+        ensures leaves { LeavesContent (reads self.old) 0 0 self.old self.new result }
     {
         self.log.reserve(1)?;
         self.log.push_reserved(Past::Pause);

@@ -1,8 +1,8 @@
 //! A file, and what a crash may leave of it.
 
-ghost use Rattle.std.specs.Prelude.{◌≡◌, ◌≤◌, ◌+◌, List, ℕ, Option, length, take, drop, IfSome, IfOk, OnOk, OnErr, IsErrOf};
+ghost use Rattle.std.specs.Prelude.{◌≡◌, ◌≤◌, ◌+◌, Option, length, take, drop, IfSome, IfOk, OnOk, OnErr};
 ghost use Rattle.nsi_disk.specs.declared.disk.DiskError.TheVariants.{NoMemory as NoRoom};
-ghost use Rattle.nsi_disk.specs.Disk.{History, Meter, MayLeave, Wrote, CutTo, Synced, Broke, seen, written, cut_away, Steps, HasCause, HasRoom, KeepsRoom};
+ghost use Rattle.nsi_disk.specs.Disk.{History, Meter, MayLeave, Wrote, CutTo, Synced, Broke, seen, wrote, was_cut, cut_away, Steps, HasCause, KeepsRoomOf, with_room};
 
 use std::alloc::AllocError;
 
@@ -33,40 +33,49 @@ pub trait Disk {
         ensures length { IfSome (history self.old) (λ h. IfOk result (λ n. n ≡ length (seen h))) }
         ensures steps { Steps Broke (λ h. h) (history self.old) (history self.new) result }
         ensures cause { HasCause (meter self.old) (meter self.new) result }
-        ensures room { HasRoom (meter self.old) (history self.old) 0 0 → KeepsRoom (meter self.old) (meter self.new) 0 result };
+        ensures room { KeepsRoomOf (history self.old) 0 0
+            (meter self.old) (meter self.new) result };
 
     /// Fills the buffer with the bytes from this place on.
     fn read_at(&mut self, place: u64, buffer: &mut [u8]) -> Result<(), DiskError>
         requires { IfSome (history self.old) (λ h. place + length buffer.old ≤ length (seen h)) }
-        ensures read { IfSome (history self.old) (λ h. OnOk result (buffer.new ≡ take (length buffer.old) (drop place (seen h)))) }
+        ensures read { IfSome (history self.old) (λ h.
+            OnOk result (buffer.new ≡ take (length buffer.old) (drop place (seen h)))) }
         ensures steps { Steps Broke (λ h. h) (history self.old) (history self.new) result }
         ensures cause { HasCause (meter self.old) (meter self.new) result }
-        ensures room { HasRoom (meter self.old) (history self.old) (place + length buffer.old) 0 → KeepsRoom (meter self.old) (meter self.new) 0 result };
+        ensures room { KeepsRoomOf (history self.old) (place + length buffer.old) 0
+            (meter self.old) (meter self.new) result };
 
     /// Writes over what is there, and past the end.
     fn write_at(&mut self, place: u64, piece: &[u8]) -> Result<(), DiskError>
         requires { IfSome (history self.old) (λ h. place ≤ length (seen h)) }
-        ensures steps { Steps (Wrote place (length piece.now)) (λ h. Wrote place (length piece.now) (written place piece.now (seen h)) h) (history self.old) (history self.new) result }
+        ensures steps { Steps (Wrote place (length piece.now)) (λ h. wrote place piece.now h)
+            (history self.old) (history self.new) result }
         ensures cause { HasCause (meter self.old) (meter self.new) result }
-        ensures room { HasRoom (meter self.old) (history self.old) (place + length piece.now) (length piece.now) → KeepsRoom (meter self.old) (meter self.new) (length piece.now) result };
+        ensures room { KeepsRoomOf (history self.old) (place + length piece.now) (length piece.now)
+            (meter self.old) (meter self.new) result };
 
     /// Keeps the first `len` bytes.
     fn cut(&mut self, len: u64) -> Result<(), DiskError>
         requires { IfSome (history self.old) (λ h. len ≤ length (seen h)) }
-        ensures steps { Steps (CutTo len) (λ h. CutTo len (take len (seen h)) h) (history self.old) (history self.new) result }
+        ensures steps { Steps (CutTo len) (λ h. was_cut len h)
+            (history self.old) (history self.new) result }
         ensures cause { HasCause (meter self.old) (meter self.new) result }
-        ensures room { HasRoom (meter self.old) (history self.old) len (cut_away (history self.old) len) → KeepsRoom (meter self.old) (meter self.new) (cut_away (history self.old) len) result };
+        ensures room { KeepsRoomOf (history self.old) len (cut_away (history self.old) len)
+            (meter self.old) (meter self.new) result };
 
     /// After this a crash leaves what a read gives.
     fn sync(&mut self) -> Result<(), DiskError>
         ensures steps { Steps Broke Synced (history self.old) (history self.new) result }
         ensures cause { HasCause (meter self.old) (meter self.new) result }
-        ensures room { HasRoom (meter self.old) (history self.old) 0 0 → KeepsRoom (meter self.old) (meter self.new) 0 result };
+        ensures room { KeepsRoomOf (history self.old) 0 0
+            (meter self.old) (meter self.new) result };
 
     /// Takes the memory of so many further calls on a disk of at most the length `longest`, which write and cut away at
     /// most so many bytes. It is no call of the file: it isn't counted, and a stopped disk makes room too.
     fn make_room(&mut self, calls: u64, longest: u64, bytes: u64) -> Result<(), AllocError>
-        ensures ok { OnOk result (meter self.new ≡ record (meter self.old) { calls = calls; longest = longest; bytes = bytes }) }
+        ensures ok { OnOk result (meter self.new
+            ≡ with_room calls longest bytes (meter self.old)) }
         ensures err { OnErr result (meter self.new ≡ meter self.old) }
         ensures same { history self.new ≡ history self.old };
 

@@ -1,7 +1,7 @@
 //! A disk in memory.
 
-ghost use Rattle.std.specs.Prelude.{◌≡◌, ◌≤◌, ◌+◌, ℕ, Some, None, false, length, is_some, List, [], IfOk, OnOk, OnErr};
-ghost use Rattle.nsi_disk.specs.Disk.{Meter, Fresh, MayLeave, seen};
+ghost use Rattle.std.specs.Prelude.{◌≡◌, Some, false, IfOk};
+ghost use Rattle.nsi_disk.specs.Disk.{Fresh, MayLeave, seen};
 
 use crate::content::Content;
 use crate::plan::{Image, Plan, Stop};
@@ -22,7 +22,9 @@ pub struct MemoryDisk {
 }
 
 impl MemoryDisk {
+    ghost use Rattle.nsi_disk.specs.Disk.{IsImageOf};
     ghost use Rattle.nsi_disk.specs.DiskOf.{history_of, meter_of, plan_of, left_of};
+    ghost use Rattle.nsi_disk.specs.Plan.{first_plan};
 
     /// These bytes. The calls with the listed numbers, counted from 1, fail once each, and it stops where it is planned.
     pub fn new(alloc: Global, bytes: Vec<u8>, failing: Vec<u64>, stops: Vec<Stop>) -> MemoryDisk
@@ -31,7 +33,7 @@ impl MemoryDisk {
         ensures faults { (meter_of result).faults ≡ 0 }
         ensures stops { (meter_of result).stops ≡ 0 }
         ensures calls { (meter_of result).calls ≡ 0 }
-        ensures plan { plan_of result ≡ record { calls = 0; faults = 0; stops = 0; failing = failing.items; stopping = stops.items } }
+        ensures plan { plan_of result ≡ first_plan failing.items stops.items }
     {
         MemoryDisk {
             tape: Tape::new(alloc, bytes),
@@ -76,7 +78,7 @@ impl MemoryDisk {
 
     /// The disk after a crash now, with no room: the same plan, and the same counts.
     pub fn again(self, alloc: Global) -> Result<MemoryDisk, AllocError>
-        ensures image { IfOk result (λ d. (c : List ℕ) × MayLeave (history_of self) c × (history_of d ≡ Fresh c)) }
+        ensures image { IfOk result (λ d. IsImageOf (history_of self) (history_of d)) }
         ensures left { IfOk result (λ d. history_of d ≡ Fresh (left_of self)) }
         ensures runs { IfOk result (λ d. (meter_of d).stopped ≡ false) }
         ensures faults { IfOk result (λ d. (meter_of d).faults ≡ (meter_of self).faults) }

@@ -1,6 +1,6 @@
 //! A shelf of disks in memory.
 
-ghost use Rattle.std.specs.Prelude.{◌≡◌, ◌⊎◌, ◌<◌, List, ℕ, None, Some, [], ◌∷◌, Bool, true, false, IfOk, OnOk, OnErr, MatchOption, length, if◌then◌else◌, bytes_eq, is_some};
+ghost use Rattle.std.specs.Prelude.{◌≡◌, ◌<◌, List, ℕ, None, Some, true, IfOk, OnOk, OnErr, MatchOption, length, if◌then◌else◌, bytes_eq};
 ghost use Rattle.nsi_disk.specs.Shelf.{NoneBefore, FirstAt};
 
 use crate::memory::MemoryDisk;
@@ -34,7 +34,8 @@ pub struct MemoryShelf {
 
 /// The place of the first disk of this name.
 fn find(disks: &[NamedDisk], name: &Name) -> Option<usize>
-    ensures { MatchOption result (NoneBefore name.now disks.now (length disks.now)) (FirstAt name.now disks.now) }
+    ensures { MatchOption result
+        (NoneBefore name.now disks.now (length disks.now)) (FirstAt name.now disks.now) }
 {
     for (i, disk) in disks.iter().enumerate() {
         if disk.name.is(name) {
@@ -47,7 +48,7 @@ fn find(disks: &[NamedDisk], name: &Name) -> Option<usize>
 impl MemoryShelf {
     ghost use Rattle.nsi_disk.specs.Shelf.{held, content_of, is_listed};
     ghost use Rattle.nsi_disk.specs.ShelfOf.{disks_of, faults_of, stops_of};
-    ghost use Rattle.std.specs.Prelude.{◌≡◌, ◌⊎◌, IfOk, bytes_eq, OnOk, OnErr, true, false, List, ℕ, Bool, Some, None, MatchOption, if◌then◌else◌};
+    ghost use Rattle.std.specs.Prelude.{◌≡◌, IfOk, bytes_eq, OnOk, OnErr, true, List, ℕ, Some, None, MatchOption, if◌then◌else◌};
 
     /// These disks. Of what is fetched the listed calls fail.
     pub fn new(disks: Vec<NamedDisk>, failing: Vec<FailAt>) -> MemoryShelf
@@ -65,7 +66,8 @@ impl MemoryShelf {
 
     /// What is held under this name. A name that was fetched holds something, if only an empty file.
     pub fn content(&self, name: &Name) -> Option<&[u8]>
-        ensures { MatchOption result (held name.now (disks_of self.now) ≡ None) (λ bytes. held name.now (disks_of self.now) ≡ Some bytes.now) }
+        ensures { MatchOption result (held name.now (disks_of self.now) ≡ None)
+            (λ bytes. held name.now (disks_of self.now) ≡ Some bytes.now) }
     {
         for disk in &self.disks {
             if disk.name.is(name) {
@@ -88,9 +90,12 @@ impl MemoryShelf {
     /// Makes a place for this name, so that a disk of it can be put back without memory.
     fn list(&mut self, alloc: Global, name: &Name) -> Result<(), AllocError>
         ensures listed { OnOk result (is_listed name.now (disks_of self.new) ≡ true) }
-        ensures stays { (n : List ℕ) → is_listed n (disks_of self.old) ≡ true → is_listed n (disks_of self.new) ≡ true }
-        ensures same { (n : List ℕ) → content_of n (disks_of self.new) ≡ content_of n (disks_of self.old) }
-        ensures unlisted { OnErr result ((n : List ℕ) → is_listed n (disks_of self.new) ≡ is_listed n (disks_of self.old)) }
+        ensures stays { (n : List ℕ) → is_listed n (disks_of self.old) ≡ true
+            → is_listed n (disks_of self.new) ≡ true }
+        ensures same { (n : List ℕ) → content_of n (disks_of self.new)
+            ≡ content_of n (disks_of self.old) }
+        ensures unlisted { OnErr result ((n : List ℕ) → is_listed n (disks_of self.new)
+            ≡ is_listed n (disks_of self.old)) }
         ensures faults { faults_of self.new ≡ faults_of self.old }
         ensures stops { stops_of self.new ≡ stops_of self.old }
     {
@@ -118,8 +123,10 @@ impl MemoryShelf {
 
     fn put(&mut self, name: &Name, bytes: Vec<u8>)
         requires { is_listed name.now (disks_of self.old) ≡ true }
-        ensures held { (n : List ℕ) → content_of n (disks_of self.new) ≡ (if bytes_eq name.now n then bytes.items else content_of n (disks_of self.old)) }
-        ensures stays { (n : List ℕ) → is_listed n (disks_of self.new) ≡ is_listed n (disks_of self.old) }
+        ensures held { (n : List ℕ) → content_of n (disks_of self.new)
+            ≡ (if bytes_eq name.now n then bytes.items else content_of n (disks_of self.old)) }
+        ensures stays { (n : List ℕ) → is_listed n (disks_of self.new)
+            ≡ is_listed n (disks_of self.old) }
         ensures faults { faults_of self.new ≡ faults_of self.old }
         ensures stops { stops_of self.new ≡ stops_of self.old }
     {

@@ -1,6 +1,6 @@
 //! Which calls of a disk in memory fail, and at which it stops.
 
-ghost use Rattle.std.specs.Prelude.{◌≡◌, ◌≤◌, ◌<◌, ◌+◌, ℕ, IsTrue, IsErrOf, IfOk, IfSome, is_some, true, false, Bool, Option};
+ghost use Rattle.std.specs.Prelude.{◌≡◌, ◌≤◌, ◌<◌, ◌+◌, is_some, Option};
 ghost use Rattle.nsi_disk.specs.Plan.{Turn, planned_image};
 
 use crate::DiskError;

@@ -1,9 +1,8 @@
 //! What a disk in memory reads after a crash.
 
-ghost use Rattle.std.specs.Prelude.{◌≡◌, ◌≤◌, ◌+◌, ◌-◌, ◌++◌, ◌∷◌, [], ℕ, List, length, take, drop, replicate, IfOk, OnOk, OnErr, min, vec_len};
+ghost use Rattle.std.specs.Prelude.{◌≡◌, ◌+◌, ◌-◌, ◌++◌, ◌∷◌, [], List, IfOk};
 ghost use Rattle.nsi_disk.specs.declared.content.Past.{Past as PastCall};
 ghost use Rattle.nsi_disk.specs.Again.{blot, blotted};
-ghost use Rattle.nsi_disk.specs.Disk.{written};
 ghost use Rattle.nsi_disk.specs.Images.{old_image, torn_image, image_of, shows};
 ghost use Rattle.nsi_disk.specs.Memory.{told, told_by, before_write, made_by};
 
@@ -39,7 +38,9 @@ fn undo(
     saved: &mut Vec<u8>,
     past: Past,
 ) -> Result<Vec<u8>, AllocError>
-    ensures { IfOk result (λ v. (log : List PastCall) → told (log ++ past ∷ []) saved.old.items bytes.items ≡ made_by past bytes.items (told log saved.new.items v.items)) }
+    ensures { IfOk result (λ v. (log : List PastCall)
+        → told (log ++ past ∷ []) saved.old.items bytes.items
+        ≡ made_by past bytes.items (told log saved.new.items v.items)) }
 {
     match past {
         Past::Write { place, count, over } => {

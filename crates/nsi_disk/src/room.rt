@@ -1,7 +1,7 @@
 //! The room that a disk in memory has made for further calls.
 
-ghost use Rattle.std.specs.Prelude.{◌≡◌, ◌⊎◌, ◌≤◌, ◌<◌, ◌-◌, ◌+◌, ℕ};
-ghost use Rattle.nsi_disk.specs.Plan.{Within};
+ghost use Rattle.std.specs.Prelude.{◌≡◌, ◌⊎◌, ◌-◌, ◌+◌};
+ghost use Rattle.nsi_disk.specs.RoomOf.{WithinRoom};
 
 /// So many calls more, on a disk of at most the length `longest`, which write or cut away at most so many bytes.
 #[derive(Clone, Copy, Debug)]
@@ -24,9 +24,12 @@ impl Room {
     /// Uses the room of one call that touches `n` bytes at this place and spends so many, on a disk of that length. Where
     /// the call is out of the room, there is none left.
     pub fn take(&mut self, place: u64, n: usize, spent: usize, length: usize)
-        ensures fewer { Within self.old.calls self.old.longest self.old.bytes (place + n) spent length → self.new.calls ≡ self.old.calls - 1 }
-        ensures spends { Within self.old.calls self.old.longest self.old.bytes (place + n) spent length → self.new.bytes ≡ self.old.bytes - spent }
-        ensures tells { (Within self.old.calls self.old.longest self.old.bytes (place + n) spent length) ⊎ ((self.new.calls ≡ 0) × (self.new.bytes ≡ 0)) }
+        ensures fewer { WithinRoom self.old (place + n) spent length
+            → self.new.calls ≡ self.old.calls - 1 }
+        ensures spends { WithinRoom self.old (place + n) spent length
+            → self.new.bytes ≡ self.old.bytes - spent }
+        ensures tells { WithinRoom self.old (place + n) spent length
+            ⊎ ((self.new.calls ≡ 0) × (self.new.bytes ≡ 0)) }
         ensures longest { self.new.longest ≡ self.old.longest }
     {
         let longest = self.longest;

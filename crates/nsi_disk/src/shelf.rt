@@ -50,9 +50,11 @@ pub trait Shelf {
         name: &Name,
         planned: &[Stop],
     ) -> Result<Self::Disk, ShelfError>
-        ensures content { IfOk result (λ d. IfSome (holds self.old name.now) (λ bytes. Self.Disk.history d ≡ Some (Fresh bytes))) }
+        ensures content { IfOk result (λ d. IfSome (holds self.old name.now) (λ bytes.
+            Self.Disk.history d ≡ Some (Fresh bytes))) }
         ensures runs { IfOk result (λ d. (Self.Disk.meter d).stopped ≡ false) }
-        ensures counts { IfOk result (λ d. ((Self.Disk.meter d).faults ≡ 0) × ((Self.Disk.meter d).stops ≡ 0)) }
+        ensures counts { IfOk result (λ d.
+            ((Self.Disk.meter d).faults ≡ 0) × ((Self.Disk.meter d).stops ≡ 0)) }
         ensures listed { OnOk result (listed self.new name.now ≡ true) }
         ensures stays { (n : List ℕ) → listed self.old n ≡ true → listed self.new n ≡ true }
         ensures unlisted { OnErr result ((n : List ℕ) → listed self.new n ≡ listed self.old n) }
@@ -69,9 +71,12 @@ pub trait Shelf {
         name: &Name,
         disk: Self::Disk,
     ) -> Result<Self::Disk, ShelfError>
-        ensures image { IfOk result (λ d. IfSome (Self.Disk.history disk) (λ h. (c : List ℕ) × MayLeave h c × (Self.Disk.history d ≡ Some (Fresh c)))) }
+        ensures image { IfOk result (λ d. IfSome (Self.Disk.history disk) (λ h.
+            (c : List ℕ) × MayLeave h c × (Self.Disk.history d ≡ Some (Fresh c)))) }
         ensures runs { IfOk result (λ d. (Self.Disk.meter d).stopped ≡ false) }
-        ensures counts { IfOk result (λ d. ((Self.Disk.meter d).faults ≡ (Self.Disk.meter disk).faults) × ((Self.Disk.meter d).stops ≡ (Self.Disk.meter disk).stops)) }
+        ensures counts { IfOk result (λ d.
+            ((Self.Disk.meter d).faults ≡ (Self.Disk.meter disk).faults)
+            × ((Self.Disk.meter d).stops ≡ (Self.Disk.meter disk).stops)) }
         ensures stays { (n : List ℕ) → listed self.new n ≡ listed self.old n }
         ensures same { (n : List ℕ) → holds self.new n ≡ holds self.old n }
         ensures failed { IsErrOf result Failed → faults self.old < faults self.new }
@@ -83,7 +88,11 @@ pub trait Shelf {
     /// shelf's counts grow by the disk's.
     fn give_back(&mut self, name: &Name, disk: Self::Disk)
         requires { listed self.old name.now ≡ true }
-        ensures held { IfSome (Self.Disk.history disk) (λ h. (c : List ℕ) × MayLeave h c × ((Self.Disk.meter disk).stopped ≡ false → c ≡ seen h) × ((n : List ℕ) → holds self.new n ≡ (if bytes_eq name.now n then Some c else holds self.old n))) }
+        ensures held { IfSome (Self.Disk.history disk) (λ h.
+            (c : List ℕ) × MayLeave h c
+            × ((Self.Disk.meter disk).stopped ≡ false → c ≡ seen h)
+            × ((n : List ℕ) → holds self.new n
+            ≡ (if bytes_eq name.now n then Some c else holds self.old n))) }
         ensures stays { (n : List ℕ) → listed self.old n ≡ true → listed self.new n ≡ true }
         ensures faults { Raised (faults self.old) (Self.Disk.meter disk).faults (faults self.new) }
         ensures stops { Raised (stops self.old) (Self.Disk.meter disk).stops (stops self.new) };

@@ -1,10 +1,10 @@
 //! A content with room for further calls.
 
-ghost use Rattle.std.specs.Prelude.{◌≡◌, ◌≤◌, ◌+◌, ◌-◌, ℕ, length, take, OnOk, OnErr, IfOk};
-ghost use Rattle.nsi_disk.specs.Disk.{Fresh, Wrote, CutTo, Synced, Broke, seen, written};
+ghost use Rattle.std.specs.Prelude.{◌≡◌, ◌≤◌, ◌+◌, ◌-◌, length, OnOk, OnErr};
+ghost use Rattle.nsi_disk.specs.Disk.{Fresh, Synced, seen, wrote, was_cut, went_wrong};
 ghost use Rattle.nsi_disk.specs.Images.{Made, Made-prop};
-ghost use Rattle.nsi_disk.specs.Memory.{told_by, HasSpace, reads};
-ghost use Rattle.nsi_disk.specs.RoomOf.{SpendsRoom};
+ghost use Rattle.nsi_disk.specs.Memory.{told_by, HasSpace};
+ghost use Rattle.nsi_disk.specs.RoomOf.{SpendsRoom, GoesOn, room_of};
 
 use crate::content::Content;
 use crate::room::Room;
@@ -50,10 +50,10 @@ impl Tape {
 
     pub fn write(&mut self, place: u64, piece: &[u8]) -> Result<(), AllocError>
         requires { place ≤ length (seen (told_by self.old.content)) }
-        ensures done { OnOk result (told_by self.new.content ≡ Wrote place (length piece.now) (written place piece.now (seen (told_by self.old.content))) (told_by self.old.content)) }
-        ensures same { OnErr result (told_by self.new.content ≡ told_by self.old.content) }
-        ensures room { SpendsRoom (place + length piece.now) (length piece.now) (length (seen (told_by self.old.content))) self.old.room self.new.room result }
-        ensures longest { self.new.room.longest ≡ self.old.room.longest }
+        ensures goes_on { GoesOn (wrote place piece.now (told_by self.old.content))
+            self.old.content self.new.content self.old.room self.new.room result }
+        ensures room { SpendsRoom (place + length piece.now) (length piece.now)
+            (length (seen (told_by self.old.content))) self.old.room self.new.room result }
     {
         let length = self.content.bytes.len();
         self.room.take(place, piece.len(), piece.len(), length);
@@ -62,10 +62,10 @@ impl Tape {
 
     pub fn cut(&mut self, len: u64) -> Result<(), AllocError>
         requires { len ≤ length (seen (told_by self.old.content)) }
-        ensures done { OnOk result (told_by self.new.content ≡ CutTo len (take len (seen (told_by self.old.content))) (told_by self.old.content)) }
-        ensures same { OnErr result (told_by self.new.content ≡ told_by self.old.content) }
-        ensures room { SpendsRoom (len + 0) (length (seen (told_by self.old.content)) - len) (length (seen (told_by self.old.content))) self.old.room self.new.room result }
-        ensures longest { self.new.room.longest ≡ self.old.room.longest }
+        ensures goes_on { GoesOn (was_cut len (told_by self.old.content))
+            self.old.content self.new.content self.old.room self.new.room result }
+        ensures room { SpendsRoom (len + 0) (length (seen (told_by self.old.content)) - len)
+            (length (seen (told_by self.old.content))) self.old.room self.new.room result }
     {
         let length = self.content.bytes.len();
         self.room.take(len, 0, length - len as usize, length);
@@ -73,10 +73,10 @@ impl Tape {
     }
 
     pub fn sync(&mut self) -> Result<(), AllocError>
-        ensures done { OnOk result (told_by self.new.content ≡ Synced (told_by self.old.content)) }
-        ensures same { OnErr result (told_by self.new.content ≡ told_by self.old.content) }
-        ensures room { SpendsRoom 0 0 (length (seen (told_by self.old.content))) self.old.room self.new.room result }
-        ensures longest { self.new.room.longest ≡ self.old.room.longest }
+        ensures goes_on { GoesOn (Synced (told_by self.old.content))
+            self.old.content self.new.content self.old.room self.new.room result }
+        ensures room { SpendsRoom 0 0
+            (length (seen (told_by self.old.content))) self.old.room self.new.room result }
     {
         let length = self.content.bytes.len();
         self.room.take(0, 0, 0, length);
@@ -84,10 +84,10 @@ impl Tape {
     }
 
     pub fn pause(&mut self, place: u64, n: usize) -> Result<(), AllocError>
-        ensures done { OnOk result (told_by self.new.content ≡ Broke (seen (told_by self.old.content)) (told_by self.old.content)) }
-        ensures same { OnErr result (told_by self.new.content ≡ told_by self.old.content) }
-        ensures room { SpendsRoom (place + n) 0 (length (seen (told_by self.old.content))) self.old.room self.new.room result }
-        ensures longest { self.new.room.longest ≡ self.old.room.longest }
+        ensures goes_on { GoesOn (went_wrong (told_by self.old.content))
+            self.old.content self.new.content self.old.room self.new.room result }
+        ensures room { SpendsRoom (place + n) 0
+            (length (seen (told_by self.old.content))) self.old.room self.new.room result }
     {
         let length = self.content.bytes.len();
         self.room.take(place, n, 0, length);
@@ -96,7 +96,7 @@ impl Tape {
 
     pub fn make_room(&mut self, calls: u64, longest: u64, bytes: u64) -> Result<(), AllocError>
         ensures same { told_by self.new.content ≡ told_by self.old.content }
-        ensures ok { OnOk result (self.new.room ≡ record { calls = calls; longest = longest; bytes = bytes }) }
+        ensures ok { OnOk result (self.new.room ≡ room_of calls longest bytes) }
         ensures err { OnErr result (self.new.room ≡ self.old.room) }
     {
         self.content.reserve(calls, longest, bytes)?;

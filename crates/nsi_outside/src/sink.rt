@@ -1,7 +1,9 @@
 //! Where bytes go.
 
-ghost use Rattle.std.specs.Prelude.{◌≡◌, ◌<◌, ◌≤◌, ◌++◌, ℕ, length, IfOk, OnErr, OnOk, IfSome, IsErrOf, List, Option, Some, Err, take, []};
+ghost use Rattle.std.specs.Prelude.{◌≡◌, ◌<◌, ◌≤◌, ℕ, length, IfOk, OnErr, OnOk, IsErrOf, List, Option, Some, []};
+ghost use Rattle.nsi_outside.specs.Stream.{WritesAll, WritesFront};
 
+use crate::plan::Plan;
 use std::alloc::Global;
 use std::marker::Model;
 
@@ -38,9 +40,7 @@ pub trait Sink {
 #[derive(Debug, Drop)]
 pub struct MemorySink {
     bytes: Vec<u8>,
-    calls: u64,
-    failing: Vec<u64>,
-    faults: u64,
+    plan: Plan,
 }
 
 impl Model for MemorySink {
@@ -49,9 +49,14 @@ impl Model for MemorySink {
 
     ghost Value = { Told };
 
-    ghost view = { λ s. record { bytes = s.bytes.items; faults = s.faults; calls = s.calls; failing = s.failing.items } };
+    ghost view = { λ s. record {
+      bytes = s.bytes.items;
+      faults = s.plan.faults;
+      calls = s.plan.calls;
+      failing = s.plan.failing.items;
+    } };
 
-    ghost invariant = { λ s. s.faults ≤ s.calls };
+    ghost invariant = { λ s. s.plan.faults ≤ s.plan.calls };
 }
 
 impl MemorySink {
@@ -61,9 +66,7 @@ impl MemorySink {
     {
         MemorySink {
             bytes: Vec::new(alloc),
-            calls: 0,
-            failing,
-            faults: 0,
+            plan: Plan::new(failing),
         }
     }
 
@@ -93,12 +96,8 @@ impl Sink for MemorySink {
         ensures planned { IsPlanned self.old (has_failed result) }
         ensures called { IsCalled self.old self.new }
     {
-        if self.calls < u64::MAX {
-            self.calls += 1;
-            if self.failing.contains(&self.calls) {
-                self.faults += 1;
-                return Err(SinkError::Failed);
-            }
+        if self.plan.call() {
+            return Err(SinkError::Failed);
         }
         if self.bytes.extend_from_slice(piece).is_err() {
             return Err(SinkError::NoMemory);
@@ -109,8 +108,8 @@ impl Sink for MemorySink {
 
 /// Writes all of the bytes, or after an error some front of them.
 pub fn write_all<K: Sink>(out: &mut K, bytes: &[u8]) -> Result<(), SinkError>
-    ensures all { OnOk result (IfSome (K.content out.old) (λ old. K.content out.new ≡ Some (old ++ bytes.now))) }
-    ensures front { OnErr result (IfSome (K.content out.old) (λ old. (k : ℕ) × (K.content out.new ≡ Some (old ++ take k bytes.now)))) }
+    ensures all { OnOk result (WritesAll (K.content out.old) (K.content out.new) bytes.now) }
+    ensures front { OnErr result (WritesFront (K.content out.old) (K.content out.new) bytes.now) }
     ensures failed { IsErrOf result SinkError.Failed → K.faults out.old < K.faults out.new }
     ensures counted { K.faults out.old ≤ K.faults out.new }
     ensures quiet { OnOk result (K.faults out.new ≡ K.faults out.old) }

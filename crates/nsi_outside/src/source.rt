@@ -2,6 +2,7 @@
 
 ghost use Rattle.std.specs.Prelude.{◌≡◌, ◌<◌, ◌≤◌, ℕ, length, IfOk, OnOk, OnErr, is_err, List, Option, Some, drop, take, min};
 
+use crate::plan::Plan;
 use std::marker::Model;
 
 /// A read failed. It took nothing, and the source is as before but for its count of faults.
@@ -33,9 +34,7 @@ pub trait Source {
 pub struct MemorySource {
     bytes: Vec<u8>,
     place: usize,
-    calls: u64,
-    failing: Vec<u64>,
-    faults: u64,
+    plan: Plan,
 }
 
 impl Model for MemorySource {
@@ -44,22 +43,26 @@ impl Model for MemorySource {
 
     ghost Value = { Told };
 
-    ghost view = { λ s. record { bytes = drop s.place s.bytes.items; faults = s.faults; calls = s.calls; failing = s.failing.items } };
+    ghost view = { λ s. record {
+      bytes = drop s.place s.bytes.items;
+      faults = s.plan.faults;
+      calls = s.plan.calls;
+      failing = s.plan.failing.items;
+    } };
 
-    ghost invariant = { λ s. (s.place ≤ vec_len s.bytes) × (s.faults ≤ s.calls) };
+    ghost invariant = { λ s. (s.place ≤ vec_len s.bytes) × (s.plan.faults ≤ s.plan.calls) };
 }
 
 impl MemorySource {
     /// The bytes, of which the calls with these numbers, counted from 1, fail.
     pub fn new(bytes: Vec<u8>, failing: Vec<u64>) -> MemorySource
-        ensures { result ≡ record { bytes = bytes.items; faults = 0; calls = 0; failing = failing.items } }
+        ensures { result ≡
+            record { bytes = bytes.items; faults = 0; calls = 0; failing = failing.items } }
     {
         MemorySource {
             bytes,
             place: 0,
-            calls: 0,
-            failing,
-            faults: 0,
+            plan: Plan::new(failing),
         }
     }
 }
@@ -81,12 +84,8 @@ impl Source for MemorySource {
         ensures planned { IsPlanned self.old (is_err result) }
         ensures called { IsCalled self.old self.new }
     {
-        if self.calls < u64::MAX {
-            self.calls += 1;
-            if self.failing.contains(&self.calls) {
-                self.faults += 1;
-                return Err(ReadFailed);
-            }
+        if self.plan.call() {
+            return Err(ReadFailed);
         }
         let n = copy_front(&self.bytes[self.place..], buffer);
         self.place += n;

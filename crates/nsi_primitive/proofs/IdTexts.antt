@@ -1,9 +1,9 @@
 -- An id is read off its text.
-use Rattle.std.proofs.Common.{◌≡◌, ◌∙◌, ℕ, zero, suc, ◌/◌, ◌%◌, ◌^◌, ◌<◌, Some, option_map, List, length, inl, refl, sym, ap, arith}
+use Rattle.std.proofs.Common.{◌≡◌, ◌∙◌, ℕ, zero, suc, ◌^◌, ◌<◌, Some, option_map, length, inl, refl, sym, ap, arith}
 use Rattle.std.specs.Int.{byte_at, bytes_high_first}
 use Rattle.std.specs.List.{All}
 use Rattle.std.proofs.lemmas.List.Elements.{All-nil, All-cons}
-use Rattle.uuid.specs.Text.{parsed, lower}
+use Rattle.uuid.specs.Text.{lower}
 use Rattle.uuid.proofs.RoundTrips.{parses_urn}
 use Rattle.nsi_primitive.specs.Ids.{bytes_of, from_bytes, id_from_text, id_text}
 use Rattle.nsi_primitive.proofs.SixteenBytes.{from_bytes-bytes_of}

@@ -131,3 +131,34 @@ direction_named name =
 abbrev pub is_both_ways : Directionality → Bool
 is_both_ways Directionality.Bidirectional = true
 is_both_ways Directionality.Unidirectional = false
+
+-- each kind has a number of its own
+unfoldable pub kind_number : Kind → ℕ
+kind_number Kind.Reserve = 0
+kind_number Kind.ReserveResponse = 1
+kind_number Kind.ReserveConfirmed = 2
+kind_number Kind.ReserveFailed = 3
+kind_number Kind.ReserveCommit = 4
+kind_number Kind.ReserveCommitConfirmed = 5
+kind_number Kind.ReserveCommitFailed = 6
+kind_number Kind.ReserveAbort = 7
+kind_number Kind.ReserveAbortConfirmed = 8
+kind_number Kind.Provision = 9
+kind_number Kind.ProvisionConfirmed = 10
+kind_number Kind.Release = 11
+kind_number Kind.ReleaseConfirmed = 12
+kind_number Kind.Terminate = 13
+kind_number Kind.TerminateConfirmed = 14
+kind_number Kind.Error = 15
+kind_number Kind.ReserveTimeout = 16
+kind_number Kind.ErrorEvent = 17
+kind_number Kind.DataPlaneStateChange = 18
+kind_number Kind.MessageDeliveryTimeout = 19
+kind_number Kind.QuerySummary = 20
+kind_number Kind.QuerySummaryConfirmed = 21
+kind_number Kind.QueryNotification = 22
+kind_number Kind.QueryNotificationConfirmed = 23
+kind_number Kind.QueryResult = 24
+kind_number Kind.QueryResultConfirmed = 25
+kind_number Kind.QueryRecursive = 26
+kind_number Kind.QueryRecursiveConfirmed = 27

@@ -1,5 +1,5 @@
 -- Messages: their kinds and identities, and who sends them to whom.
-use Rattle.std.specs.Prelude.{ℕ, List, Bool, Option, Some, None, if◌then◌else◌}
+use Rattle.std.specs.Prelude.{ℕ, List, Bool, true, false, Option, Some, None, if◌then◌else◌}
 use Rattle.nsi_primitive.specs.Kinds.{is_request_kind, is_query_kind}
 use Rattle.nsi_primitive.specs.declared.kind.Kind.{Kind}
 use Rattle.nsi_primitive.specs.declared.kind.ErrorName.{ErrorName}
@@ -46,6 +46,14 @@ is_request body = is_request_kind (kind_of body)
 -- whether it asks what an agent knows
 abbrev pub is_query : Body → Bool
 is_query body = is_query_kind (kind_of body)
+
+-- whether it is the rows that a query asked for
+abbrev pub has_rows : Body → Bool
+has_rows (Body.QuerySummaryConfirmed _ _) = true
+has_rows (Body.QueryNotificationConfirmed _ _ _) = true
+has_rows (Body.QueryResultConfirmed _ _ _) = true
+has_rows (Body.QueryRecursiveConfirmed _ _ _) = true
+has_rows _ = false
 
 -- the connection that a request is about, where it names one
 unfoldable pub connection_of : Body → Option ℕ

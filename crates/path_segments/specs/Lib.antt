@@ -4,3 +4,4 @@ pub mod Steps
 pub mod Named
 pub mod Searches
 pub mod ChildSearches
+pub mod SearchOf

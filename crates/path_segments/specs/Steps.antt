@@ -54,6 +54,10 @@ at steps p = get_or steps p None
 abbrev pub Way : Network → ℕ → List ℕ → ℕ → ℕ → ℕ → Type 0
 Way t depth children = IsSegment (Offers t depth) children
 
+-- the exit of a segment is a point
+abbrev pub LeadsToPoint : Network → ℕ → ℕ → ℕ → Type 0
+LeadsToPoint t place entry exit = exit < length t.owners
+
 -- what is said of the table while it is filled
 abbrev pub Holds : Network → ℕ → List ℕ → ℕ → ℕ → ℕ → ℕ → List (Option Step) → Type 0
 Holds t depth children dest rest exit place steps = HoldsFor (partner_of t) (Way t depth children) dest rest exit place (at steps)

@@ -36,3 +36,7 @@ pub record IsUnder (t : Network) (n : ℕ) (children : List ℕ) (bound b : ℕ)
 -- the children are agents
 abbrev pub AreAgents : Network → Type 0
 AreAgents t = (a place k : ℕ) → slice_get (children_of t a) place ≡ Some k → k < length t.agents
+
+-- each of the list is an agent
+abbrev pub AreListedAgents : Network → List ℕ → Type 0
+AreListedAgents t agents = (i k : ℕ) → slice_get agents i ≡ Some k → k < length t.agents

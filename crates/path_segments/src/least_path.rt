@@ -4,8 +4,8 @@ ghost use Rattle.std.specs.Prelude.{slice_get, ◌≡◌, ℕ, ◌<◌, List, le
 ghost use Rattle.path_segments.specs.Paths.{Chain, Less, IsPath, IsLess};
 ghost use Rattle.path_segments.specs.Named.{named};
 ghost use Rattle.stp_topology.specs.Network.{partner_of};
-ghost use Rattle.path_segments.specs.Walks.{AreMutual, AreLeaves, AreAgents};
-ghost use Rattle.path_segments.specs.Steps.{at, Way, IsFit, Sound, Follows};
+ghost use Rattle.path_segments.specs.Walks.{AreMutual, AreLeaves, AreAgents, AreListedAgents};
+ghost use Rattle.path_segments.specs.Steps.{at, Way, IsFit, Sound, Follows, LeadsToPoint};
 ghost use Rattle.path_segments.specs.declared.path.PlacedSegment.{PlacedSegment as Placed};
 ghost use Rattle.path_segments.specs.declared.path.Segment.{Segment as OneSegment};
 
@@ -22,8 +22,6 @@ const GREATEST_RANK: u8 = 4;
 fn follow(
     alloc: Global,
     topology: &Topology,
-    depth: u8,
-    children: &[AgentNo],
     steps: &[Option<Step>],
     source: u16,
     dest: u16,
@@ -31,9 +29,11 @@ fn follow(
 ) -> Result<Vec<PlacedSegment>, AllocError>
     requires fit { IsFit topology.now }
     requires steps { length steps.now ≡ length topology.now.owners }
-    requires sound { Sound (at steps.now) (partner_of topology.now) (Way topology.now depth children.now) dest }
+    requires sound { Sound (at steps.now) (partner_of topology.now)
+        (LeadsToPoint topology.now) dest }
     requires first { at steps.now source ≡ Some first }
-    ensures { IfOk result (λ v. Follows (at steps.now) (partner_of topology.now) dest source v.items) }
+    ensures { IfOk result (λ v.
+        Follows (at steps.now) (partner_of topology.now) dest source v.items) }
 {
     let mut segments = Vec::new(alloc);
     let mut entry = source;
@@ -71,11 +71,16 @@ fn least(
     requires paired { AreMutual topology.now }
     requires leaves { AreLeaves topology.now }
     requires agents { AreAgents topology.now }
-    requires are_agents { (i k : ℕ) → slice_get children.now i ≡ Some k → k < length topology.now.agents }
+    requires are_agents { AreListedAgents topology.now children.now }
     requires source { source < length topology.now.owners }
-    ensures path { IfOk result (λ v. Chain (partner_of topology.now) (Way topology.now depth children.now) source dest v.items) }
-    ensures least { IfOk result (λ v. (other : List Placed) → Chain (partner_of topology.now) (Way topology.now depth children.now) source dest other → Less other v.items → ⊥) }
-    ensures none { IsErrOf result PathFault.NoPath → (other : List Placed) → Chain (partner_of topology.now) (Way topology.now depth children.now) source dest other → ⊥ }
+    ensures path { IfOk result (λ v.
+        Chain (partner_of topology.now) (Way topology.now depth children.now) source dest v.items) }
+    ensures least { IfOk result (λ v. (other : List Placed)
+        → Chain (partner_of topology.now) (Way topology.now depth children.now) source dest other
+        → Less other v.items → ⊥) }
+    ensures none { IsErrOf result PathFault.NoPath → (other : List Placed)
+        → Chain (partner_of topology.now) (Way topology.now depth children.now) source dest other
+        → ⊥ }
 {
     let Ok(steps) = table(alloc, topology, depth, children, dest) else {
         return Err(PathFault::NoMemory);
@@ -83,9 +88,7 @@ fn least(
     let Some(first) = steps[source as usize] else {
         return Err(PathFault::NoPath);
     };
-    match follow(
-        alloc, topology, depth, children, &steps, source, dest, first,
-    ) {
+    match follow(alloc, topology, &steps, source, dest, first) {
         Ok(segments) => Ok(segments),
         Err(_) => Err(PathFault::NoMemory),
     }
@@ -96,7 +99,8 @@ fn named(
     children: &[AgentNo],
     placed: &[PlacedSegment],
 ) -> Result<Vec<Segment>, AllocError>
-    requires within { (i : ℕ) (x : Placed) → slice_get placed.now i ≡ Some x → (x.place < length children.now) × (x.entry < 4096) × (x.exit < 4096) }
+    requires within { (i : ℕ) (x : Placed) → slice_get placed.now i ≡ Some x
+        → (x.place < length children.now) × (x.entry < 4096) × (x.exit < 4096) }
     ensures { IfOk result (λ v. v.items ≡ named children.now placed.now) }
 {
     let mut segments = Vec::new(alloc);
@@ -121,8 +125,11 @@ pub fn find(
 ) -> Result<Path, PathFault>
     requires source { source < length topology.now.stps }
     ensures path { IfOk result (λ p. IsPath topology.now aggregator source dest p.segments) }
-    ensures least { IfOk result (λ p. (other : List OneSegment) → IsPath topology.now aggregator source dest other → IsLess topology.now aggregator other p.segments → ⊥) }
-    ensures none { IsErrOf result PathFault.NoPath → (other : List OneSegment) → IsPath topology.now aggregator source dest other → ⊥ }
+    ensures least { IfOk result (λ p. (other : List OneSegment)
+        → IsPath topology.now aggregator source dest other
+        → IsLess topology.now aggregator other p.segments → ⊥) }
+    ensures none { IsErrOf result PathFault.NoPath → (other : List OneSegment)
+        → IsPath topology.now aggregator source dest other → ⊥ }
 {
     topology.facts();
     let children = topology.children(aggregator);

@@ -63,7 +63,8 @@ fn no_points(alloc: Global, owners: usize) -> Result<Vec<List<u16>>, AllocError>
 
 fn push_point(lists: &mut Vec<List<u16>>, owner: u16, point: u16) -> Result<(), AllocError>
     requires { owner < length lists.old.items }
-    ensures { OnOk result (lists.new.items ≡ slice_set lists.old.items owner (get_or lists.old.items owner [] ++ point ∷ [])) }
+    ensures { OnOk result (lists.new.items
+        ≡ slice_set lists.old.items owner (get_or lists.old.items owner [] ++ point ∷ [])) }
 {
     lists[owner as usize].push(point)
 }

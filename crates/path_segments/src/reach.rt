@@ -21,7 +21,8 @@ pub fn mark_below(topology: &Topology, depth: u8, agent: AgentNo, marks: &mut Ve
     requires agent { agent < length topology.now.agents }
     requires marks { length marks.old.items ≡ length topology.now.agents }
     ensures same_length { length marks.new.items ≡ length marks.old.items }
-    ensures exact { (b : ℕ) → (get_or marks.new.items b false ≡ true) ↔ ((get_or marks.old.items b false ≡ true) ⊎ IsBelow topology.now depth agent b) }
+    ensures exact { (b : ℕ) → (get_or marks.new.items b false ≡ true)
+        ↔ ((get_or marks.old.items b false ≡ true) ⊎ IsBelow topology.now depth agent b) }
 {
     marks[agent.get() as usize] = true;
     if depth == 0 {

@@ -47,7 +47,8 @@ fn parents_of_aggregators(
     marked: &[bool; 64],
 ) -> [bool; 64]
     ensures { (d : Bool) → (x : ℕ) → slice_index_or result x false
-        ≡ list_any (λ e. (e.0 == x) && (is_aggregator kinds.now e.1 && slice_index_or marked.now e.1 d)) pairs.now }
+        ≡ list_any (λ e. (e.0 == x)
+        && (is_aggregator kinds.now e.1 && slice_index_or marked.now e.1 d)) pairs.now }
 {
     let mut above = [false; 64];
     for e in pairs {

@@ -22,7 +22,8 @@ impl Model for ChildLines {
 
     ghost view = { λ c. c.pairs.items };
 
-    ghost invariant = { λ c. (a : ℕ) → get_or c.by_parent.items a [] ≡ children_in c.pairs.items a };
+    ghost invariant = { λ c.
+        (a : ℕ) → get_or c.by_parent.items a [] ≡ children_in c.pairs.items a };
 }
 
 /// A list for each agent.
@@ -39,7 +40,8 @@ fn make_room(by_parent: &mut Vec<List<AgentNo>>, alloc: Global) -> Result<(), Al
 /// One child more of an agent.
 fn put(by_parent: &mut Vec<List<AgentNo>>, i: AgentNo, j: AgentNo) -> Result<(), AllocError>
     requires { 64 ≤ length by_parent.old.items }
-    ensures ok { OnOk result (by_parent.new.items ≡ slice_set by_parent.old.items i (get_or by_parent.old.items i [] ++ j ∷ [])) }
+    ensures ok { OnOk result (by_parent.new.items
+        ≡ slice_set by_parent.old.items i (get_or by_parent.old.items i [] ++ j ∷ [])) }
     ensures err { OnErr result (by_parent.new.items ≡ by_parent.old.items) }
 {
     by_parent[i.get() as usize].push(j)

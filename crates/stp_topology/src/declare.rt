@@ -3,7 +3,7 @@
 ghost use Rattle.std.specs.Prelude.{◌≡◌, ◌<◌, ◌≤◌, List, length, map, IsTrue, true};
 ghost use Rattle.nsi_base.specs.Bytes.{is_name};
 ghost use Rattle.stp_topology.specs.Faults.{Gives, Leaves, value_or};
-ghost use Rattle.stp_topology.specs.Network.{agent_of, stp_of, nothing};
+ghost use Rattle.stp_topology.specs.Network.{stp_of, nothing};
 ghost use Rattle.stp_topology.specs.Lines.{is_of, known_agent, with_agent, add_provider, add_aggregator, add_requester, with_stp, add_stp, is_joined, are_same, with_sdp, add_sdp, with_child, add_child, is_form, line_of};
 ghost use Rattle.stp_topology.specs.declared.fault.TopologyFault.TheVariants.{Unknown};
 

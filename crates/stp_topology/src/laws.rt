@@ -19,6 +19,8 @@ impl Topology {
 
 /// Every topology that a text gives is sound and well formed.
 pub fn every_topology()
-    ensures sound { (text : List ℕ) (t : Network) (place : ℕ) → topology_of text ≡ Ok (t, place) → IsSound t }
-    ensures well_formed { (text : List ℕ) (t : Network) (place : ℕ) → topology_of text ≡ Ok (t, place) → IsWellFormed t }
+    ensures sound { (text : List ℕ) (t : Network) (place : ℕ)
+        → topology_of text ≡ Ok (t, place) → IsSound t }
+    ensures well_formed { (text : List ℕ) (t : Network) (place : ℕ)
+        → topology_of text ≡ Ok (t, place) → IsWellFormed t }
 {}

@@ -1,6 +1,6 @@
 //! A topology, line by line.
 
-ghost use Rattle.std.specs.Prelude.{◌≡◌, ◌<◌, ◌≤◌, length, IfSome, IfOk, Some};
+ghost use Rattle.std.specs.Prelude.{◌≡◌, ◌<◌, ◌≤◌, length, IfSome, Some};
 ghost use Rattle.std.specs.List.{position_from};
 ghost use Rattle.stp_topology.specs.Faults.{Gives};
 ghost use Rattle.stp_topology.specs.Network.{nothing, agent_of, stp_of, name_of, stp_name_of, kind_of, owner_of, capacity_of, partner_of, sdps_of, children_of, first_provider, is_provider};

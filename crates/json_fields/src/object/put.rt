@@ -4,9 +4,9 @@ ghost use Rattle.std.specs.Prelude.{◌≡◌, OnOk, OnErr, IfOk, IfSome, Some, 
 ghost use Rattle.serde_json.specs.Data.{no_members, object, put, string, number, unsigned};
 ghost use Rattle.serde_json.specs.View.{view};
 ghost use Rattle.serde_json.specs.Written.{compact_text};
-ghost use Rattle.json_fields.specs.Fields.{json_of, id_from, name_from, capacity_from, second_from, time_from, version_from, hold_from, flag_from, directionality_from};
-ghost use Rattle.json_fields.specs.Objects.{with_value, digits, words, flag, id_scalar, time_value, directionality_scalar, IsReadBack, IsFlatRow};
-ghost use Rattle.json_fields.specs.Written.{members_of, rows_of, with_rows};
+ghost use Rattle.json_fields.specs.Fields.{json_of, id_from, name_from, capacity_from, second_from, time_from, version_from, hold_from};
+ghost use Rattle.json_fields.specs.Objects.{digits, words, flag, id_scalar, time_value, directionality_scalar, IsReadBack, IsFlatRow};
+ghost use Rattle.json_fields.specs.Written.{Puts, members_of, rows_of, with_rows};
 
 use crate::key::Key;
 use crate::object::JsonObject;
@@ -45,8 +45,10 @@ impl JsonObject {
 
     /// Writes the object, with rows at a key more, as compact JSON.
     pub fn print_with(self, alloc: Global, key: Key, rows: JsonRows) -> Result<Vec<u8>, AllocError>
-        ensures spelled { IfOk result (λ b. b.items ≡ compact_text (object (with_rows key (rows_of rows) (members_of self)))) }
-        ensures again { IfOk result (λ b. json_of b.items ≡ Some (object (with_rows key (rows_of rows) (members_of self)))) }
+        ensures spelled { IfOk result (λ b.
+            b.items ≡ compact_text (object (with_rows key (rows_of rows) (members_of self)))) }
+        ensures again { IfOk result (λ b.
+            json_of b.items ≡ Some (object (with_rows key (rows_of rows) (members_of self)))) }
     {
         let JsonObject { mut members } = self;
         let JsonRows { items } = rows;
@@ -56,7 +58,8 @@ impl JsonObject {
 
     /// Puts a number at a name.
     pub fn put_number_at(&mut self, alloc: Global, name: &str, n: u64) -> Result<(), AllocError>
-        ensures put { OnOk result (members_of self.new ≡ put name.now (number (unsigned n)) (members_of self.old)) }
+        ensures put { OnOk result
+            (members_of self.new ≡ put name.now (number (unsigned n)) (members_of self.old)) }
         ensures err { OnErr result (members_of self.new ≡ members_of self.old) }
     {
         serde_json::put(&mut self.members, alloc, name, Value::from(n))
@@ -64,7 +67,8 @@ impl JsonObject {
 
     /// Puts a text at a name.
     pub fn put_text_at(&mut self, alloc: Global, name: &str, text: &str) -> Result<(), AllocError>
-        ensures put { OnOk result (members_of self.new ≡ put name.now (string text.now) (members_of self.old)) }
+        ensures put { OnOk result
+            (members_of self.new ≡ put name.now (string text.now) (members_of self.old)) }
         ensures err { OnErr result (members_of self.new ≡ members_of self.old) }
     {
         let value = Value::try_from_str(alloc, text)?;
@@ -72,28 +76,28 @@ impl JsonObject {
     }
 
     pub fn put_number(&mut self, alloc: Global, key: Key, n: u64) -> Result<(), AllocError>
-        ensures put { OnOk result (members_of self.new ≡ with_value key (Some (digits n)) (members_of self.old)) }
+        ensures put { OnOk result (Puts key (Some (digits n)) self.old self.new) }
         ensures err { OnErr result (members_of self.new ≡ members_of self.old) }
     {
         self.put_number_at(alloc, key.text(), n)
     }
 
     pub fn put_text(&mut self, alloc: Global, key: Key, text: &str) -> Result<(), AllocError>
-        ensures put { OnOk result (members_of self.new ≡ with_value key (Some (words text.now)) (members_of self.old)) }
+        ensures put { OnOk result (Puts key (Some (words text.now)) self.old self.new) }
         ensures err { OnErr result (members_of self.new ≡ members_of self.old) }
     {
         self.put_text_at(alloc, key.text(), text)
     }
 
     pub fn put_flag(&mut self, alloc: Global, key: Key, is_set: bool) -> Result<(), AllocError>
-        ensures put { OnOk result (members_of self.new ≡ with_value key (Some (flag is_set)) (members_of self.old)) }
+        ensures put { OnOk result (Puts key (Some (flag is_set)) self.old self.new) }
         ensures err { OnErr result (members_of self.new ≡ members_of self.old) }
     {
         serde_json::put(&mut self.members, alloc, key.text(), Value::from(is_set))
     }
 
     pub fn put_id(&mut self, alloc: Global, key: Key, id: Id) -> Result<(), AllocError>
-        ensures put { OnOk result (members_of self.new ≡ with_value key (Some (id_scalar id)) (members_of self.old)) }
+        ensures put { OnOk result (Puts key (Some (id_scalar id)) self.old self.new) }
         ensures again { OnOk result (IsReadBack id_from (id_scalar id) id) }
         ensures err { OnErr result (members_of self.new ≡ members_of self.old) }
     {
@@ -102,7 +106,7 @@ impl JsonObject {
     }
 
     pub fn put_name(&mut self, alloc: Global, key: Key, name: &Name) -> Result<(), AllocError>
-        ensures put { OnOk result (members_of self.new ≡ with_value key (Some (words name.now)) (members_of self.old)) }
+        ensures put { OnOk result (Puts key (Some (words name.now)) self.old self.new) }
         ensures again { OnOk result (IsReadBack name_from (words name.now) name.now) }
         ensures err { OnErr result (members_of self.new ≡ members_of self.old) }
     {
@@ -115,7 +119,7 @@ impl JsonObject {
         key: Key,
         capacity: Mbps,
     ) -> Result<(), AllocError>
-        ensures put { OnOk result (members_of self.new ≡ with_value key (Some (digits capacity)) (members_of self.old)) }
+        ensures put { OnOk result (Puts key (Some (digits capacity)) self.old self.new) }
         ensures again { OnOk result (IsReadBack capacity_from (digits capacity) capacity) }
         ensures err { OnErr result (members_of self.new ≡ members_of self.old) }
     {
@@ -123,7 +127,7 @@ impl JsonObject {
     }
 
     pub fn put_second(&mut self, alloc: Global, key: Key, second: Second) -> Result<(), AllocError>
-        ensures put { OnOk result (members_of self.new ≡ with_value key (Some (digits second)) (members_of self.old)) }
+        ensures put { OnOk result (Puts key (Some (digits second)) self.old self.new) }
         ensures again { OnOk result (IsReadBack second_from (digits second) second) }
         ensures err { OnErr result (members_of self.new ≡ members_of self.old) }
     {
@@ -133,7 +137,7 @@ impl JsonObject {
     /// Puts when a schedule starts or ends.
     #[tactic(auto, unfolding(crate::specs::Fields::time_from, crate::specs::Objects::time_value))]
     pub fn put_time(&mut self, alloc: Global, key: Key, time: Second) -> Result<(), AllocError>
-        ensures put { OnOk result (members_of self.new ≡ with_value key (Some (time_value time)) (members_of self.old)) }
+        ensures put { OnOk result (Puts key (Some (time_value time)) self.old self.new) }
         ensures again { OnOk result (IsReadBack time_from (time_value time) time) }
         ensures err { OnErr result (members_of self.new ≡ members_of self.old) }
     {
@@ -146,7 +150,7 @@ impl JsonObject {
         key: Key,
         version: Version,
     ) -> Result<(), AllocError>
-        ensures put { OnOk result (members_of self.new ≡ with_value key (Some (digits version)) (members_of self.old)) }
+        ensures put { OnOk result (Puts key (Some (digits version)) self.old self.new) }
         ensures again { OnOk result (IsReadBack version_from (digits version) version) }
         ensures err { OnErr result (members_of self.new ≡ members_of self.old) }
     {
@@ -154,7 +158,7 @@ impl JsonObject {
     }
 
     pub fn put_hold(&mut self, alloc: Global, key: Key, hold: HoldTime) -> Result<(), AllocError>
-        ensures put { OnOk result (members_of self.new ≡ with_value key (Some (digits hold)) (members_of self.old)) }
+        ensures put { OnOk result (Puts key (Some (digits hold)) self.old self.new) }
         ensures again { OnOk result (IsReadBack hold_from (digits hold) hold) }
         ensures err { OnErr result (members_of self.new ≡ members_of self.old) }
     {
@@ -167,7 +171,7 @@ impl JsonObject {
         key: Key,
         version: Option<Version>,
     ) -> Result<(), AllocError>
-        ensures put { OnOk result (members_of self.new ≡ with_value key (option_map digits version) (members_of self.old)) }
+        ensures put { OnOk result (Puts key (option_map digits version) self.old self.new) }
         ensures again { OnOk result (IfSome version (λ n. IsReadBack version_from (digits n) n)) }
         ensures err { OnErr result (members_of self.new ≡ members_of self.old) }
     {
@@ -183,7 +187,7 @@ impl JsonObject {
         key: Key,
         n: Option<u64>,
     ) -> Result<(), AllocError>
-        ensures put { OnOk result (members_of self.new ≡ with_value key (option_map digits n) (members_of self.old)) }
+        ensures put { OnOk result (Puts key (option_map digits n) self.old self.new) }
         ensures err { OnErr result (members_of self.new ≡ members_of self.old) }
     {
         match n {
@@ -198,7 +202,7 @@ impl JsonObject {
         key: Key,
         capacity: Option<Mbps>,
     ) -> Result<(), AllocError>
-        ensures put { OnOk result (members_of self.new ≡ with_value key (option_map digits capacity) (members_of self.old)) }
+        ensures put { OnOk result (Puts key (option_map digits capacity) self.old self.new) }
         ensures again { OnOk result (IfSome capacity (λ n. IsReadBack capacity_from (digits n) n)) }
         ensures err { OnErr result (members_of self.new ≡ members_of self.old) }
     {
@@ -214,7 +218,7 @@ impl JsonObject {
         key: Key,
         time: Option<Second>,
     ) -> Result<(), AllocError>
-        ensures put { OnOk result (members_of self.new ≡ with_value key (option_map time_value time) (members_of self.old)) }
+        ensures put { OnOk result (Puts key (option_map time_value time) self.old self.new) }
         ensures again { OnOk result (IfSome time (λ n. IsReadBack time_from (time_value n) n)) }
         ensures err { OnErr result (members_of self.new ≡ members_of self.old) }
     {
@@ -230,7 +234,7 @@ impl JsonObject {
         key: Key,
         id: Option<Id>,
     ) -> Result<(), AllocError>
-        ensures put { OnOk result (members_of self.new ≡ with_value key (option_map id_scalar id) (members_of self.old)) }
+        ensures put { OnOk result (Puts key (option_map id_scalar id) self.old self.new) }
         ensures again { OnOk result (IfSome id (λ n. IsReadBack id_from (id_scalar n) n)) }
         ensures err { OnErr result (members_of self.new ≡ members_of self.old) }
     {
@@ -246,7 +250,7 @@ impl JsonObject {
         key: Key,
         name: &Option<Name>,
     ) -> Result<(), AllocError>
-        ensures put { OnOk result (members_of self.new ≡ with_value key (option_map words name.now) (members_of self.old)) }
+        ensures put { OnOk result (Puts key (option_map words name.now) self.old self.new) }
         ensures again { OnOk result (IfSome name.now (λ n. IsReadBack name_from (words n) n)) }
         ensures err { OnErr result (members_of self.new ≡ members_of self.old) }
     {
@@ -262,7 +266,7 @@ impl JsonObject {
         key: Key,
         text: &Option<Text>,
     ) -> Result<(), AllocError>
-        ensures put { OnOk result (members_of self.new ≡ with_value key (option_map words text.now) (members_of self.old)) }
+        ensures put { OnOk result (Puts key (option_map words text.now) self.old self.new) }
         ensures err { OnErr result (members_of self.new ≡ members_of self.old) }
     {
         match text {
@@ -277,7 +281,7 @@ impl JsonObject {
         key: Key,
         is_set: Option<bool>,
     ) -> Result<(), AllocError>
-        ensures put { OnOk result (members_of self.new ≡ with_value key (option_map flag is_set) (members_of self.old)) }
+        ensures put { OnOk result (Puts key (option_map flag is_set) self.old self.new) }
         ensures err { OnErr result (members_of self.new ≡ members_of self.old) }
     {
         match is_set {
@@ -292,7 +296,8 @@ impl JsonObject {
         key: Key,
         directionality: Option<Directionality>,
     ) -> Result<(), AllocError>
-        ensures put { OnOk result (members_of self.new ≡ with_value key (option_map directionality_scalar directionality) (members_of self.old)) }
+        ensures put { OnOk result
+            (Puts key (option_map directionality_scalar directionality) self.old self.new) }
         ensures err { OnErr result (members_of self.new ≡ members_of self.old) }
     {
         match directionality {

@@ -19,7 +19,8 @@ impl JsonRows {
 
     /// Puts a row behind the others.
     pub fn push(&mut self, row: JsonObject) -> Result<(), AllocError>
-        ensures put { OnOk result (rows_of self.new ≡ rows_of self.old ++ object (members_of row) ∷ []) }
+        ensures put { OnOk result
+            (rows_of self.new ≡ rows_of self.old ++ object (members_of row) ∷ []) }
         ensures err { OnErr result (rows_of self.new ≡ rows_of self.old) }
     {
         self.items.push(row.into_value())?;

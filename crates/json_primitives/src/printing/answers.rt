@@ -18,7 +18,8 @@ pub fn put_confirmation(
     object: &mut JsonObject,
     confirmation: &ReserveConfirmation,
 ) -> Result<(), AllocError>
-    ensures put { OnOk result (members_of object.new ≡ with_fields (members_of object.old) (confirmation_fields confirmation.now)) }
+    ensures put { OnOk result (members_of object.new
+        ≡ with_fields (members_of object.old) (confirmation_fields confirmation.now)) }
     ensures valid { OnOk result (IsValidConfirmation confirmation.now) }
 {
     object.put_capacity(alloc, Key::Capacity, confirmation.capacity)?;
@@ -45,7 +46,8 @@ pub fn put_refusal(
     connection: Id,
     exception: &Exception,
 ) -> Result<(), AllocError>
-    ensures put { OnOk result (members_of object.new ≡ with_fields (members_of object.old) (refusal_fields (Some connection) exception.now)) }
+    ensures put { OnOk result (members_of object.new
+        ≡ with_fields (members_of object.old) (refusal_fields (Some connection) exception.now)) }
     ensures connection { OnOk result (IsReadBack id_from (id_scalar connection) connection) }
     ensures exception { OnOk result (IsValidException exception.now) }
 {
@@ -60,8 +62,10 @@ pub fn put_error(
     connection: &Option<Id>,
     exception: &Exception,
 ) -> Result<(), AllocError>
-    ensures put { OnOk result (members_of object.new ≡ with_fields (members_of object.old) (refusal_fields connection.now exception.now)) }
-    ensures connection { OnOk result (IfSome connection.now (λ n. IsReadBack id_from (id_scalar n) n)) }
+    ensures put { OnOk result (members_of object.new
+        ≡ with_fields (members_of object.old) (refusal_fields connection.now exception.now)) }
+    ensures connection { OnOk result (IfSome connection.now (λ n.
+        IsReadBack id_from (id_scalar n) n)) }
     ensures exception { OnOk result (IsValidException exception.now) }
 {
     object.put_optional_id(alloc, Key::ConnectionId, *connection)?;
@@ -76,7 +80,8 @@ pub fn put_listed(
     connection: Id,
     more: bool,
 ) -> Result<(), AllocError>
-    ensures put { OnOk result (members_of object.new ≡ with_fields (members_of object.old) (listed_fields connection more)) }
+    ensures put { OnOk result (members_of object.new
+        ≡ with_fields (members_of object.old) (listed_fields connection more)) }
     ensures valid { OnOk result (IsReadBack id_from (id_scalar connection) connection) }
 {
     object.put_id(alloc, Key::ConnectionId, connection)?;
@@ -89,7 +94,8 @@ fn put_exception(
     object: &mut JsonObject,
     exception: &Exception,
 ) -> Result<(), AllocError>
-    ensures put { OnOk result (members_of object.new ≡ with_fields (members_of object.old) (exception_fields exception.now)) }
+    ensures put { OnOk result (members_of object.new
+        ≡ with_fields (members_of object.old) (exception_fields exception.now)) }
     ensures valid { OnOk result (IsValidException exception.now) }
 {
     object.put_name(alloc, Key::NsaId, &exception.nsa)?;
@@ -98,7 +104,8 @@ fn put_exception(
 
 #[tactic(auto, unfolding(json_fields::specs::Objects::with_fields))]
 fn put_cause(alloc: Global, object: &mut JsonObject, cause: &Cause) -> Result<(), AllocError>
-    ensures put { OnOk result (members_of object.new ≡ with_fields (members_of object.old) (cause_fields cause.now)) }
+    ensures put { OnOk result (members_of object.new
+        ≡ with_fields (members_of object.old) (cause_fields cause.now)) }
     ensures valid { OnOk result (IsValidCause cause.now) }
 {
     match cause {
@@ -126,7 +133,8 @@ fn put_cause(alloc: Global, object: &mut JsonObject, cause: &Cause) -> Result<()
 }
 
 fn put_flow(alloc: Global, object: &mut JsonObject, flow: Flow) -> Result<(), AllocError>
-    ensures { OnOk result (members_of object.new ≡ with_value Key.Direction (option_map words (flow_text flow)) (members_of object.old)) }
+    ensures { OnOk result (members_of object.new
+        ≡ with_value Key.Direction (option_map words (flow_text flow)) (members_of object.old)) }
 {
     match flow {
         Flow::Both => Ok(()),

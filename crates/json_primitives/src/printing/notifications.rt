@@ -16,7 +16,8 @@ pub fn put_timeout(
     object: &mut JsonObject,
     timeout: &HoldTimeout,
 ) -> Result<(), AllocError>
-    ensures put { OnOk result (members_of object.new ≡ with_fields (members_of object.old) (timeout_fields timeout.now)) }
+    ensures put { OnOk result (members_of object.new
+        ≡ with_fields (members_of object.old) (timeout_fields timeout.now)) }
     ensures valid { OnOk result (IsValidTimeout timeout.now) }
 {
     let origin = timeout.originating_connection;
@@ -34,7 +35,8 @@ pub fn put_fault(
     object: &mut JsonObject,
     notice: &FaultNotice,
 ) -> Result<(), AllocError>
-    ensures put { OnOk result (members_of object.new ≡ with_fields (members_of object.old) (fault_fields notice.now)) }
+    ensures put { OnOk result (members_of object.new
+        ≡ with_fields (members_of object.old) (fault_fields notice.now)) }
     ensures valid { OnOk result (IsValidFault notice.now) }
 {
     let origin = notice.originating_connection;
@@ -52,7 +54,8 @@ pub fn put_plane(
     object: &mut JsonObject,
     notice: &PlaneNotice,
 ) -> Result<(), AllocError>
-    ensures put { OnOk result (members_of object.new ≡ with_fields (members_of object.old) (plane_fields notice.now)) }
+    ensures put { OnOk result (members_of object.new
+        ≡ with_fields (members_of object.old) (plane_fields notice.now)) }
     ensures valid { OnOk result (IsValidPlane notice.now) }
 {
     object.put_flag(alloc, Key::Active, notice.active)?;
@@ -69,7 +72,8 @@ pub fn put_delivery(
     object: &mut JsonObject,
     timeout: &DeliveryTimeout,
 ) -> Result<(), AllocError>
-    ensures put { OnOk result (members_of object.new ≡ with_fields (members_of object.old) (delivery_fields timeout.now)) }
+    ensures put { OnOk result (members_of object.new
+        ≡ with_fields (members_of object.old) (delivery_fields timeout.now)) }
     ensures valid { OnOk result (IsValidDelivery timeout.now) }
 {
     object.put_id(alloc, Key::ConnectionId, timeout.connection)?;

@@ -17,7 +17,8 @@ pub fn put_reserve(
     object: &mut JsonObject,
     reserve: &ReserveRequest,
 ) -> Result<(), AllocError>
-    ensures put { OnOk result (members_of object.new ≡ with_fields (members_of object.old) (reserve_fields reserve.now)) }
+    ensures put { OnOk result (members_of object.new
+        ≡ with_fields (members_of object.old) (reserve_fields reserve.now)) }
     ensures valid { OnOk result (IsValidReserve reserve.now) }
 {
     object.put_capacity(alloc, Key::Capacity, reserve.capacity)?;
@@ -42,8 +43,10 @@ pub fn put_range(
     start_key: Key,
     range: &NumberRange,
 ) -> Result<(), AllocError>
-    ensures put { OnOk result (members_of object.new ≡ with_fields (members_of object.old) (range_fields end_key start_key range.now)) }
-    ensures valid { OnOk result (IsReadBack id_from (id_scalar range.now.connection) range.now.connection) }
+    ensures put { OnOk result (members_of object.new
+        ≡ with_fields (members_of object.old) (range_fields end_key start_key range.now)) }
+    ensures valid { OnOk result
+        (IsReadBack id_from (id_scalar range.now.connection) range.now.connection) }
 {
     object.put_id(alloc, Key::ConnectionId, range.connection)?;
     object.put_optional_number(alloc, end_key, range.end)?;

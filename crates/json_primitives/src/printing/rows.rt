@@ -35,7 +35,8 @@ fn summary_row(alloc: Global, row: &SummaryRow) -> Result<JsonObject, AllocError
 }
 
 fn summary_rows(alloc: Global, rows: &[SummaryRow]) -> Result<JsonRows, AllocError>
-    ensures rows { IfOk result (λ written. rows_of written ≡ map (λ r. row_data (summary_fields r)) rows.now) }
+    ensures rows { IfOk result (λ written.
+        rows_of written ≡ map (λ r. row_data (summary_fields r)) rows.now) }
     ensures valid { OnOk result (AllByRecursion IsValidSummaryRow rows.now) }
 {
     let mut written = JsonRows::new(alloc);
@@ -63,7 +64,8 @@ fn recursive_row(alloc: Global, row: &RecursiveRow) -> Result<JsonObject, AllocE
 }
 
 fn recursive_rows(alloc: Global, rows: &[RecursiveRow]) -> Result<JsonRows, AllocError>
-    ensures rows { IfOk result (λ written. rows_of written ≡ map (λ r. row_data (recursive_fields r)) rows.now) }
+    ensures rows { IfOk result (λ written.
+        rows_of written ≡ map (λ r. row_data (recursive_fields r)) rows.now) }
     ensures valid { OnOk result (AllByRecursion IsValidRecursiveRow rows.now) }
 {
     let mut written = JsonRows::new(alloc);
@@ -88,7 +90,8 @@ fn notice_row(alloc: Global, row: &Notice) -> Result<JsonObject, AllocError>
 }
 
 fn notice_rows(alloc: Global, rows: &[Notice]) -> Result<JsonRows, AllocError>
-    ensures rows { IfOk result (λ written. rows_of written ≡ map (λ r. row_data (notice_fields r)) rows.now) }
+    ensures rows { IfOk result (λ written.
+        rows_of written ≡ map (λ r. row_data (notice_fields r)) rows.now) }
     ensures valid { OnOk result (AllByRecursion IsValidNotice rows.now) }
 {
     let mut written = JsonRows::new(alloc);
@@ -113,7 +116,8 @@ fn outcome_row(alloc: Global, row: &Outcome) -> Result<JsonObject, AllocError>
 }
 
 fn outcome_rows(alloc: Global, rows: &[Outcome]) -> Result<JsonRows, AllocError>
-    ensures rows { IfOk result (λ written. rows_of written ≡ map (λ r. row_data (outcome_fields r)) rows.now) }
+    ensures rows { IfOk result (λ written.
+        rows_of written ≡ map (λ r. row_data (outcome_fields r)) rows.now) }
     ensures valid { OnOk result (AllByRecursion IsValidOutcome rows.now) }
 {
     let mut written = JsonRows::new(alloc);

@@ -6,6 +6,7 @@ ghost use Rattle.nsi_primitive.specs.Printable.{IsPrintable, IsPrintableCause};
 ghost use Rattle.json_fields.specs.Faults.{Gives};
 ghost use Rattle.json_primitives.specs.Answers.{confirmation_from, connection_from, plain_from, flow_or_both, lack_from, child_from, error_in, refused_by, refused_from, named, failed_from, commit_failed_from, error_message_from};
 
+use crate::reading::headers::header_from;
 use json_fields::reading::{
     at, error_from, optional_flag, optional_flow, optional_id, optional_text, required_capacity,
     required_count, required_directionality, required_error, required_id, required_name,
@@ -38,17 +39,11 @@ pub fn confirmation_from(alloc: Global, value: &Value) -> Result<Message, LineFa
     let directionality = required_directionality(value, Key::Directionality)?;
     let end = required_time(value, Key::EndTime)?;
     let global = optional_text(alloc, value, Key::GlobalReservationId, 128)?;
-    let provider = required_name(alloc, value, Key::ProviderNsa)?;
-    let requester = required_name(alloc, value, Key::RequesterNsa)?;
+    let header = header_from(alloc, value, correlation)?;
     let source = required_name(alloc, value, Key::SourceStp)?;
     let start = required_time(value, Key::StartTime)?;
     let symmetric = optional_flag(value, Key::SymmetricPath)?;
     let version = required_version(value, Key::Version)?;
-    let header = Header {
-        correlation,
-        requester,
-        provider,
-    };
     let body = Body::ReserveConfirmed(ReserveConfirmation {
         capacity,
         connection,
@@ -86,14 +81,8 @@ fn plain_from(alloc: Global, value: &Value, is_needed: bool) -> Result<Refusal, 
     let correlation = required_id(value, Key::CorrelationId)?;
     let error = required_plain_error(value, Key::ErrorId)?;
     let nsa = required_name(alloc, value, Key::NsaId)?;
-    let provider = required_name(alloc, value, Key::ProviderNsa)?;
-    let requester = required_name(alloc, value, Key::RequesterNsa)?;
+    let header = header_from(alloc, value, correlation)?;
     let cause = Cause::Plain(error);
-    let header = Header {
-        correlation,
-        requester,
-        provider,
-    };
     Ok(Refusal {
         header,
         connection,
@@ -124,8 +113,7 @@ fn lack_from(alloc: Global, value: &Value, is_needed: bool) -> Result<Refusal, L
     let _error = required_error(value, Key::ErrorId)?;
     let load = required_count(value, Key::Load)?;
     let nsa = required_name(alloc, value, Key::NsaId)?;
-    let provider = required_name(alloc, value, Key::ProviderNsa)?;
-    let requester = required_name(alloc, value, Key::RequesterNsa)?;
+    let header = header_from(alloc, value, correlation)?;
     let second = required_second(value, Key::Second)?;
     let stp = required_name(alloc, value, Key::Stp)?;
     let cause = Cause::Bandwidth {
@@ -134,11 +122,6 @@ fn lack_from(alloc: Global, value: &Value, is_needed: bool) -> Result<Refusal, L
         second,
         load,
         capacity,
-    };
-    let header = Header {
-        correlation,
-        requester,
-        provider,
     };
     Ok(Refusal {
         header,
@@ -159,16 +142,10 @@ fn child_from(alloc: Global, value: &Value, is_needed: bool) -> Result<Refusal, 
     let correlation = required_id(value, Key::CorrelationId)?;
     let _error = required_error(value, Key::ErrorId)?;
     let nsa = required_name(alloc, value, Key::NsaId)?;
-    let provider = required_name(alloc, value, Key::ProviderNsa)?;
-    let requester = required_name(alloc, value, Key::RequesterNsa)?;
+    let header = header_from(alloc, value, correlation)?;
     let cause = Cause::Child {
         child,
         error: child_error,
-    };
-    let header = Header {
-        correlation,
-        requester,
-        provider,
     };
     Ok(Refusal {
         header,

@@ -1,13 +1,14 @@
 //! What says a connection and nothing else, key by key in byte order.
 
-ghost use Rattle.std.specs.Prelude.{◌≡◌, IfOk};
+ghost use Rattle.std.specs.Prelude.{IfOk};
 ghost use Rattle.serde_json.specs.View.{view};
 ghost use Rattle.nsi_primitive.specs.Printable.{IsPrintable};
 ghost use Rattle.json_fields.specs.Faults.{Gives};
 ghost use Rattle.nsi_primitive.specs.declared.message.Body.{Body};
 ghost use Rattle.json_primitives.specs.Connected.{connected_from, about};
 
-use json_fields::reading::{required_id, required_name};
+use crate::reading::headers::header_from;
+use json_fields::reading::required_id;
 use json_fields::{Key, LineFault};
 use nsi_primitive::{Body, Header, Id, Message};
 use serde_json::Value;
@@ -20,13 +21,7 @@ fn connected_from(alloc: Global, value: &Value) -> Result<(Id, Header), LineFaul
 {
     let connection = required_id(value, Key::ConnectionId)?;
     let correlation = required_id(value, Key::CorrelationId)?;
-    let provider = required_name(alloc, value, Key::ProviderNsa)?;
-    let requester = required_name(alloc, value, Key::RequesterNsa)?;
-    let header = Header {
-        correlation,
-        requester,
-        provider,
-    };
+    let header = header_from(alloc, value, correlation)?;
     Ok((connection, header))
 }
 

@@ -1,19 +1,18 @@
 //! The notifications, key by key in byte order.
 
-ghost use Rattle.std.specs.Prelude.{◌≡◌, IfOk};
+ghost use Rattle.std.specs.Prelude.{IfOk};
 ghost use Rattle.serde_json.specs.View.{view};
 ghost use Rattle.nsi_primitive.specs.Printable.{IsPrintable};
 ghost use Rattle.json_fields.specs.Faults.{Gives};
 ghost use Rattle.json_primitives.specs.Notifications.{timeout_from, fault_from, plane_from, delivery_from};
 
+use crate::reading::headers::header_from;
 use json_fields::reading::{
     required_count, required_event, required_flag, required_hold, required_id, required_name,
     required_second, required_version,
 };
 use json_fields::{Key, LineFault};
-use nsi_primitive::{
-    Body, DeliveryTimeout, FaultNotice, Header, HoldTimeout, Message, PlaneNotice,
-};
+use nsi_primitive::{Body, DeliveryTimeout, FaultNotice, HoldTimeout, Message, PlaneNotice};
 use serde_json::Value;
 use std::alloc::Global;
 
@@ -27,15 +26,9 @@ pub fn timeout_from(alloc: Global, value: &Value) -> Result<Message, LineFault>
     let notification = required_count(value, Key::NotificationId)?;
     let originating_connection = required_id(value, Key::OriginatingConnectionId)?;
     let originating_nsa = required_name(alloc, value, Key::OriginatingNsa)?;
-    let provider = required_name(alloc, value, Key::ProviderNsa)?;
-    let requester = required_name(alloc, value, Key::RequesterNsa)?;
+    let header = header_from(alloc, value, correlation)?;
     let time = required_second(value, Key::TimeStamp)?;
     let seconds = required_hold(value, Key::TimeoutValue)?;
-    let header = Header {
-        correlation,
-        requester,
-        provider,
-    };
     let body = Body::ReserveTimeout(HoldTimeout {
         connection,
         notification,
@@ -58,14 +51,8 @@ pub fn fault_from(alloc: Global, value: &Value) -> Result<Message, LineFault>
     let notification = required_count(value, Key::NotificationId)?;
     let originating_connection = required_id(value, Key::OriginatingConnectionId)?;
     let originating_nsa = required_name(alloc, value, Key::OriginatingNsa)?;
-    let provider = required_name(alloc, value, Key::ProviderNsa)?;
-    let requester = required_name(alloc, value, Key::RequesterNsa)?;
+    let header = header_from(alloc, value, correlation)?;
     let time = required_second(value, Key::TimeStamp)?;
-    let header = Header {
-        correlation,
-        requester,
-        provider,
-    };
     let body = Body::ErrorEvent(FaultNotice {
         connection,
         event,
@@ -86,16 +73,10 @@ pub fn plane_from(alloc: Global, value: &Value) -> Result<Message, LineFault>
     let connection = required_id(value, Key::ConnectionId)?;
     let correlation = required_id(value, Key::CorrelationId)?;
     let notification = required_count(value, Key::NotificationId)?;
-    let provider = required_name(alloc, value, Key::ProviderNsa)?;
-    let requester = required_name(alloc, value, Key::RequesterNsa)?;
+    let header = header_from(alloc, value, correlation)?;
     let time = required_second(value, Key::TimeStamp)?;
     let version = required_version(value, Key::Version)?;
     let consistent = required_flag(value, Key::VersionConsistent)?;
-    let header = Header {
-        correlation,
-        requester,
-        provider,
-    };
     let body = Body::DataPlaneStateChange(PlaneNotice {
         active,
         connection,
@@ -116,14 +97,8 @@ pub fn delivery_from(alloc: Global, value: &Value) -> Result<Message, LineFault>
     let correlation = required_id(value, Key::CorrelationId)?;
     let delivery = required_id(value, Key::DeliveryCorrelationId)?;
     let notification = required_count(value, Key::NotificationId)?;
-    let provider = required_name(alloc, value, Key::ProviderNsa)?;
-    let requester = required_name(alloc, value, Key::RequesterNsa)?;
+    let header = header_from(alloc, value, correlation)?;
     let time = required_second(value, Key::TimeStamp)?;
-    let header = Header {
-        correlation,
-        requester,
-        provider,
-    };
     let body = Body::MessageDeliveryTimeout(DeliveryTimeout {
         connection,
         delivery,

@@ -1,12 +1,13 @@
 //! The queries, key by key in byte order.
 
-ghost use Rattle.std.specs.Prelude.{◌≡◌, IfOk};
+ghost use Rattle.std.specs.Prelude.{IfOk};
 ghost use Rattle.serde_json.specs.View.{view};
 ghost use Rattle.nsi_primitive.specs.Printable.{IsPrintable};
 ghost use Rattle.json_fields.specs.Faults.{Gives};
 ghost use Rattle.json_primitives.specs.Queries.{summary_from, ranged_from, notifications_from, results_from};
 
-use json_fields::reading::{optional_count, optional_id, required_id, required_name};
+use crate::reading::headers::header_from;
+use json_fields::reading::{optional_count, optional_id, required_id};
 use json_fields::{Key, LineFault};
 use nsi_primitive::{Body, Header, Message, NumberRange};
 use serde_json::Value;
@@ -20,13 +21,7 @@ pub fn summary_from(alloc: Global, value: &Value) -> Result<Message, LineFault>
 {
     let connection = optional_id(value, Key::ConnectionId)?;
     let correlation = required_id(value, Key::CorrelationId)?;
-    let provider = required_name(alloc, value, Key::ProviderNsa)?;
-    let requester = required_name(alloc, value, Key::RequesterNsa)?;
-    let header = Header {
-        correlation,
-        requester,
-        provider,
-    };
+    let header = header_from(alloc, value, correlation)?;
     let body = Body::QuerySummary { connection };
     Ok(Message { header, body })
 }
@@ -69,14 +64,8 @@ fn ranged_from(
     let connection = required_id(value, Key::ConnectionId)?;
     let correlation = required_id(value, Key::CorrelationId)?;
     let end = optional_count(value, end_key)?;
-    let provider = required_name(alloc, value, Key::ProviderNsa)?;
-    let requester = required_name(alloc, value, Key::RequesterNsa)?;
+    let header = header_from(alloc, value, correlation)?;
     let start = optional_count(value, start_key)?;
-    let header = Header {
-        correlation,
-        requester,
-        provider,
-    };
     let range = NumberRange {
         connection,
         end,

@@ -6,13 +6,14 @@ ghost use Rattle.nsi_primitive.specs.Printable.{IsPrintable, AreApart};
 ghost use Rattle.json_fields.specs.Faults.{Gives};
 ghost use Rattle.json_primitives.specs.Requests.{reserve_from, point_from, is_one_point};
 
+use crate::reading::headers::header_from;
 use json_fields::reading::{
     optional_directionality, optional_empty_list, optional_flag, optional_id, optional_name,
     optional_text, optional_version, required_capacity, required_id, required_name, required_time,
 };
 use json_fields::{Key, LineFault};
 use nsi_base::Name;
-use nsi_primitive::{Body, Header, Id, Message, ReserveRequest};
+use nsi_primitive::{Body, Id, Message, ReserveRequest};
 use serde_json::Value;
 use std::alloc::Global;
 
@@ -31,8 +32,7 @@ pub fn reserve_from(alloc: Global, value: &Value) -> Result<Message, LineFault>
     let end = required_time(value, Key::EndTime)?;
     let _ero = optional_empty_list(value, Key::Ero)?;
     let global = optional_text(alloc, value, Key::GlobalReservationId, 128)?;
-    let provider = required_name(alloc, value, Key::ProviderNsa)?;
-    let requester = required_name(alloc, value, Key::RequesterNsa)?;
+    let header = header_from(alloc, value, correlation)?;
     let source = point_from(alloc, value, Key::SourceStp, &connection)?;
     let start = required_time(value, Key::StartTime)?;
     let symmetric = optional_flag(value, Key::SymmetricPath)?;
@@ -53,11 +53,6 @@ pub fn reserve_from(alloc: Global, value: &Value) -> Result<Message, LineFault>
         symmetric,
         version,
     });
-    let header = Header {
-        correlation,
-        requester,
-        provider,
-    };
     Ok(Message { header, body })
 }
 

@@ -1,6 +1,6 @@
 //! The answers to queries with their rows, key by key in byte order.
 
-ghost use Rattle.std.specs.Prelude.{◌≡◌, IfOk};
+ghost use Rattle.std.specs.Prelude.{IfOk};
 ghost use Rattle.std.specs.List.{All};
 ghost use Rattle.serde_json.specs.View.{view, items_view};
 ghost use Rattle.nsi_primitive.specs.Printable.{IsPrintable, IsShort};
@@ -9,6 +9,7 @@ ghost use Rattle.json_fields.specs.Fields.{formed};
 ghost use Rattle.json_fields.specs.RowFields.{each_from};
 ghost use Rattle.json_primitives.specs.RowLines.{summary_row_from, recursive_row_from, notice_from, outcome_from, summary_rows_from, recursive_rows_from, notice_rows_from, outcome_rows_from};
 
+use crate::reading::headers::header_from;
 use json_fields::reading::{
     optional_text, optional_version, required_count, required_directionality, required_flag,
     required_id, required_kind, required_name, required_second,
@@ -19,7 +20,7 @@ use json_fields::row_fields::{
 };
 use json_fields::{Key, LineFault};
 use nsi_base::List;
-use nsi_primitive::{Body, Header, Message, Notice, Outcome, RecursiveRow, SummaryRow};
+use nsi_primitive::{Body, Message, Notice, Outcome, RecursiveRow, SummaryRow};
 use serde_json::Value;
 use std::alloc::Global;
 
@@ -31,15 +32,9 @@ pub fn summary_rows_from(alloc: Global, value: &Value) -> Result<Message, LineFa
 {
     let correlation = required_id(value, Key::CorrelationId)?;
     let more = required_flag(value, Key::More)?;
-    let provider = required_name(alloc, value, Key::ProviderNsa)?;
-    let requester = required_name(alloc, value, Key::RequesterNsa)?;
+    let header = header_from(alloc, value, correlation)?;
     let items = required_items(value, Key::Reservations)?;
     let rows = summary_rows(alloc, items)?;
-    let header = Header {
-        correlation,
-        requester,
-        provider,
-    };
     let body = Body::QuerySummaryConfirmed {
         more,
         reservations: rows,
@@ -56,15 +51,9 @@ pub fn recursive_rows_from(alloc: Global, value: &Value) -> Result<Message, Line
     let connection = required_id(value, Key::ConnectionId)?;
     let correlation = required_id(value, Key::CorrelationId)?;
     let more = required_flag(value, Key::More)?;
-    let provider = required_name(alloc, value, Key::ProviderNsa)?;
-    let requester = required_name(alloc, value, Key::RequesterNsa)?;
+    let header = header_from(alloc, value, correlation)?;
     let items = required_items(value, Key::Reservations)?;
     let rows = recursive_rows(alloc, items)?;
-    let header = Header {
-        correlation,
-        requester,
-        provider,
-    };
     let body = Body::QueryRecursiveConfirmed {
         connection,
         more,
@@ -84,13 +73,7 @@ pub fn notice_rows_from(alloc: Global, value: &Value) -> Result<Message, LineFau
     let more = required_flag(value, Key::More)?;
     let items = required_items(value, Key::Notifications)?;
     let rows = notices(alloc, items)?;
-    let provider = required_name(alloc, value, Key::ProviderNsa)?;
-    let requester = required_name(alloc, value, Key::RequesterNsa)?;
-    let header = Header {
-        correlation,
-        requester,
-        provider,
-    };
+    let header = header_from(alloc, value, correlation)?;
     let body = Body::QueryNotificationConfirmed {
         connection,
         more,
@@ -108,15 +91,9 @@ pub fn outcome_rows_from(alloc: Global, value: &Value) -> Result<Message, LineFa
     let connection = required_id(value, Key::ConnectionId)?;
     let correlation = required_id(value, Key::CorrelationId)?;
     let more = required_flag(value, Key::More)?;
-    let provider = required_name(alloc, value, Key::ProviderNsa)?;
-    let requester = required_name(alloc, value, Key::RequesterNsa)?;
+    let header = header_from(alloc, value, correlation)?;
     let items = required_items(value, Key::Results)?;
     let rows = outcomes(alloc, items)?;
-    let header = Header {
-        correlation,
-        requester,
-        provider,
-    };
     let body = Body::QueryResultConfirmed {
         connection,
         more,
@@ -127,8 +104,10 @@ pub fn outcome_rows_from(alloc: Global, value: &Value) -> Result<Message, LineFa
 
 /// The rows of a list: one that isn't of its form makes the whole list bad.
 fn summary_rows(alloc: Global, items: &[Value]) -> Result<List<SummaryRow>, LineFault>
-    ensures gives { Gives result (formed Key.Reservations (each_from summary_row_from (items_view items.now))) }
-    ensures short { IfOk result (λ rows. All (λ r. IsShort 256 r.description × IsShort 128 r.global) rows) }
+    ensures gives { Gives result
+        (formed Key.Reservations (each_from summary_row_from (items_view items.now))) }
+    ensures short { IfOk result (λ rows.
+        All (λ r. IsShort 256 r.description × IsShort 128 r.global) rows) }
 {
     let mut rows = List::new(alloc);
     for item in items {
@@ -145,7 +124,8 @@ fn summary_rows(alloc: Global, items: &[Value]) -> Result<List<SummaryRow>, Line
 
 /// The rows of a list: one that isn't of its form makes the whole list bad.
 fn recursive_rows(alloc: Global, items: &[Value]) -> Result<List<RecursiveRow>, LineFault>
-    ensures gives { Gives result (formed Key.Reservations (each_from recursive_row_from (items_view items.now))) }
+    ensures gives { Gives result
+        (formed Key.Reservations (each_from recursive_row_from (items_view items.now))) }
 {
     let mut rows = List::new(alloc);
     for item in items {
@@ -162,7 +142,8 @@ fn recursive_rows(alloc: Global, items: &[Value]) -> Result<List<RecursiveRow>, 
 
 /// The rows of a list: one that isn't of its form makes the whole list bad.
 fn notices(alloc: Global, items: &[Value]) -> Result<List<Notice>, LineFault>
-    ensures gives { Gives result (formed Key.Notifications (each_from notice_from (items_view items.now))) }
+    ensures gives { Gives result
+        (formed Key.Notifications (each_from notice_from (items_view items.now))) }
 {
     let mut rows = List::new(alloc);
     for item in items {
@@ -179,7 +160,8 @@ fn notices(alloc: Global, items: &[Value]) -> Result<List<Notice>, LineFault>
 
 /// The rows of a list: one that isn't of its form makes the whole list bad.
 fn outcomes(alloc: Global, items: &[Value]) -> Result<List<Outcome>, LineFault>
-    ensures gives { Gives result (formed Key.Results (each_from outcome_from (items_view items.now))) }
+    ensures gives { Gives result
+        (formed Key.Results (each_from outcome_from (items_view items.now))) }
 {
     let mut rows = List::new(alloc);
     for item in items {

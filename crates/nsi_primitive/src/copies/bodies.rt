@@ -1,6 +1,7 @@
 //! Copies of what messages say.
 
-ghost use Rattle.std.specs.Prelude.{◌≡◌, IfOk};
+ghost use Rattle.std.specs.Prelude.{◌≡◌, IfOk, true, false};
+ghost use Rattle.nsi_primitive.specs.Messages.{has_rows, is_request};
 
 use crate::copies::rows::{copy_notices, copy_outcomes, copy_recursive_rows, copy_summary_rows};
 use crate::message::Body;
@@ -12,6 +13,25 @@ impl Body {
     {
         match *self {
             Body::Reserve(ref request) => Ok(Body::Reserve(request.copy()?)),
+            Body::ReserveCommit { connection } => Ok(Body::ReserveCommit { connection }),
+            Body::ReserveAbort { connection } => Ok(Body::ReserveAbort { connection }),
+            Body::Provision { connection } => Ok(Body::Provision { connection }),
+            Body::Release { connection } => Ok(Body::Release { connection }),
+            Body::Terminate { connection } => Ok(Body::Terminate { connection }),
+            Body::QuerySummary { connection } => Ok(Body::QuerySummary { connection }),
+            Body::QueryNotification(range) => Ok(Body::QueryNotification(range)),
+            Body::QueryResult(range) => Ok(Body::QueryResult(range)),
+            Body::QueryRecursive { connection } => Ok(Body::QueryRecursive { connection }),
+            _ => self.copy_answer(),
+        }
+    }
+
+    /// Of an answer or a notification.
+    fn copy_answer(&self) -> Result<Body, AllocError>
+        requires { is_request self.now ≡ false }
+        ensures { IfOk result (λ b. b ≡ self.now) }
+    {
+        match *self {
             Body::ReserveResponse { connection } => Ok(Body::ReserveResponse { connection }),
             Body::ReserveConfirmed(ref criteria) => Ok(Body::ReserveConfirmed(criteria.copy()?)),
             Body::ReserveFailed {
@@ -21,7 +41,6 @@ impl Body {
                 connection,
                 exception: exception.copy()?,
             }),
-            Body::ReserveCommit { connection } => Ok(Body::ReserveCommit { connection }),
             Body::ReserveCommitConfirmed { connection } => {
                 Ok(Body::ReserveCommitConfirmed { connection })
             }
@@ -32,15 +51,11 @@ impl Body {
                 connection,
                 exception: exception.copy()?,
             }),
-            Body::ReserveAbort { connection } => Ok(Body::ReserveAbort { connection }),
             Body::ReserveAbortConfirmed { connection } => {
                 Ok(Body::ReserveAbortConfirmed { connection })
             }
-            Body::Provision { connection } => Ok(Body::Provision { connection }),
             Body::ProvisionConfirmed { connection } => Ok(Body::ProvisionConfirmed { connection }),
-            Body::Release { connection } => Ok(Body::Release { connection }),
             Body::ReleaseConfirmed { connection } => Ok(Body::ReleaseConfirmed { connection }),
-            Body::Terminate { connection } => Ok(Body::Terminate { connection }),
             Body::TerminateConfirmed { connection } => Ok(Body::TerminateConfirmed { connection }),
             Body::Error {
                 connection,
@@ -53,10 +68,16 @@ impl Body {
             Body::ErrorEvent(ref notice) => Ok(Body::ErrorEvent(notice.copy()?)),
             Body::DataPlaneStateChange(notice) => Ok(Body::DataPlaneStateChange(notice)),
             Body::MessageDeliveryTimeout(timeout) => Ok(Body::MessageDeliveryTimeout(timeout)),
-            Body::QuerySummary { connection } => Ok(Body::QuerySummary { connection }),
-            Body::QueryNotification(range) => Ok(Body::QueryNotification(range)),
-            Body::QueryResult(range) => Ok(Body::QueryResult(range)),
-            Body::QueryRecursive { connection } => Ok(Body::QueryRecursive { connection }),
+            _ => self.copy_rows(),
+        }
+    }
+
+    /// Of an answer with rows.
+    fn copy_rows(&self) -> Result<Body, AllocError>
+        requires { has_rows self.now ≡ true }
+        ensures { IfOk result (λ b. b ≡ self.now) }
+    {
+        match *self {
             Body::QuerySummaryConfirmed {
                 more,
                 ref reservations,
@@ -91,6 +112,7 @@ impl Body {
                 more,
                 reservations: copy_recursive_rows(reservations)?,
             }),
+            _ => unreachable!(),
         }
     }
 }

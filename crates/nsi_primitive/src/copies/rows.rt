@@ -11,20 +11,11 @@ impl SummaryRow {
         ensures { IfOk result (λ r. r ≡ self.now) }
     {
         Ok(SummaryRow {
-            active: self.active,
-            capacity: self.capacity,
-            connection: self.connection,
             description: copy_text(&self.description)?,
             dest: self.dest.copy()?,
-            directionality: self.directionality,
-            end: self.end,
             global: copy_text(&self.global)?,
-            lifecycle: self.lifecycle,
-            provision: self.provision,
-            reservation: self.reservation,
             source: self.source.copy()?,
-            start: self.start,
-            version: self.version,
+            ..*self
         })
     }
 }
@@ -48,7 +39,7 @@ impl RecursiveRow {
 pub fn copy_summary_rows(rows: &List<SummaryRow>) -> Result<List<SummaryRow>, AllocError>
     ensures { IfOk result (λ copy. copy ≡ rows.now) }
 {
-    let mut copy = List::new(rows.allocator());
+    let mut copy = rows.new_alike();
     for row in rows.items() {
         copy.push(row.copy()?)?;
     }
@@ -58,7 +49,7 @@ pub fn copy_summary_rows(rows: &List<SummaryRow>) -> Result<List<SummaryRow>, Al
 pub fn copy_recursive_rows(rows: &List<RecursiveRow>) -> Result<List<RecursiveRow>, AllocError>
     ensures { IfOk result (λ copy. copy ≡ rows.now) }
 {
-    let mut copy = List::new(rows.allocator());
+    let mut copy = rows.new_alike();
     for row in rows.items() {
         copy.push(row.copy()?)?;
     }
@@ -68,7 +59,7 @@ pub fn copy_recursive_rows(rows: &List<RecursiveRow>) -> Result<List<RecursiveRo
 pub fn copy_notices(notices: &List<Notice>) -> Result<List<Notice>, AllocError>
     ensures { IfOk result (λ copy. copy ≡ notices.now) }
 {
-    let mut copy = List::new(notices.allocator());
+    let mut copy = notices.new_alike();
     for notice in notices.items() {
         copy.push(*notice)?;
     }
@@ -78,7 +69,7 @@ pub fn copy_notices(notices: &List<Notice>) -> Result<List<Notice>, AllocError>
 pub fn copy_outcomes(outcomes: &List<Outcome>) -> Result<List<Outcome>, AllocError>
     ensures { IfOk result (λ copy. copy ≡ outcomes.now) }
 {
-    let mut copy = List::new(outcomes.allocator());
+    let mut copy = outcomes.new_alike();
     for outcome in outcomes.items() {
         copy.push(*outcome)?;
     }

@@ -7,8 +7,8 @@ abbrev pub invariant-exits : goal.invariant-exits
 invariant-exits l = record {
   same_length : length l.remaining.items ≡ length l.fn.remaining.items;
   grows : Grows l.grew l.fn.steps.items l.steps.items;
-  changes : Changes (Entry l.topology (marked l.below) l.step) l.step (at l.fn.steps.items) (at l.steps.items);
-  searching : Searching l.topology (marked l.below) l.step.exit (at l.steps.items) (what_remains l.remaining.items) l.exits.items;
+  changes : Changes (Entry l.area.topology.now (marked l.area.below.now) l.step) l.step (at l.fn.steps.items) (at l.steps.items);
+  searching : Searching l.area.topology.now (marked l.area.below.now) l.step.exit (at l.steps.items) (what_remains l.remaining.items) l.exits.items;
 }
 
 abbrev pub decreases-exits : goal.decreases-exits

@@ -1,7 +1,6 @@
 use Rattle.std.proofs.Common.{◌≡◌, ◌∷◌, [], ap, ◌∙◌, sym, arith, Some, append_assoc}
 use Rattle.stp_topology.specs.Network.{partner_of}
 use Rattle.path_segments.specs.Steps.{at}
-use Rattle.path_segments.proofs.Flat.{entry_within, exit_within}
 use Rattle.path_segments.proofs.Follow.{segment_of, follows_last, follows_more, hop_next}
 use Rattle.path_segments.proofs.least_path.follow.Goals as goal
 
@@ -15,7 +14,7 @@ returns-then-step-eq0 c =
 pub partner_at-requires : goal.partner_at-requires
 partner_at-requires c =
     let s = c.requires.sound c.loop-segments.entry c.loop-segments.step c.loop-segments.invariant.here in
-    omega (arith, exit_within c.args.topology.now c.args.depth c.args.children.now c.loop-segments.step.place c.loop-segments.entry c.loop-segments.step.exit s.0, entry_within c.args.topology.now c.args.depth c.args.children.now c.loop-segments.step.place c.loop-segments.entry c.loop-segments.step.exit s.0)
+    s.0
 
 pub unreachable-requires : goal.unreachable-requires
 unreachable-requires c =

@@ -3,6 +3,7 @@ use Rattle.std.proofs.lemmas.List.{get_or_read_under}
 use Rattle.stp_topology.specs.Network.{partner_of}
 use Rattle.path_segments.specs.Steps.{at, Way}
 use Rattle.path_segments.proofs.Least.{follows_chain}
+use Rattle.path_segments.proofs.Flat.{exit_within}
 use Rattle.path_segments.proofs.Follow.{no_path, none_less}
 use Rattle.path_segments.proofs.least_path.least.Goals as goal
 
@@ -13,7 +14,9 @@ returns-in_default-index-clause-none c = λ _ ys h.
     (λ e n. c.in_default-index.not-Some e (get_or_read_under c.in-Ok.steps.items c.args.source (length c.in-Ok.steps.items) c.index.result.now None c.index.ensures (omega (arith, c.requires.source, c.in-Ok.ensures.same_length)) refl ∙ n)) ys h
 
 pub follow-requires-clause-sound : goal.follow-requires-clause-sound
-follow-requires-clause-sound c = rw c.deref.ensures.value c.in-Ok.ensures.sound
+follow-requires-clause-sound c = rw c.deref.ensures.value (λ p e n.
+    let s = c.in-Ok.ensures.sound p e n in
+    (exit_within c.args.topology.now c.args.depth c.args.children.now e.place p e.exit s.0, s.1))
 
 pub returns-in-Ok-follow-clause-path : goal.returns-in-Ok-follow-clause-path
 returns-in-Ok-follow-clause-path c =

@@ -7,7 +7,7 @@ use Rattle.path_segments.proofs.search.at_exit.Given as goal
 abbrev pub invariant-loop-place : goal.invariant-loop-place
 invariant-loop-place l = record {
   grows : Grows l.grew l.fn.steps.items l.steps.items;
-  hop : Hop (at l.steps.items) (partner_of l.topology) l.dest l.rest l.exit;
-  holds : Holds l.topology l.depth l.children l.dest l.rest l.exit l.place l.steps.items;
-  searches : AreSearches l.topology l.depth l.children (IsNoted (at l.steps.items)) l.searches.items;
+  hop : Hop (at l.steps.items) (partner_of l.search.topology.now) l.search.dest l.rest l.exit;
+  holds : Holds l.search.topology.now l.search.depth l.search.children.now l.search.dest l.rest l.exit l.place l.steps.items;
+  searches : AreSearches l.search.topology.now l.search.depth l.search.children.now (IsNoted (at l.steps.items)) l.searches.items;
 }

@@ -5,7 +5,7 @@ use Rattle.nsi_disk.proofs.memory.MemoryDiskDisk.length.Goals as goal
 
 pub returns-in_ok-pause-in-Ok-Some-clause-steps : goal.returns-in_ok-pause-in-Ok-Some-clause-steps
 returns-in_ok-pause-in-Ok-Some-clause-steps c =
-    broke_stops c.args.self.now.shown c.in-Ok-Some.image _ _ c.in-Ok-Some.ensures.runs c.args.self.now.tape.made c.in_ok-pause-in-Ok-Some.ensures.done
+    broke_stops c.args.self.now.shown c.in-Ok-Some.image _ _ c.in-Ok-Some.ensures.runs c.args.self.now.tape.made c.in_ok-pause-in-Ok-Some.ensures.goes_on.done
 
 pub returns-in-Ok-None-clause-length : goal.returns-in-Ok-None-clause-length
 returns-in-Ok-None-clause-length c =
