@@ -9,11 +9,12 @@ use Rattle.nsi_base.specs.declared.flow.Flow.TheVariants.{Both, In, Out}
 use Rattle.capacity_calendar.specs.declared.booking.Booking.{Booking}
 use Rattle.capacity_calendar.specs.declared.booking.Capacity.{Capacity}
 use Rattle.capacity_calendar.specs.declared.booking.Change.{Change}
+use Rattle.capacity_calendar.specs.declared.booking.Place.{Place}
 use Rattle.capacity_calendar.specs.declared.booking.Point.{Point}
 use Rattle.capacity_calendar.specs.declared.booking.Slot.{Slot}
 use Rattle.capacity_calendar.specs.Load.{books_slot, taken, larger_taken, claim, load, others}
 use Rattle.capacity_calendar.specs.Changes.{before, after, all_before, all_after}
-use Rattle.capacity_calendar.specs.Index.{one_if, slot_ends, booking_ends, ends, point_at, second_at, ends_by, restated, AreLoads, IsIndex, IsIndexed, IsIndexedAt, Timeline, timeline_at}
+use Rattle.capacity_calendar.specs.Index.{one_if, slot_ends, booking_ends, ends, point_at, second_at, ends_by, restated, AreLoads, ClaimSame, HaveClaims, HaveRoom, StaysWithin, IsIndex, IsIndexed, IsIndexedAt, Timeline, timeline_at}
 use Rattle.capacity_calendar.proofs.Within.{others_le}
 
 ---- Ends
@@ -152,6 +153,19 @@ claims_most flow stp capacity b a os ps h w k lt =
     omega (arith, h k lt, sum_by-cons (claim flow stp (second_at ps k)) b os, sum_by-cons (claim flow stp (second_at ps k)) a os, w (second_at ps k))
 
 -- points that are all stated anew tell the load after the change, and count the same ends
+-- At a place, a change claims the same beside its interval,
+pub claims_beside : (place : Place) (c : Change) (t : ℕ) → is_covered c.slot.interval t ≡ false → ClaimSame place (before c) (after c) t
+claims_beside place c t out = same_beside place.flow place.stp t c out
+
+-- what it claimed is in the loads,
+pub claims_held : (place : Place) (c : Change) (bs : List Booking) (ps : List Point) → AreLoads (λ t. load place.flow place.stp t (all_before c bs)) ps → HaveClaims place (before c) ps
+claims_held place c bs ps told k lt = claims_least place.flow place.stp (before c) (others c.number bs) ps told k lt
+
+-- and what it claims has room.
+pub claims_fit : (place : Place) (c : Change) (bs : List Booking) (ps : List Point) → AreLoads (λ t. load place.flow place.stp t (all_before c bs)) ps → StaysWithin place (all_after c bs)
+    → HaveRoom place (before c) (after c) ps
+claims_fit place c bs ps told within k lt = claims_most place.flow place.stp place.capacity (before c) (after c) (others c.number bs) ps told within k lt
+
 pub loads_restated : (flow : Flow) (stp : ℕ) (b a : Booking) (os : List Booking) (ps qs : List Point) → length qs ≡ length ps
     → ((k : ℕ) → k < length ps → point_at qs k ≡ restated flow stp b a (point_at ps k)) → AreLoads (λ t. load flow stp t (b ∷ os)) ps → AreLoads (λ t. load flow stp t (a ∷ os)) qs
 unfolding AreLoads

@@ -26,7 +26,8 @@ impl Model for Bookings {
 
     ghost view = { λ b. present b.by_number.items };
 
-    ghost invariant = { λ b. IsNumbered 0 b.by_number.items × (length b.by_number.items ≤ 4194304) };
+    ghost invariant = { λ b. IsNumbered 0 b.by_number.items ×
+        (length b.by_number.items ≤ 4194304) };
 }
 
 impl Bookings {

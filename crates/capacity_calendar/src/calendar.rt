@@ -78,7 +78,8 @@ impl Calendar {
 
     /// The Mbps that are booked of a flow at a second, where the point has the flow.
     pub fn load_at(&self, stp: StpNo, flow: Flow, t: Second) -> u64
-        ensures sum { IfSome (capacity_at self.now.capacities stp flow) (λ _. result ≡ load flow stp t self.now.bookings) }
+        ensures sum { IfSome (capacity_at self.now.capacities stp flow)
+            (λ _. result ≡ load flow stp t self.now.bookings) }
         ensures none { IfNone (capacity_at self.now.capacities stp flow) (result ≡ 0) }
         ensures within { IfSome (capacity_at self.now.capacities stp flow) (λ c. result ≤ c) }
     {
@@ -240,7 +241,8 @@ impl Calendar {
     /// Makes the pending slot of a record its committed one, in place of the former.
     pub fn settle(&mut self, number: RecordNo)
         requires { IsSome (pending_of number self.old.bookings) }
-        ensures settled { self.new ≡ record self.old { bookings = settled number self.old.bookings } }
+        ensures settled { self.new ≡
+            record self.old { bookings = settled number self.old.bookings } }
         ensures sound { IsSound self.new }
     {
         let former = own(&self.bookings, number);
@@ -257,7 +259,8 @@ impl Calendar {
 
     /// Takes the pending slot of a record away, where it has one. The booking stays.
     pub fn take_pending(&mut self, number: RecordNo)
-        ensures taken { self.new ≡ record self.old { bookings = pending_set number None self.old.bookings } }
+        ensures taken { self.new ≡
+            record self.old { bookings = pending_set number None self.old.bookings } }
         ensures sound { IsSound self.new }
     {
         let former = own(&self.bookings, number);
@@ -309,7 +312,8 @@ fn release(
 )
     requires within { let all = booking_with number other.now None ∷ others number bookings.now in
         StayWithin capacities.now all }
-    requires index { let all = booking_with number other.now slot.now ∷ others number bookings.now in
+    requires index { let all =
+        booking_with number other.now slot.now ∷ others number bookings.now in
         AreIndexed capacities.now all tables.old }
     ensures { let all = booking_with number other.now None ∷ others number bookings.now in
         AreIndexed capacities.now all tables.new }

@@ -66,7 +66,8 @@ fn no_capacities(alloc: Global) -> Result<Vec<PointCapacities>, AllocError>
 fn note(by_point: &mut Vec<PointCapacities>, capacity: &Capacity)
     requires { 4096 ≤ length by_point.old.items }
     ensures length { length by_point.new.items ≡ length by_point.old.items }
-    ensures kept { (front : Sequence ACapacity) → AreByPoint front by_point.old.items → AreByPoint (front ++ capacity.now ∷ []) by_point.new.items }
+    ensures kept { (front : Sequence ACapacity) → AreByPoint front by_point.old.items →
+        AreByPoint (front ++ capacity.now ∷ []) by_point.new.items }
 {
     let place = capacity.stp.get() as usize;
     let kept = by_point[place].with(capacity.flow, capacity.mbps);
@@ -86,7 +87,9 @@ impl PointCapacities {
 
     /// With a capacity more, unless there is one of this flow.
     fn with(&self, flow: Flow, mbps: Mbps) -> PointCapacities
-        ensures { (f : AFlow) → of_flow f result ≡ (if is_same_flow flow f then or_else (of_flow f self.now) (Some mbps) else of_flow f self.now) }
+        ensures { (f : AFlow) → of_flow f result ≡
+            (if is_same_flow flow f then or_else (of_flow f self.now) (Some mbps)
+            else of_flow f self.now) }
     {
         let first = Some(self.of(flow).unwrap_or(mbps));
         match flow {

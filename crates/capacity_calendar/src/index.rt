@@ -29,7 +29,8 @@ impl Model for Index {
 
     ghost Value = { Timeline };
 
-    ghost view = { λ i. record { points = i.points.items; room = vec_capacity i.points - vec_len i.points } };
+    ghost view = { λ i.
+        record { points = i.points.items; room = vec_capacity i.points - vec_len i.points } };
 
     ghost invariant = { λ i. IsOrderly i.points.items };
 }
@@ -112,7 +113,8 @@ impl Index {
     fn is_at(&self, place: usize, t: Second) -> bool
         ensures within { result ≡ true → place < length self.now.points }
         ensures same { result ≡ true → second_at self.now.points place ≡ t }
-        ensures other { result ≡ false → place < length self.now.points → second_at self.now.points place ≢ t }
+        ensures other { result ≡ false →
+            place < length self.now.points → second_at self.now.points place ≢ t }
     {
         place < self.points.len() && self.points[place].second == t
     }
@@ -121,7 +123,8 @@ impl Index {
     fn mark(&mut self, t: Second)
         requires room { 0 < self.old.room }
         requires few { ends_by self.old.points t + 1 < 2 ^ 32 }
-        ensures ends { (u : ℕ) → ends_by self.new.points u ≡ ends_by self.old.points u + one_if (t == u) }
+        ensures ends { (u : ℕ) →
+            ends_by self.new.points u ≡ ends_by self.old.points u + one_if (t == u) }
         ensures tells { (f : ℕ → ℕ) → Tells f self.old.points → Tells f self.new.points }
         ensures room { self.old.room ≤ self.new.room + 1 }
     {
@@ -143,7 +146,8 @@ impl Index {
     /// Counts an end of a slot less at a second.
     fn unmark(&mut self, t: Second)
         requires { 0 < ends_by self.old.points t }
-        ensures ends { (u : ℕ) → ends_by self.new.points u + one_if (t == u) ≡ ends_by self.old.points u }
+        ensures ends { (u : ℕ) →
+            ends_by self.new.points u + one_if (t == u) ≡ ends_by self.old.points u }
         ensures loads { (f : ℕ → ℕ) → AreLoads f self.old.points → AreLoads f self.new.points }
     {
         let mut steps = Steps::new();
@@ -159,11 +163,13 @@ impl Index {
 
     /// Puts what a record claims after a change in place of what it claimed before, at the points of an interval.
     fn restate(&mut self, place: &Place, interval: Interval, before: &Booking, after: &Booking)
-        requires same { (t : ℕ) → is_covered interval t ≡ false → ClaimSame place.now before.now after.now t }
+        requires same { (t : ℕ) → is_covered interval t ≡ false →
+            ClaimSame place.now before.now after.now t }
         requires least { HaveClaims place.now before.now self.old.points }
         requires most { HaveRoom place.now before.now after.now self.old.points }
         ensures length { length self.new.points ≡ length self.old.points }
-        ensures points { AreRestated place.now before.now after.now self.old.points self.new.points }
+        ensures points { AreRestated place.now before.now after.now
+            self.old.points self.new.points }
     {
         let mut steps = Steps::new();
         let from = self.count_before(interval.start().get(), &mut steps);
@@ -260,7 +266,8 @@ fn restate_between(
     requires least { HaveClaims place.now before.now points.old.items }
     requires most { HaveRoom place.now before.now after.now points.old.items }
     ensures { let p = place.now in
-        IsRestated p.flow p.stp before.now after.now places.0 places.1 points.old.items points.new.items }
+        IsRestated p.flow p.stp before.now after.now places.0 places.1
+        points.old.items points.new.items }
 {
     let (from, to) = places;
     for k in from..to {
@@ -278,7 +285,8 @@ fn restate_at(points: &mut Vec<Point>, k: usize, place: &Place, before: &Booking
         let claims = claim p.flow p.stp point.second in
         point.load + claims after.now ≤ claims before.now + p.capacity }
     ensures { let p = place.now in
-        points.new.items ≡ slice_set points.old.items k (restated p.flow p.stp before.now after.now (point_at points.old.items k)) }
+        points.new.items ≡ slice_set points.old.items k
+        (restated p.flow p.stp before.now after.now (point_at points.old.items k)) }
 {
     let _most = place.capacity.get();
     let Point { second, load, .. } = points[k];

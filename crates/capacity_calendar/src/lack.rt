@@ -43,9 +43,11 @@ pub(crate) fn first_second<L: Ledger>(
     ensures ordered { demand.now.interval.start < demand.now.interval.end }
     ensures first { let rest = others demand.now.number bookings.now in
         let lacks = is_lacking demand.now.place rest demand.now.mbps in
-        MatchOption result (HasRoom lacks demand.now.interval) (λ s. IsFirst lacks demand.now.interval s.second) }
+        MatchOption result (HasRoom lacks demand.now.interval)
+        (λ s. IsFirst lacks demand.now.interval s.second) }
     ensures load { let p = demand.now.place in
-        IfSome result (λ s. s.load ≡ load p.flow p.stp s.second (others demand.now.number bookings.now)) }
+        IfSome result
+        (λ s. s.load ≡ load p.flow p.stp s.second (others demand.now.number bookings.now)) }
     ensures quick { let p = demand.now.place in
         IsQuick p.flow p.stp bookings.now demand.now.interval steps.old steps.new }
 {

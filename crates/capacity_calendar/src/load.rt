@@ -66,7 +66,8 @@ pub(crate) fn after(change: &Change) -> Booking
 
 /// What a record has booked, which may be nothing.
 pub(crate) fn own(bookings: &Bookings, number: RecordNo) -> Booking
-    ensures { result ≡ booking_with number (committed_of number bookings.now) (pending_of number bookings.now) }
+    ensures { result ≡ booking_with number (committed_of number bookings.now)
+        (pending_of number bookings.now) }
 {
     Booking {
         number,

@@ -53,7 +53,8 @@ impl Table {
     }
 
     fn make_room(&mut self, stp: StpNo) -> Result<(), AllocError>
-        ensures points { (q : ℕ) → (timeline_at self.new q).points ≡ (timeline_at self.old q).points }
+        ensures points { (q : ℕ) →
+            (timeline_at self.new q).points ≡ (timeline_at self.old q).points }
         ensures more { (q : ℕ) → (timeline_at self.old q).room ≤ (timeline_at self.new q).room }
         ensures room { OnOk result (2 ≤ (timeline_at self.new stp).room) }
     {
@@ -71,8 +72,10 @@ impl Table {
     )
         requires room { change.now.comes ≡ true → 2 ≤ (timeline_at self.old stp).room }
         requires within { IsWithinFlow capacities.now flow (all_after change.now bookings.now) }
-        requires index { IsIndexedAt capacities.now flow stp (all_before change.now bookings.now) (timeline_at self.old stp) }
-        ensures index { IsIndexedAt capacities.now flow stp (all_after change.now bookings.now) (timeline_at self.new stp) }
+        requires index { IsIndexedAt capacities.now flow stp
+            (all_before change.now bookings.now) (timeline_at self.old stp) }
+        ensures index { IsIndexedAt capacities.now flow stp
+            (all_after change.now bookings.now) (timeline_at self.new stp) }
         ensures others { (q : ℕ) → q ≢ stp → timeline_at self.new q ≡ timeline_at self.old q }
     {
         let Some(capacity) = capacities.of(stp, flow) else {
@@ -90,10 +93,13 @@ impl Table {
 
     /// Follows a change of a booking at the points of its slot.
     fn turn(&mut self, flow: Flow, capacities: &Capacities, change: &Change, bookings: &Bookings)
-        requires source { change.now.comes ≡ true → 2 ≤ (timeline_at self.old change.now.slot.source).room }
-        requires dest { change.now.comes ≡ true → 2 ≤ (timeline_at self.old change.now.slot.dest).room }
+        requires source { change.now.comes ≡ true →
+            2 ≤ (timeline_at self.old change.now.slot.source).room }
+        requires dest { change.now.comes ≡ true →
+            2 ≤ (timeline_at self.old change.now.slot.dest).room }
         requires within { IsWithinFlow capacities.now flow (all_after change.now bookings.now) }
-        requires index { IsIndexed capacities.now flow (all_before change.now bookings.now) self.old }
+        requires index { IsIndexed capacities.now flow
+            (all_before change.now bookings.now) self.old }
         ensures { IsIndexed capacities.now flow (all_after change.now bookings.now) self.new }
     {
         let Slot { source, dest, .. } = change.slot;
@@ -114,7 +120,8 @@ pub(crate) struct Tables {
 
 impl Tables {
     pub(crate) fn new(alloc: Global) -> Result<Self, AllocError>
-        ensures { IfOk result (λ tables. (flow : AFlow) (stp : ℕ) → (line_of flow tables stp).points ≡ []) }
+        ensures { IfOk result (λ tables. (flow : AFlow) (stp : ℕ) →
+            (line_of flow tables stp).points ≡ []) }
     {
         Ok(Tables {
             both: Table::new(alloc)?,

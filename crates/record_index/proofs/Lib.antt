@@ -1,4 +1,5 @@
 pub mod Coming
+pub mod Heap
 pub mod Members
 pub mod Order
 pub mod Rising

@@ -1,7 +1,10 @@
 -- What is in a list after an edit.
-use Rattle.std.proofs.Common.{◌≡◌, ◌≢◌, ◌↔◌, ◌<◌, ◌⊎◌, inl, inr, ℕ, zero, suc, List, ◌∷◌, arith, sym, length, get_or, Contains}
+use Rattle.std.proofs.Common.{◌≡◌, ◌≢◌, ◌↔◌, ◌<◌, ◌⊎◌, inl, inr, ℕ, zero, suc, List, [], ◌∷◌, arith, sym, length, get_or, Contains}
 use Rattle.std.specs.List.{insert, remove}
 use Rattle.std.proofs.lemmas.List.Sorted.{Contains-permutation, IsPermutation-sym, IsPermutation-insert, IsPermutation-remove}
+
+pub nothing_in : {X : Type 0} (x : X) → Contains [] x → ⊥
+nothing_in x has = omega (arith, has.1)
 
 pub contains_first : {X : Type 0} (x p : X) (xs : List X) → Contains (x ∷ xs) p → (p ≡ x) ⊎ Contains xs p
 contains_first x p xs (zero, l, e) = inl (sym e)

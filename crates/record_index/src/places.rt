@@ -51,7 +51,8 @@ impl Places {
 
     /// Adds a place, where it is wanting.
     pub fn add(&mut self, place: usize) -> Result<(), AllocError>
-        ensures ok { OnOk result ((p : ℕ) → Contains self.new p ↔ ((p ≡ place) ⊎ Contains self.old p)) }
+        ensures ok { OnOk result ((p : ℕ) →
+            Contains self.new p ↔ ((p ≡ place) ⊎ Contains self.old p)) }
         ensures err { OnErr result (self.new ≡ self.old) }
     {
         if let Err(at) = self.items.binary_search(&place) {

@@ -3,7 +3,7 @@ use Rattle.capacity_calendar.specs.Load.{load, others}
 use Rattle.capacity_calendar.specs.Changes.{before, after, all_before}
 use Rattle.capacity_calendar.specs.Index.{one_if}
 use Rattle.capacity_calendar.proofs.Steady.{tells_load}
-use Rattle.capacity_calendar.proofs.Turns.{one_at_most, few_ends, ends_come, same_beside, claims_least, claims_most, loads_restated, ends_restated}
+use Rattle.capacity_calendar.proofs.Turns.{one_at_most, few_ends, ends_come, claims_beside, claims_held, claims_fit, loads_restated, ends_restated}
 use Rattle.capacity_calendar.proofs.index.Index.come.Goals as goal
 
 pub mark-requires-clause-few : goal.mark-requires-clause-few
@@ -22,24 +22,21 @@ mark-requires-2-clause-few c =
     omega (arith, c.requires.index.ends c.end.result, few, one, one_at_most (eqb c.start.result c.end.result))
 
 pub restate-requires-clause-same : goal.restate-requires-clause-same
-restate-requires-clause-same c = λ t out. rw (c.before-2.ensures, c.after.ensures) (same_beside c.args.place.now.flow c.args.place.now.stp t c.args.change.now out)
+restate-requires-clause-same c = λ t out. rw (c.before-2.ensures, c.after.ensures) (claims_beside c.args.place.now c.args.change.now t out)
 
 pub restate-requires-clause-least : goal.restate-requires-clause-least
 restate-requires-clause-least c = λ k lt.
     let now = c.args.place.now in
-    let change = c.args.change.now in
-    let f : ℕ → ℕ = λ t. load now.flow now.stp t (all_before change c.args.bookings.now) in
+    let f : ℕ → ℕ = λ t. load now.flow now.stp t (all_before c.args.change.now c.args.bookings.now) in
     let told = c.mark-2.ensures.tells f (c.mark.ensures.tells f (tells_load now.flow now.stp _ _ c.requires.index)) in
-    rw c.before-2.ensures (claims_least now.flow now.stp (before change) (others change.number c.args.bookings.now) c.mark-2.new.self.points told.loads k lt)
+    rw c.before-2.ensures (claims_held now c.args.change.now c.args.bookings.now c.mark-2.new.self.points told.loads k lt)
 
 pub restate-requires-clause-most : goal.restate-requires-clause-most
 restate-requires-clause-most c = λ k lt.
     let now = c.args.place.now in
-    let change = c.args.change.now in
-    let f : ℕ → ℕ = λ t. load now.flow now.stp t (all_before change c.args.bookings.now) in
+    let f : ℕ → ℕ = λ t. load now.flow now.stp t (all_before c.args.change.now c.args.bookings.now) in
     let told = c.mark-2.ensures.tells f (c.mark.ensures.tells f (tells_load now.flow now.stp _ _ c.requires.index)) in
-    rw (c.before-2.ensures, c.after.ensures)
-    (claims_most now.flow now.stp now.capacity (before change) (after change) (others change.number c.args.bookings.now) c.mark-2.new.self.points told.loads c.requires.within k lt)
+    rw (c.before-2.ensures, c.after.ensures) (claims_fit now c.args.change.now c.args.bookings.now c.mark-2.new.self.points told.loads c.requires.within k lt)
 
 pub returns : goal.returns
 returns c =

@@ -2,24 +2,19 @@ use Rattle.std.proofs.Common.{ℕ, eqb, arith, ap}
 use Rattle.capacity_calendar.specs.Load.{load, others}
 use Rattle.capacity_calendar.specs.Changes.{before, after, all_after}
 use Rattle.capacity_calendar.specs.Index.{one_if}
-use Rattle.capacity_calendar.proofs.Turns.{one_of_same, ends_go, same_beside, claims_least, claims_most, loads_restated, ends_restated}
+use Rattle.capacity_calendar.proofs.Turns.{one_of_same, ends_go, claims_beside, claims_held, claims_fit, loads_restated, ends_restated}
 use Rattle.capacity_calendar.proofs.index.Index.go.Goals as goal
 
 pub restate-requires-clause-same : goal.restate-requires-clause-same
-restate-requires-clause-same c = λ t out. rw (c.before-2.ensures, c.after.ensures) (same_beside c.args.place.now.flow c.args.place.now.stp t c.args.change.now out)
+restate-requires-clause-same c = λ t out. rw (c.before-2.ensures, c.after.ensures) (claims_beside c.args.place.now c.args.change.now t out)
 
 pub restate-requires-clause-least : goal.restate-requires-clause-least
-restate-requires-clause-least c = λ k lt.
-    let now = c.args.place.now in
-    let change = c.args.change.now in
-    rw c.before-2.ensures (claims_least now.flow now.stp (before change) (others change.number c.args.bookings.now) c.args.self.now.points c.requires.index.loads k lt)
+restate-requires-clause-least c = λ k lt. rw c.before-2.ensures (claims_held c.args.place.now c.args.change.now c.args.bookings.now c.args.self.now.points c.requires.index.loads k lt)
 
 pub restate-requires-clause-most : goal.restate-requires-clause-most
 restate-requires-clause-most c = λ k lt.
-    let now = c.args.place.now in
-    let change = c.args.change.now in
     rw (c.before-2.ensures, c.after.ensures)
-    (claims_most now.flow now.stp now.capacity (before change) (after change) (others change.number c.args.bookings.now) c.args.self.now.points c.requires.index.loads c.requires.within k lt)
+    (claims_fit c.args.place.now c.args.change.now c.args.bookings.now c.args.self.now.points c.requires.index.loads c.requires.within k lt)
 
 pub unmark-requires : goal.unmark-requires
 unmark-requires c =

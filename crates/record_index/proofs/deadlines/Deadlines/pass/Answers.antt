@@ -1,4 +1,4 @@
 use Rattle.record_index.proofs.deadlines.Deadlines.pass.Goals as goal
 
 pub returns : goal.returns
-returns c d = rw (c.self.view_is, c.get.ensures.value) at (c.drop_by.ensures d)
+returns c d = rw (← c.self.view_is, ← c.get.ensures.value) (c.drop_by.ensures.left d)
