@@ -37,7 +37,7 @@ stands_for names h e is =
 pub is_placed : (names : List (List ℕ)) (h : Header) (e : Exchange) → exchange_of names h ≡ Some e → IsPlaced names e
 is_placed names h e is = ap (exchange_of names) (stands_for names h e is) ∙ is
 
-still_of : (old new : List (List ℕ)) → Keeps old new → (h : Header) (e : Exchange) → exchange_of old h ≡ Some e → exchange_of new h ≡ Some e
+pub still_of : (old new : List (List ℕ)) → Keeps old new → (h : Header) (e : Exchange) → exchange_of old h ≡ Some e → exchange_of new h ≡ Some e
 still_of old new keeps h e is =
     let p = places old h e is in
     ap (λ o. option_and_then (λ r. option_map (λ p. record { requester = r; provider = p; correlation = h.correlation }) (place_of new h.provider)) o) (keeps h.requester e.requester p.0)
@@ -57,7 +57,7 @@ still_placed old new keeps es all k d within = is_placed new _ _ (still_of old n
 abbrev pub exchange_eq : Exchange → Exchange → Bool
 exchange_eq a b = eqb a.requester b.requester && (eqb a.provider b.provider && eqb a.correlation b.correlation)
 
-exchange_decides : (a b : Exchange) → Decides (exchange_eq a b) (a ≡ b)
+pub exchange_decides : (a b : Exchange) → Decides (exchange_eq a b) (a ≡ b)
 exchange_decides a b = Decides-like _ is parts (Decides-and _ _ (Decides-eqb a.requester b.requester) (Decides-and _ _ (Decides-eqb a.provider b.provider) (Decides-eqb a.correlation b.correlation)))
   where
     is : (a.requester ≡ b.requester) × ((a.provider ≡ b.provider) × (a.correlation ≡ b.correlation)) → a ≡ b
@@ -69,7 +69,7 @@ exchange_decides a b = Decides-like _ is parts (Decides-and _ _ (Decides-eqb a.r
     parts : a ≡ b → (a.requester ≡ b.requester) × ((a.provider ≡ b.provider) × (a.correlation ≡ b.correlation))
     parts e = (ap (λ (x : Exchange). x.requester) e, (ap (λ (x : Exchange). x.provider) e, ap (λ (x : Exchange). x.correlation) e))
 
-request_decides : (a b : Header) → Decides (is_same_request a b) (a ≡ b)
+pub request_decides : (a b : Header) → Decides (is_same_request a b) (a ≡ b)
 request_decides a b = Decides-like _ is parts (Decides-and _ _ (bytes_eq-Decides a.requester b.requester) (Decides-and _ _ (bytes_eq-Decides a.provider b.provider) (Decides-eqb a.correlation b.correlation)))
   where
     is : (a.requester ≡ b.requester) × ((a.provider ≡ b.provider) × (a.correlation ≡ b.correlation)) → a ≡ b
@@ -82,7 +82,7 @@ request_decides a b = Decides-like _ is parts (Decides-and _ _ (bytes_eq-Decides
     parts e = (ap (λ (x : Header). x.requester) e, (ap (λ (x : Header). x.provider) e, ap (λ (x : Header). x.correlation) e))
 
 -- a test of exchanges is a test of the requests that they stand for
-same_request : (names : List (List ℕ)) (h : Header) (e x : Exchange) → exchange_of names h ≡ Some e → IsPlaced names x → exchange_eq e x ≡ is_same_request h (header_of names x)
+pub same_request : (names : List (List ℕ)) (h : Header) (e x : Exchange) → exchange_of names h ≡ Some e → IsPlaced names x → exchange_eq e x ≡ is_same_request h (header_of names x)
 same_request names h e x is placed = same_from_decides _ _ (Decides-like _ forth back (exchange_decides e x)) (request_decides h (header_of names x))
   where
     forth : e ≡ x → h ≡ header_of names x

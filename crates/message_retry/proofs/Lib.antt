@@ -1,2 +1,5 @@
 mod NameLemmas
 mod ExchangeLemmas
+mod MarkLemmas
+mod NumberLemmas
+mod SpanLemmas

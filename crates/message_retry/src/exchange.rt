@@ -5,7 +5,8 @@ ghost use Rattle.message_retry.specs.Names.{Keeps};
 ghost use Rattle.message_retry.specs.Exchanges.{exchange_of};
 
 use crate::names::Names;
-use nsi_primitive::Header;
+use nsi_base::Name;
+use nsi_primitive::{Header, Id};
 use std::alloc::{AllocError, Global};
 
 /// By which a request is known. It owns nothing, so that a look-up takes no memory.
@@ -21,16 +22,38 @@ impl Exchange {
     pub fn known(names: &Names, header: &Header) -> Option<Exchange>
         ensures { result ≡ exchange_of names.now header.now }
     {
+        Exchange::between(
+            names,
+            &header.requester,
+            &header.provider,
+            header.correlation,
+        )
+    }
+
+    /// The exchange between two agents that both have a place.
+    pub fn between(
+        names: &Names,
+        requester: &Name,
+        provider: &Name,
+        correlation: Id,
+    ) -> Option<Exchange>
+        ensures { result ≡ exchange_of names.now (record {
+          correlation = correlation;
+          requester = requester.now;
+          provider = provider.now;
+        }) }
+    {
         Some(Exchange {
-            requester: names.place(header.requester.as_str())?,
-            provider: names.place(header.provider.as_str())?,
-            correlation: header.correlation.number(),
+            requester: names.place(requester.as_str())?,
+            provider: names.place(provider.as_str())?,
+            correlation: correlation.number(),
         })
     }
 
     /// The exchange of a request, whose agents get a place where they have none.
     pub fn noted(names: &mut Names, alloc: Global, header: &Header) -> Result<Exchange, AllocError>
-        ensures exchange { IfOk result (λ exchange. exchange_of names.new header.now ≡ Some exchange) }
+        ensures exchange { let h = header.now in
+            IfOk result (λ exchange. exchange_of names.new h ≡ Some exchange) }
         ensures kept { Keeps names.old names.new }
     {
         let requester = names.note(alloc, header.requester.as_str())?;

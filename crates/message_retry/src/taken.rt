@@ -64,7 +64,8 @@ impl TakenRequests {
 
     /// Takes the last one back. It takes no memory.
     pub fn take_back(&mut self)
-        ensures { (headers : Sequence Header) (h : Header) → self.old ≡ headers ++ h ∷ [] → self.new ≡ headers }
+        ensures { (headers : Sequence Header) (h : Header) →
+            self.old ≡ headers ++ h ∷ [] → self.new ≡ headers }
     {
         let _last = self.exchanges.pop();
     }

@@ -1,8 +1,8 @@
 //! Requests that come again, and others that are like them.
 
-use crate::TakenRequests;
+use crate::{Retry, TakenRequests};
 use nsi_base::{AgentNo, Name};
-use nsi_primitive::{Header, id_of};
+use nsi_primitive::{Body, Header, Kind, Message, agent_and_n, id_of};
 use std::alloc::Global;
 use std::test::Fail;
 
@@ -87,5 +87,208 @@ fn request_is_there_once_taken(rt: HostRuntime) -> Result<(), Fail> {
         let is_there = is_there(rt.alloc(), requester, provider, agent)?;
         assert_eq!(rt; is_there, expected, "{requester} {provider} {agent}");
     }
+    Ok(())
+}
+
+/// A body of the kind that a letter names: two requests, two answers.
+fn body(kind: &str) -> Result<Body, Fail> {
+    let connection = id_of(AgentNo::new(9).ok_or("an agent")?, 7);
+    match kind {
+        "commit" => Ok(Body::ReserveCommit { connection }),
+        "provision" => Ok(Body::Provision { connection }),
+        "response" => Ok(Body::ReserveResponse { connection }),
+        _ => Ok(Body::ReserveCommitConfirmed { connection }),
+    }
+}
+
+fn message(alloc: Global, kind: &str, agent: u16) -> Result<Message, Fail> {
+    Ok(Message {
+        header: header(alloc, "r1", "p1", agent)?,
+        body: body(kind)?,
+    })
+}
+
+fn see(retry: &mut Retry, alloc: Global, kind: &str, agent: u16) -> Result<(), Fail> {
+    let message = message(alloc, kind, agent)?;
+    Ok(retry.saw(alloc, &message)?)
+}
+
+fn is_old(retry: &Retry, alloc: Global, kind: &str, agent: u16) -> Result<bool, Fail> {
+    let message = message(alloc, kind, agent)?;
+    Ok(retry.is_old(&message))
+}
+
+fn take_back(retry: &mut Retry, alloc: Global, kind: &str, agent: u16) -> Result<(), Fail> {
+    let message = message(alloc, kind, agent)?;
+    retry.take_back(&message);
+    Ok(())
+}
+
+/// Whether a message is old once another one was taken.
+fn is_old_behind(alloc: Global, first: (&str, u16), then: (&str, u16)) -> Result<bool, Fail> {
+    let mut retry = Retry::new(alloc);
+    see(&mut retry, alloc, first.0, first.1)?;
+    is_old(&retry, alloc, then.0, then.1)
+}
+
+#[test]
+fn kind_counts_of_answers_alone(rt: HostRuntime) -> Result<(), Fail> {
+    let rows = [
+        (("commit", 1), ("commit", 1), true),
+        (("commit", 1), ("provision", 1), true),
+        (("commit", 1), ("commit", 2), false),
+        (("commit", 1), ("confirmed", 1), false),
+        (("response", 1), ("response", 1), true),
+        (("response", 1), ("confirmed", 1), false),
+        (("response", 1), ("commit", 1), false),
+        (("response", 1), ("response", 2), false),
+    ];
+    for (first, then, expected) in rows {
+        let is_old = is_old_behind(rt.alloc(), first, then)?;
+        assert_eq!(rt;
+            is_old,
+            expected,
+            "{} {} then {} {}",
+            first.0, first.1, then.0, then.1
+        );
+    }
+    Ok(())
+}
+
+/// Whether a message is old once it was taken and taken back, and a request that came before it is.
+fn are_old_behind_take_back(alloc: Global, kind: &str) -> Result<[bool; 2], Fail> {
+    let mut retry = Retry::new(alloc);
+    see(&mut retry, alloc, "commit", 1)?;
+    see(&mut retry, alloc, kind, 2)?;
+    take_back(&mut retry, alloc, kind, 2)?;
+    are_old(&retry, alloc, kind)
+}
+
+fn are_old(retry: &Retry, alloc: Global, kind: &str) -> Result<[bool; 2], Fail> {
+    let first = is_old(retry, alloc, "commit", 1)?;
+    let then = is_old(retry, alloc, kind, 2)?;
+    Ok([first, then])
+}
+
+#[test]
+fn message_that_was_taken_back_is_new(rt: HostRuntime) -> Result<(), Fail> {
+    for kind in ["provision", "confirmed"] {
+        let are_old = are_old_behind_take_back(rt.alloc(), kind)?;
+        assert_eq!(rt; are_old, [true, false], "{kind}");
+    }
+    Ok(())
+}
+
+fn put(retry: &mut Retry, alloc: Global, kind: &str, agent: u16) -> Result<(), Fail> {
+    let message = message(alloc, kind, agent)?;
+    Ok(retry.store(alloc, &[message])?)
+}
+
+/// Four messages wait, the last of the identity of the first.
+fn four_wait(alloc: Global) -> Result<Retry, Fail> {
+    let mut retry = Retry::new(alloc);
+    for (kind, agent) in [
+        ("response", 1),
+        ("confirmed", 1),
+        ("response", 2),
+        ("response", 1),
+    ] {
+        put(&mut retry, alloc, kind, agent)?;
+    }
+    Ok(retry)
+}
+
+fn ack(retry: &mut Retry, alloc: Global, kind: &str, agent: u16) -> Result<bool, Fail> {
+    let identity = message(alloc, kind, agent)?.identity()?;
+    Ok(retry.acked(&identity))
+}
+
+/// The kinds that wait, each with the agent of its correlationId.
+fn waiting(retry: &Retry, alloc: Global) -> Result<Vec<(u16, Kind)>, Fail> {
+    let mut found = Vec::new(alloc);
+    for message in retry.waiting() {
+        let (agent, _) = agent_and_n(message.header.correlation).ok_or("an id")?;
+        found.push((agent.get(), message.kind()))?;
+    }
+    Ok(found)
+}
+
+#[test]
+fn messages_wait_in_order(rt: HostRuntime) -> Result<(), Fail> {
+    let retry = four_wait(rt.alloc())?;
+    let found = waiting(&retry, rt.alloc())?;
+    let expected = [
+        (1, Kind::ReserveResponse),
+        (1, Kind::ReserveCommitConfirmed),
+        (2, Kind::ReserveResponse),
+        (1, Kind::ReserveResponse),
+    ];
+    assert_eq!(rt; found.as_slice(), expected.as_slice());
+    Ok(())
+}
+
+/// What waits once messages were acknowledged, and whether the last of these waited.
+fn behind_acks(alloc: Global, acks: &[(&str, u16)]) -> Result<(Vec<(u16, Kind)>, bool), Fail> {
+    let mut retry = four_wait(alloc)?;
+    let mut waited = false;
+    for (kind, agent) in acks {
+        waited = ack(&mut retry, alloc, kind, *agent)?;
+    }
+    Ok((waiting(&retry, alloc)?, waited))
+}
+
+#[test]
+fn acknowledged_message_is_taken_out_of_the_middle(rt: HostRuntime) -> Result<(), Fail> {
+    let (found, waited) = behind_acks(rt.alloc(), &[("response", 2)])?;
+    let expected = [
+        (1, Kind::ReserveResponse),
+        (1, Kind::ReserveCommitConfirmed),
+        (1, Kind::ReserveResponse),
+    ];
+    assert!(rt; waited);
+    assert_eq!(rt; found.as_slice(), expected.as_slice());
+    Ok(())
+}
+
+#[test]
+fn first_of_two_alike_is_taken_out_first(rt: HostRuntime) -> Result<(), Fail> {
+    let (found, waited) = behind_acks(rt.alloc(), &[("response", 1)])?;
+    let expected = [
+        (1, Kind::ReserveCommitConfirmed),
+        (2, Kind::ReserveResponse),
+        (1, Kind::ReserveResponse),
+    ];
+    assert!(rt; waited);
+    assert_eq!(rt; found.as_slice(), expected.as_slice());
+    Ok(())
+}
+
+#[test]
+fn third_acknowledgement_of_two_alike_is_of_none(rt: HostRuntime) -> Result<(), Fail> {
+    let acks = [("response", 1), ("response", 1), ("response", 1)];
+    let (found, waited) = behind_acks(rt.alloc(), &acks)?;
+    let expected = [
+        (1, Kind::ReserveCommitConfirmed),
+        (2, Kind::ReserveResponse),
+    ];
+    assert!(rt; !waited);
+    assert_eq!(rt; found.as_slice(), expected.as_slice());
+    Ok(())
+}
+
+#[test]
+fn another_kind_acknowledges_nothing(rt: HostRuntime) -> Result<(), Fail> {
+    let (found, waited) = behind_acks(rt.alloc(), &[("confirmed", 2)])?;
+    assert!(rt; !waited);
+    assert_eq!(rt; found.len(), 4);
+    Ok(())
+}
+
+#[test]
+fn last_ones_are_taken_out_again(rt: HostRuntime) -> Result<(), Fail> {
+    let mut retry = four_wait(rt.alloc())?;
+    retry.take_out(3);
+    let found = waiting(&retry, rt.alloc())?;
+    assert_eq!(rt; found.as_slice(), [(1, Kind::ReserveResponse)].as_slice());
     Ok(())
 }
