@@ -9,7 +9,7 @@ use Rattle.provider_agent.specs.State.{State, Standing, Stepped, counts}
 use Rattle.provider_agent.specs.Steps.{step, after, may_take}
 use Rattle.provider_agent.specs.Good.{IsGood}
 use Rattle.provider_agent.specs.Safety.{Keeps}
-use Rattle.provider_agent.specs.Step.{IsStep}
+use Rattle.provider_agent.specs.Step.{IsStep, counted}
 use Rattle.provider_agent.specs.Core.{setting_at, state_at, standing_at, IsConsistent, IsReady, IsSteady}
 use Rattle.provider_agent.specs.declared.provider_core.Core.{Core}
 use Rattle.provider_agent.proofs.Counting.{step_taken, taken_is}
@@ -27,7 +27,7 @@ standing_of h s = record { setting = h; state = s }
 -- what an entry that is taken makes of a core
 module _ (result : Result (Vec Message Global) AllocError) (d new : Core) (stp_of : List ℕ → Option ℕ) (e : Entry)
     (steady : IsSteady d) (may : may_take (state_at d) e ≡ true) (printable : IsPrintableInput e.input)
-    (made : IsStep d new result (λ setting s. counts (step e.input e.second setting stp_of s))) (consistent : IsConsistent new) where
+    (made : IsStep d new result (λ setting s. counted (step e.input e.second setting stp_of s))) (consistent : IsConsistent new) where
   good_as : (s : State) → state_at new ≡ s → IsGood (setting_at d) s → IsGood (setting_at new) (state_at new)
   good_as s is good = subst (λ h. IsGood h (state_at new)) (sym made.setting) (subst (IsGood (setting_at d)) (sym is) good)
 

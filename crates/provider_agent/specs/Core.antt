@@ -14,7 +14,7 @@ abbrev pub setting_at : Core → Setting
 setting_at d = record { name = d.agent.name; number = d.agent.number; hold = d.agent.hold; capacities = d.calendar.capacities }
 
 abbrev pub state_at : Core → State
-state_at d = record { records = d.records.items; seen = d.seen; next = d.next; now = d.now; taken = d.taken }
+state_at d = record { records = d.records.items; seen = d.retry.seen; heard = d.retry.heard; waiting = d.retry.waiting; next = d.next; now = d.now; taken = d.taken }
 
 abbrev pub standing_at : Core → Standing
 standing_at d = record { setting = setting_at d; state = state_at d }

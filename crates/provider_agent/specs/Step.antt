@@ -1,5 +1,5 @@
 -- What a call of a provider's core makes of it, where it takes an entry or a part of one.
-use Rattle.std.specs.Prelude.{◌≡◌, ℕ, Result, None, OnOk, OnErr, IfOk}
+use Rattle.std.specs.Prelude.{◌≡◌, ◌+◌, ◌++◌, ℕ, Result, None, OnOk, OnErr, IfOk}
 use Rattle.std.specs.Global.{Vec}
 use Rattle.std.specs.declared.alloc.AllocError.{AllocError}
 use Rattle.nsi_primitive.specs.declared.message.Message.{Message}
@@ -10,9 +10,17 @@ use Rattle.provider_agent.specs.State.{State, Standing, Stepped, record_at}
 use Rattle.provider_agent.specs.Others.{cause_among}
 use Rattle.provider_agent.specs.Core.{standing_at}
 
--- the state and the messages are those that the definition makes; where memory is wanting, the state is what it was
+-- what is said waits for its acknowledgement
+abbrev pub stored : Stepped → State
+stored x = record x.state { waiting = x.state.waiting ++ x.out }
+
+-- an entry counts as taken
+abbrev pub counted : Stepped → Stepped
+counted x = record x { state = record x.state { taken = x.state.taken + 1 } }
+
+-- the state and the messages are those that the definition makes, and these wait; where memory is wanting, the state is what it was
 pub record IsStepOf (old new : Standing) (result : Result (Vec Message) AllocError) (makes : Setting → State → Stepped) : Type 0 where
-  pub state : OnOk result (new.state ≡ (makes old.setting old.state).state)
+  pub state : OnOk result (new.state ≡ stored (makes old.setting old.state))
   pub out : IfOk result (λ out. out.items ≡ (makes old.setting old.state).out)
   pub setting : new.setting ≡ old.setting
   pub err : OnErr result (new.state ≡ old.state)

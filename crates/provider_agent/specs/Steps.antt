@@ -12,6 +12,7 @@ use Rattle.nsi_primitive.specs.declared.message.ReserveRequest.{ReserveRequest}
 use Rattle.nsi_primitive.specs.declared.entry.Entry.{Entry}
 use Rattle.nsi_primitive.specs.declared.entry.Input.{Input}
 use Rattle.message_retry.specs.Taken.{is_taken, with_taken}
+use Rattle.message_retry.specs.Retry.{without}
 use Rattle.connection_record.specs.declared.record.Record.{Record}
 use Rattle.connection_record.specs.declared.life.LifecycleMove.{LifecycleMove}
 use Rattle.connection_record.specs.declared.moves.Origin.{Origin}
@@ -214,7 +215,7 @@ step (Input.Got m) second setting stp_of s = receives (is_request m.body) (is_ta
 step (Input.Work n machine) second setting stp_of s = works (is_waiting s n machine) setting s n machine
 step Input.Tick second setting stp_of s = ticks setting second s
 step (Input.Force n) second setting stp_of s = forces (is_forcible s n) setting s n
-step (Input.Acked _) second setting stp_of s = unchanged s
+step (Input.Acked i) second setting stp_of s = unchanged (record s { waiting = without i s.waiting })
 step (Input.Ask _ _) second setting stp_of s = unchanged s
 
 abbrev pub after_if : Bool → Setting → (List ℕ → Option ℕ) → State → Entry → Stepped

@@ -47,10 +47,18 @@ impl Core {
             origin,
         });
         let moment = Moment {
+            place,
             second: self.now,
             next,
         };
-        let turn = turn_at(alloc, &self.agent, &mut self.records, place, event, moment)?;
+        let turn = turn_at(
+            alloc,
+            &self.agent,
+            &mut self.records,
+            &mut self.retry,
+            event,
+            moment,
+        )?;
         self.next = next + turn.drawn;
         self.free_if_dropped(place);
         Ok(turn.out)

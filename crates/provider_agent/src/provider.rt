@@ -1,6 +1,8 @@
 //! A provider.
 
 ghost use Rattle.std.specs.Prelude.{◌≡◌, ◌<◌, ◌≤◌, length, All, IfOk, OnOk, OnErr, IfSome, IfNone, true};
+ghost use Rattle.std.specs.Map.Iter.{ShowsInOrder, deref};
+ghost use Rattle.nsi_primitive.specs.declared.message.Message.{Message as MessageValue};
 ghost use Rattle.stp_topology.specs.Sound.{IsProvider};
 ghost use Rattle.nsi_primitive.specs.Printable.{IsPrintable, IsPrintableInput};
 ghost use Rattle.capacity_calendar.specs.Plan.{capacity_at};
@@ -17,6 +19,7 @@ use connection_record::Record;
 use nsi_base::{AgentNo, Flow, RecordNo, Second, StpNo};
 use nsi_primitive::{Entry, Machine, Message};
 use std::alloc::{AllocError, Global};
+use std::collections::btree_map::Values;
 use std::marker::Model;
 use stp_topology::Topology;
 
@@ -112,7 +115,15 @@ impl Provider {
     pub fn seen(&self, message: &Message) -> bool
         ensures { result ≡ is_seen self.now.state message.now }
     {
-        message.is_request() && self.core.seen.has(&message.header)
+        message.is_request() && self.core.retry.has(&message.header)
+    }
+
+    /// The messages that wait for their acknowledgement, in the order in which they were sent. It takes no memory.
+    pub fn waiting(&self) -> Values<'_, u64, Message>
+        ensures rest { result ≡ self.now.state.waiting }
+        ensures runs { ShowsInOrder (deref {X = MessageValue}) }
+    {
+        self.core.retry.waiting()
     }
 
     /// Its records, in the order in which they were made.

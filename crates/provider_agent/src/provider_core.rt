@@ -3,17 +3,17 @@
 ghost use Rattle.std.specs.Prelude.{◌≡◌, ◌<◌, ◌≤◌, length, true, None, IfOk};
 ghost use Rattle.stp_topology.specs.Sound.{IsProvider};
 ghost use Rattle.provider_agent.specs.Setting.{setting_of, own_stp};
-ghost use Rattle.provider_agent.specs.State.{blank, counts};
+ghost use Rattle.provider_agent.specs.State.{blank};
 ghost use Rattle.provider_agent.specs.Steps.{step, is_on_time};
 ghost use Rattle.provider_agent.specs.Kept.{freed};
 ghost use Rattle.provider_agent.specs.Core.{standing_at, IsConsistent, IsReady};
-ghost use Rattle.provider_agent.specs.Step.{IsStep};
+ghost use Rattle.provider_agent.specs.Step.{counted, IsStep};
 
 use crate::agent::Agent;
 use crate::setting::capacities_among;
 use capacity_calendar::Calendar;
 use connection_record::Record;
-use message_retry::TakenRequests;
+use message_retry::Retry;
 use nsi_base::{AgentNo, RecordNo, Second};
 use nsi_primitive::{Entry, Input, Message};
 use record_index::{Deadlines, Places};
@@ -30,7 +30,8 @@ pub struct Core {
     pub waiting: Places,
     /// When holds end, and schedules begin and end. Others may be among them.
     pub deadlines: Deadlines,
-    pub seen: TakenRequests,
+    /// The messages that wait for their acknowledgement, and the requests that were taken.
+    pub retry: Retry,
     /// The number of the next id.
     pub next: u64,
     pub now: Second,
@@ -66,7 +67,7 @@ impl Core {
             records: Vec::new(alloc),
             waiting: Places::new(alloc),
             deadlines: Deadlines::new(alloc),
-            seen: TakenRequests::new(alloc),
+            retry: Retry::new(alloc),
             next: 1,
             now: Second::first(),
             taken: 0,
@@ -87,7 +88,7 @@ impl Core {
         ensures step { let e = entry.now in
             let stp_of = own_stp topology.now self.old.agent.number in
             IsStep self.old self.new result
-            (λ setting s. counts (step e.input e.second setting stp_of s)) }
+            (λ setting s. counted (step e.input e.second setting stp_of s)) }
         ensures consistent { IsConsistent self.new }
     {
         let out = match &entry.input {
@@ -95,7 +96,11 @@ impl Core {
             Input::Work { number, machine } => self.work(alloc, *number, *machine)?,
             Input::Tick => self.tick(alloc, entry.second)?,
             Input::Force { number } => self.force(alloc, *number)?,
-            Input::Acked(_) | Input::Ask { .. } => Vec::new(alloc),
+            Input::Acked(identity) => {
+                self.retry.acked(identity);
+                Vec::new(alloc)
+            }
+            Input::Ask { .. } => Vec::new(alloc),
         };
         self.taken += 1;
         Ok(out)

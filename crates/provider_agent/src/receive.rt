@@ -1,6 +1,6 @@
 //! How requests are taken.
 
-ghost use Rattle.std.specs.Prelude.{◌≡◌, ◌<◌, ◌∷◌, [], length, IfOk, OnErr, IfSome, IsSome, None, Some, Contains};
+ghost use Rattle.std.specs.Prelude.{◌≡◌, ◌<◌, ◌∷◌, ◌++◌, [], length, IfOk, OnErr, IfSome, IsSome, None, Some, Contains};
 ghost use Rattle.nsi_primitive.specs.Messages.{is_request, connection_of};
 ghost use Rattle.nsi_primitive.specs.declared.message.Body.{Body as BodyValue};
 ghost use Rattle.message_retry.specs.Taken.{is_taken, with_taken};
@@ -10,7 +10,7 @@ ghost use Rattle.connection_record.specs.Moves.{service_of};
 ghost use Rattle.connection_record.specs.Applied.{requested, moves_if};
 ghost use Rattle.connection_record.specs.Refusal.{refusal, unnamed_refusal, points_of};
 ghost use Rattle.provider_agent.specs.Setting.{own_stp};
-ghost use Rattle.provider_agent.specs.State.{name_or, record_at};
+ghost use Rattle.provider_agent.specs.State.{name_or, record_at, says};
 ghost use Rattle.provider_agent.specs.Steps.{receives, answers, opens_between, taken_at, error_reply};
 ghost use Rattle.provider_agent.specs.Core.{IsConsistent, IsReady};
 ghost use Rattle.provider_agent.specs.Step.{IsStep};
@@ -23,6 +23,7 @@ use crate::records::{Moment, Turned, turn};
 use crate::setting::own_stp;
 use connection_record::Record;
 use connection_record::refusal::schedule_refusal;
+use message_retry::Retry;
 use nsi_base::{AgentNo, Name, Second, StpNo, copy_text};
 use nsi_primitive::{
     Body, Cause, Directionality, ErrorName, Exception, Message, ReserveRequest, Service, id_of,
@@ -32,7 +33,7 @@ use stp_topology::Topology;
 
 impl Core {
     /// Takes a message. One that isn't a request, or was taken before, changes nothing.
-    #[tactic(auto, unfolding(crate::specs::Steps::receives, message_retry::specs::Taken::with_taken))]
+    #[tactic(auto, unfolding(crate::specs::Steps::receives, message_retry::specs::Taken::with_taken, message_retry::specs::Retry::is_old, message_retry::specs::Retry::saw))]
     pub fn receive(
         &mut self,
         alloc: Global,
@@ -46,16 +47,14 @@ impl Core {
             receives (is_request m.body) (is_taken m.header s.seen) setting stp_of s m) }
         ensures consistent { IsConsistent self.new }
     {
-        if !message.is_request() {
+        if !message.is_request() || self.retry.is_old(message) {
             return Ok(Vec::new(alloc));
         }
-        if !self.seen.take(alloc, &message.header)? {
-            return Ok(Vec::new(alloc));
-        }
+        self.retry.saw(alloc, message)?;
         match self.answer(alloc, topology, message) {
             Ok(out) => Ok(out),
             Err(error) => {
-                self.seen.take_back();
+                self.retry.take_back(message);
                 Err(error)
             }
         }
@@ -77,19 +76,36 @@ impl Core {
         ensures consistent { IsConsistent self.new }
     {
         if !message.header.provider.is(&self.agent.name) {
-            return refuse(alloc, &self.agent.name, message, ErrorName::WrongProvider);
+            return self.refuse(alloc, message, ErrorName::WrongProvider);
         }
         let Some(id) = message.body.connection() else {
             return self.open(alloc, topology, message);
         };
         let owner = &message.header.requester;
         let Some(place) = place_of(self.agent.number, self.next, &self.records, id, owner) else {
-            return refuse(alloc, &self.agent.name, message, ErrorName::Nonexistent);
+            return self.refuse(alloc, message, ErrorName::Nonexistent);
         };
         match self.records[place].refusal(&message.body) {
-            Some(error) => refuse(alloc, &self.agent.name, message, error),
+            Some(error) => self.refuse(alloc, message, error),
             None => self.take_at(alloc, place, message),
         }
+    }
+
+    /// Refuses a request.
+    fn refuse(
+        &mut self,
+        alloc: Global,
+        message: &Message,
+        error: ErrorName,
+    ) -> Result<Vec<Message>, AllocError>
+        requires { IsReady self.old }
+        ensures step { IsStep self.old self.new result
+            (λ setting s. says s (error_reply setting.name message.now error ∷ [])) }
+        ensures consistent { IsConsistent self.new }
+    {
+        let out = refusal_of(alloc, &self.agent.name, message, error)?;
+        self.retry.store(alloc, &out)?;
+        Ok(out)
     }
 
     /// Takes a first reserve, or refuses it.
@@ -112,10 +128,10 @@ impl Core {
             return Ok(Vec::new(alloc));
         };
         if let Some(error) = schedule_refusal(request) {
-            return refuse(alloc, &self.agent.name, message, error);
+            return self.refuse(alloc, message, error);
         }
         match points_of(topology, self.agent.number, request) {
-            None => refuse(alloc, &self.agent.name, message, ErrorName::UnknownStp),
+            None => self.refuse(alloc, message, ErrorName::UnknownStp),
             Some((source, dest)) => self.open_between(alloc, message, request, source, dest),
         }
     }
@@ -165,11 +181,22 @@ impl Core {
         let mut own = Record::new(alloc, id, owner, service, source, dest);
         let next = self.next + 1;
         let moment = Moment {
+            place: self.records.len(),
             second: self.now,
             next,
         };
-        let turn = take(alloc, &self.agent, &mut own, message, moment)?;
-        self.records.push(own)?;
+        self.records.reserve(1)?;
+        let turn = take(
+            alloc,
+            &self.agent,
+            &mut own,
+            &mut self.retry,
+            message,
+            moment,
+        )?;
+        let Ok(()) = self.records.push(own) else {
+            unreachable!()
+        };
         self.next = next + turn.drawn;
         Ok(turn.out)
     }
@@ -207,6 +234,7 @@ impl Core {
         ensures consistent { IsConsistent self.new }
     {
         let moment = Moment {
+            place,
             second: self.now,
             next: self.next,
         };
@@ -214,7 +242,7 @@ impl Core {
             alloc,
             &self.agent,
             &mut self.records,
-            place,
+            &mut self.retry,
             message,
             moment,
         )?;
@@ -225,7 +253,7 @@ impl Core {
 }
 
 /// The answer to a request that is refused.
-fn refuse(
+fn refusal_of(
     alloc: Global,
     agent: &Name,
     message: &Message,
@@ -255,10 +283,14 @@ fn take(
     alloc: Global,
     agent: &Agent,
     own: &mut Record,
+    retry: &mut Retry,
     message: &Message,
     moment: Moment,
 ) -> Result<Turned, AllocError>
     requires { moment.next < 4611686018427387904 }
+    ensures stored { let old = retry.old in
+        IfOk result (λ t. retry.new ≡ record old { waiting = old.waiting ++ t.out.items }) }
+    ensures unstored { OnErr result (retry.new ≡ retry.old) }
     ensures turned { let m = message.now in
         let event = requested m.body m.header.correlation own.old in
         let x = moves_if SideValue.Provider event moment.second own.old in
@@ -270,7 +302,7 @@ fn take(
             out: Vec::new(alloc),
             drawn: 0,
         }),
-        Some(event) => turn(alloc, agent, own, event, moment),
+        Some(event) => turn(alloc, agent, own, retry, event, moment),
     }
 }
 
@@ -279,20 +311,24 @@ fn take_among(
     alloc: Global,
     agent: &Agent,
     records: &mut Vec<Record>,
-    place: usize,
+    retry: &mut Retry,
     message: &Message,
     moment: Moment,
 ) -> Result<Turned, AllocError>
-    requires within { place < length records.old.items }
+    requires within { moment.place < length records.old.items }
     requires next { moment.next < 4611686018427387904 }
-    ensures { let m = message.now in
+    ensures stored { let old = retry.old in
+        IfOk result (λ t. retry.new ≡ record old { waiting = old.waiting ++ t.out.items }) }
+    ensures unstored { OnErr result (retry.new ≡ retry.old) }
+    ensures turned { let m = message.now in
+        let place = moment.place in
         let own = record_at place records.old.items in
         let event = requested m.body m.header.correlation own in
         let x = moves_if SideValue.Provider event moment.second own in
         IsTurnedAt agent.now moment place records.old.items records.new.items result x }
 {
-    let own = &mut records[place];
-    take(alloc, agent, own, message, moment)
+    let own = &mut records[moment.place];
+    take(alloc, agent, own, retry, message, moment)
 }
 
 /// The two points that a first reserve names, where both are the provider's.

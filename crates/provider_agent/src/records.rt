@@ -12,13 +12,16 @@ ghost use Rattle.provider_agent.specs.Turned.{IsTurned, IsTurnedAt};
 
 use crate::agent::Agent;
 use connection_record::{Move, Record, Reply};
+use message_retry::Retry;
 use nsi_base::{Name, Second};
 use nsi_primitive::{Header, Message, Side, id_of};
 use std::alloc::{AllocError, Global};
 
-/// When a record is moved: the second, and the number of the next id, under which a change of its data plane is told.
+/// When a record is moved, and at which place it stands: the second, and the number of the next id, under which a change of its
+/// data plane is told.
 #[derive(Clone, Copy)]
 pub struct Moment {
+    pub place: usize,
     pub second: Second,
     pub next: u64,
 }
@@ -81,21 +84,25 @@ pub fn push_replies(
     Ok(())
 }
 
-/// Moves a record, and gives what its agent then says. Where memory is wanting, nothing changes.
+/// Moves a record, and gives what its agent then says, which waits. Where memory is wanting, nothing changes.
 pub fn turn(
     alloc: Global,
     agent: &Agent,
     own: &mut Record,
+    retry: &mut Retry,
     event: Move,
     moment: Moment,
 ) -> Result<Turned, AllocError>
     requires { moment.next < 4611686018427387904 }
+    ensures stored { let old = retry.old in
+        IfOk result (λ t. retry.new ≡ record old { waiting = old.waiting ++ t.out.items }) }
+    ensures unstored { OnErr result (retry.new ≡ retry.old) }
     ensures turned { let x = moves SideValue.Provider event moment.second own.old in
         IsTurned agent.now moment own.old own.new result x }
     ensures err { OnErr result (own.new ≡ own.old) }
 {
     let saved = own.save();
-    match try_turn(alloc, agent, own, event, moment) {
+    match try_turn(alloc, agent, own, retry, event, moment) {
         Ok(turn) => Ok(turn),
         Err(error) => {
             own.restore(&saved);
@@ -109,10 +116,14 @@ fn try_turn(
     alloc: Global,
     agent: &Agent,
     own: &mut Record,
+    retry: &mut Retry,
     event: Move,
     moment: Moment,
 ) -> Result<Turned, AllocError>
     requires { moment.next < 4611686018427387904 }
+    ensures stored { let old = retry.old in
+        IfOk result (λ t. retry.new ≡ record old { waiting = old.waiting ++ t.out.items }) }
+    ensures unstored { OnErr result (retry.new ≡ retry.old) }
     ensures turned { let x = moves SideValue.Provider event moment.second own.old in
         IsTurned agent.now moment own.old own.new result x }
     ensures later { IsLater own.old own.new }
@@ -128,6 +139,7 @@ fn try_turn(
         moment.second,
     )?;
     push_replies(&mut out, &agent.name, &own.owner, replies)?;
+    retry.store(alloc, &out)?;
     let drawn = drawn_for(is_told);
     Ok(Turned { out, drawn })
 }
@@ -144,16 +156,20 @@ pub fn turn_at(
     alloc: Global,
     agent: &Agent,
     records: &mut Vec<Record>,
-    place: usize,
+    retry: &mut Retry,
     event: Move,
     moment: Moment,
 ) -> Result<Turned, AllocError>
-    requires within { place < length records.old.items }
+    requires within { moment.place < length records.old.items }
     requires next { moment.next < 4611686018427387904 }
-    ensures { let own = record_at place records.old.items in
+    ensures stored { let old = retry.old in
+        IfOk result (λ t. retry.new ≡ record old { waiting = old.waiting ++ t.out.items }) }
+    ensures unstored { OnErr result (retry.new ≡ retry.old) }
+    ensures turned { let place = moment.place in
+        let own = record_at place records.old.items in
         let x = moves SideValue.Provider event moment.second own in
         IsTurnedAt agent.now moment place records.old.items records.new.items result x }
 {
-    let own = &mut records[place];
-    turn(alloc, agent, own, event, moment)
+    let own = &mut records[moment.place];
+    turn(alloc, agent, own, retry, event, moment)
 }

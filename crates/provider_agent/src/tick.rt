@@ -18,6 +18,7 @@ use crate::provider_core::{Core, number_of};
 use crate::records::{drawn_for, push_replies};
 use capacity_calendar::Calendar;
 use connection_record::{Origin, Record, Savepoint};
+use message_retry::Retry;
 use nsi_base::Second;
 use nsi_primitive::{Message, id_of};
 use std::alloc::{AllocError, Global};
@@ -58,7 +59,7 @@ impl Core {
             out: Vec::new(alloc),
             next: self.next,
         };
-        ticking.tick_all(alloc, &self.agent, &mut self.records, due)?;
+        ticking.tick_all(alloc, &self.agent, &mut self.records, &mut self.retry, due)?;
         free_all(&mut self.calendar, &self.records, due);
         self.deadlines.pass(now);
         self.now = now;
@@ -69,12 +70,13 @@ impl Core {
 }
 
 impl Ticking {
-    /// Ticks the records at the places, all of them or none.
+    /// Ticks the records at the places, all of them or none. What they say waits.
     fn tick_all(
         &mut self,
         alloc: Global,
         agent: &Agent,
         records: &mut Vec<Record>,
+        retry: &mut Retry,
         due: &[usize],
     ) -> Result<(), AllocError>
         requires { IsBegun self.old records.old.items due.now }
@@ -82,14 +84,39 @@ impl Ticking {
             let all = ticks_all agent.now t.before t.now t.next records.old.items in
             OnOk result (ticked_by self.new records.new.items ≡ all) }
         ensures err { OnErr result (records.new.items ≡ records.old.items) }
+        ensures stored { let all = retry.old.waiting ++ self.new.out.items in
+            OnOk result (retry.new ≡ record retry.old { waiting = all }) }
+        ensures unstored { OnErr result (retry.new ≡ retry.old) }
     {
-        match self.tick_each(alloc, agent, records, due) {
+        match self.tick_and_store(alloc, agent, records, retry, due) {
             Ok(()) => Ok(()),
             Err(error) => {
                 go_back(records, &self.kept);
                 Err(error)
             }
         }
+    }
+
+    /// The same, but that some records may have been ticked where memory is wanting.
+    fn tick_and_store(
+        &mut self,
+        alloc: Global,
+        agent: &Agent,
+        records: &mut Vec<Record>,
+        retry: &mut Retry,
+        due: &[usize],
+    ) -> Result<(), AllocError>
+        requires { IsBegun self.old records.old.items due.now }
+        ensures ticked { let t = self.old in
+            let all = ticks_all agent.now t.before t.now t.next records.old.items in
+            OnOk result (ticked_by self.new records.new.items ≡ all) }
+        ensures undo { CanUndo records.old.items records.new.items self.new.kept.items }
+        ensures stored { let all = retry.old.waiting ++ self.new.out.items in
+            OnOk result (retry.new ≡ record retry.old { waiting = all }) }
+        ensures unstored { OnErr result (retry.new ≡ retry.old) }
+    {
+        self.tick_each(alloc, agent, records, due)?;
+        retry.store(alloc, &self.out)
     }
 
     /// Ticks the records at the places. Where memory is wanting, the first ones are ticked, and each is kept as it was.

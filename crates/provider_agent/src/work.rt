@@ -307,10 +307,18 @@ impl Core {
         ensures deadlines { self.new.deadlines ≡ self.old.deadlines }
     {
         let moment = Moment {
+            place,
             second: self.now,
             next: self.next,
         };
-        let turn = turn_at(alloc, &self.agent, &mut self.records, place, event, moment)?;
+        let turn = turn_at(
+            alloc,
+            &self.agent,
+            &mut self.records,
+            &mut self.retry,
+            event,
+            moment,
+        )?;
         self.next += turn.drawn;
         Ok(turn.out)
     }

@@ -4,6 +4,7 @@ mod forced;
 mod idle;
 mod requests;
 mod terminated;
+mod waiting;
 
 ghost use Rattle.std.specs.Prelude.{◌≡◌, ◌<◌, true};
 ghost use Rattle.nsi_primitive.specs.Printable.{IsPrintableInput};
@@ -29,7 +30,10 @@ enum Step {
     Work(u32, Machine),
     Force(u32),
     Tick(u64),
+    /// The request itself, which a provider never sends.
     Acked,
+    /// An answer to the first request, of a kind.
+    AckedAs(Kind),
 }
 
 const RESERVE: Step = Step::Got(Asked::Reserve(600));
@@ -148,18 +152,28 @@ fn tick(
     Ok(take(alloc, topology, provider, second, Input::Tick)?)
 }
 
-/// The first request is acknowledged.
-fn acked(alloc: Global, topology: &Topology, provider: &mut Provider) -> Result<Vec<Message>, Fail>
+/// A message of a kind under the header of the first request is acknowledged.
+fn acked(
+    alloc: Global,
+    topology: &Topology,
+    provider: &mut Provider,
+    kind: Kind,
+) -> Result<Vec<Message>, Fail>
     requires { provider.old.state.taken < 4194304 }
 {
     let now = provider.now();
-    let identity = identity_of(alloc)?;
+    let identity = identity_of(alloc, kind)?;
     Ok(take(alloc, topology, provider, now, Input::Acked(identity))?)
 }
 
-fn identity_of(alloc: Global) -> Result<Identity, Fail> {
-    let message = message_of(alloc, Asked::Reserve(600))?;
-    Ok(message.identity()?)
+fn identity_of(alloc: Global, kind: Kind) -> Result<Identity, Fail> {
+    let header = message_of(alloc, Asked::Reserve(600))?.header;
+    Ok(Identity {
+        requester: header.requester,
+        provider: header.provider,
+        correlation: header.correlation,
+        kind,
+    })
 }
 
 /// What an entry causes.
@@ -177,7 +191,8 @@ fn enter(
         Step::Work(number, machine) => work(alloc, topology, provider, number, machine),
         Step::Force(number) => force(alloc, topology, provider, number),
         Step::Tick(second) => tick(alloc, topology, provider, second),
-        Step::Acked => acked(alloc, topology, provider),
+        Step::Acked => acked(alloc, topology, provider, Kind::Reserve),
+        Step::AckedAs(kind) => acked(alloc, topology, provider, kind),
     }
 }
 

@@ -19,9 +19,9 @@ returns-clause-consistent c =
     record {
       kept =
           subst (λ (x : Core). AreKept x.records.items x.calendar.bookings) (sym c.free_if_dropped.ensures)
-          (kept_taken d.records.items _ d.calendar.bookings c.args.place _ c.requires.ready.consistent.kept c.requires.within (plain_told (status_of d.now own) _ d.now own x (plain_request m.body m.header.correlation d.now own)) c.in_ok-turn.ensures.rec);
+          (kept_taken d.records.items _ d.calendar.bookings c.args.place _ c.requires.ready.consistent.kept c.requires.within (plain_told (status_of d.now own) _ d.now own x (plain_request m.body m.header.correlation d.now own)) c.in_ok-turn.ensures.turned.rec);
       indexed =
           subst (λ (x : Core). AreIndexed x.now x.records.items x.waiting x.deadlines) (sym c.free_if_dropped.ensures)
-          (subst (λ rs. AreIndexed d.now rs d.waiting d.deadlines) (sym c.in_ok-turn.ensures.rec) (indexed_moved d.now d.records.items d.waiting d.deadlines c.args.place _ c.requires.ready.consistent.indexed c.requires.within c.requires.named
+          (subst (λ rs. AreIndexed d.now rs d.waiting d.deadlines) (sym c.in_ok-turn.ensures.turned.rec) (indexed_moved d.now d.records.items d.waiting d.deadlines c.args.place _ c.requires.ready.consistent.indexed c.requires.within c.requires.named
           (told_no_more (status_of d.now own) _ d.now own x (request_no_more m.body m.header.correlation d.now own))));
     }

@@ -17,7 +17,7 @@ overflow_add-self c =
     elim c.match-entry.branch [
       | in-Got+in_ok-out-in-Got w ↦
           let m = w.in-Got.message in
-          omega (arith, c.requires.few, ap (λ (x : Core). x.taken) w.self-is, ap taken w.in_ok-out-in-Got.ensures.step.state, received_taken (is_request m.body) (is_taken m.header d.seen) (setting_at d) (own_stp c.args.topology.now d.agent.number) (state_at d) m)
+          omega (arith, c.requires.few, ap (λ (x : Core). x.taken) w.self-is, ap taken w.in_ok-out-in-Got.ensures.step.state, received_taken (is_request m.body) (is_taken m.header d.retry.seen) (setting_at d) (own_stp c.args.topology.now d.agent.number) (state_at d) m)
       | in-Work+in_ok-out-in-Work w ↦
           let n = w.in-Work.number in
           omega (arith, c.requires.few, ap (λ (x : Core). x.taken) w.self-is, ap taken w.in_ok-out-in-Work.ensures.step.state, worked_taken (is_waiting (state_at d) n w.in-Work.machine) (setting_at d) (state_at d) n w.in-Work.machine)
@@ -27,6 +27,7 @@ overflow_add-self c =
           let n = w.in-Force.number in
           omega (arith, c.requires.few, ap (λ (x : Core). x.taken) w.self-is, ap taken w.in_ok-out-in-Force.ensures.step.state, forced_taken (is_forcible (state_at d) n) (setting_at d) (state_at d) n)
       | goal.in-Acked w ↦ omega (arith, c.requires.few, ap (λ (x : Core). x.taken) w.self-is)
+      | goal.in-Ask w ↦ omega (arith, c.requires.few, ap (λ (x : Core). x.taken) w.self-is)
     ]
 
 pub returns-clause-consistent : goal.returns-clause-consistent
@@ -37,4 +38,5 @@ returns-clause-consistent c =
       | in-Tick+in_ok-out-in-Tick w ↦ subst IsConsistent (sym w.self-is) w.in_ok-out-in-Tick.ensures.consistent
       | in-Force+in_ok-out-in-Force w ↦ subst IsConsistent (sym w.self-is) w.in_ok-out-in-Force.ensures.consistent
       | goal.in-Acked w ↦ subst IsConsistent (sym w.self-is) c.requires.ready.consistent
+      | goal.in-Ask w ↦ subst IsConsistent (sym w.self-is) c.requires.ready.consistent
     ]

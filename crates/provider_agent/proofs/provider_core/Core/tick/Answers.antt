@@ -3,7 +3,9 @@ use Rattle.capacity_calendar.specs.declared.booking.Capacity.{Capacity}
 use Rattle.connection_record.specs.declared.record.Record.{Record}
 use Rattle.provider_agent.specs.Indexed.{AreIndexed}
 use Rattle.provider_agent.specs.Kept.{AreKept}
+use Rattle.message_retry.specs.Retry.{Retry}
 use Rattle.provider_agent.specs.Core.{setting_at, state_at}
+use Rattle.provider_agent.specs.Step.{stored}
 use Rattle.provider_agent.specs.Steps.{Ticked, ticks, ticks_all, with_ticks}
 use Rattle.provider_agent.specs.Ticks.{AreDue, IsFreedBut}
 use Rattle.provider_agent.proofs.TickDue.{due_from}
@@ -51,7 +53,9 @@ unfolding ticks
 returns-clause-step c =
     let d = c.args.self.now in
     record {
-      state = ap (λ (x : Ticked). (with_ticks c.args.now (state_at d) x).state) c.in_ok-tick_all.ensures.ticked;
+      state =
+          ap (λ (r : Retry). record (state_at d) { records = c.tick_all.new.records.items; seen = r.seen; heard = r.heard; waiting = r.waiting; next = c.tick_all.new.self.next; now = c.args.now }) c.in_ok-tick_all.ensures.stored
+          ∙ ap (λ (x : Ticked). stored (with_ticks c.args.now (state_at d) x)) c.in_ok-tick_all.ensures.ticked;
       out = ap (λ (x : Ticked). x.out) c.in_ok-tick_all.ensures.ticked;
       setting = ap (λ (cs : List Capacity). record (setting_at d) { capacities = cs }) c.free_all.ensures.capacities;
       err = tt;
