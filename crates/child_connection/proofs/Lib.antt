@@ -1,5 +1,6 @@
 mod Rows
 pub mod Places
+pub mod Growing
 pub mod Saying
 pub mod Holds
 pub mod Reservations

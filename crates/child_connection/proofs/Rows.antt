@@ -43,7 +43,7 @@ abbrev timed_out : ChildConnection
 timed_out = record known { phase = Phase.TimedOut; attempt = Some 5; error = Some ErrorName.Timeout }
 
 abbrev committing : ChildConnection
-committing = record held { phase = Phase.Committing; before = Phase.Held; reserve_request = Some (sent 6 Kind.ReserveCommit) }
+committing = record held { phase = Phase.Committing; before = Phase.Held; reserve_request = Some (sent 6 Kind.ReserveCommit); room = 2 }
 
 abbrev aborting : ChildConnection
 aborting = record failed { phase = Phase.Aborting; before = Phase.Failed; reserve_request = Some (sent 7 Kind.ReserveAbort) }
@@ -215,12 +215,12 @@ record IsEffect : Type 0 where
   failed_reserve : left (Body.ReserveFailed 90 lack) 5 reserving ≡ record reserving { connection = Some 90; phase = Phase.Failed; error = Some ErrorName.Bandwidth; reserve_request = None }
   hold_ends_before_it_is_heard_of : left reserve_timeout 5 reserving ≡ record reserving { connection = Some 90; phase = Phase.TimedOut; error = Some ErrorName.Timeout; reserve_request = None }
   hold_ends : left reserve_timeout 5 held ≡ record held { phase = Phase.TimedOut; error = Some ErrorName.Timeout; pending = None }
-  commit_adds_its_version : left (Body.ReserveCommitConfirmed 90) 6 committing ≡ record known { before = Phase.Held; committed = 2 ∷ 3 ∷ [] }
-  failed_commit : left (Body.ReserveCommitFailed 90 exception) 6 committing ≡ record known { before = Phase.Held; error = Some ErrorName.Passed }
+  commit_adds_its_version : left (Body.ReserveCommitConfirmed 90) 6 committing ≡ record known { before = Phase.Held; committed = 2 ∷ 3 ∷ []; room = 2 }
+  failed_commit : left (Body.ReserveCommitFailed 90 exception) 6 committing ≡ record known { before = Phase.Held; error = Some ErrorName.Passed; room = 2 }
   abort_clears : left (Body.ReserveAbortConfirmed 90) 7 aborting ≡ record known { before = Phase.Failed }
   refused_reserve : left (Body.Error None exception) 5 reserving ≡ record blank { error = Some ErrorName.Passed }
   refused_while_held : left (Body.Error (Some 90) exception) 8 reserving_again ≡ record held { before = Phase.Held; attempt = Some 8; error = Some ErrorName.Passed }
-  refused_commit : left (Body.Error (Some 90) exception) 6 committing ≡ record held { before = Phase.Held; error = Some ErrorName.Passed }
+  refused_commit : left (Body.Error (Some 90) exception) 6 committing ≡ record held { before = Phase.Held; error = Some ErrorName.Passed; room = 2 }
   refused_abort : left (Body.Error (Some 90) exception) 7 aborting ≡ record failed { before = Phase.Failed; attempt = None }
   provisioned : left (Body.ProvisionConfirmed 90) 10 provisioning ≡ known
   released : left (Body.ReleaseConfirmed 90) 11 releasing ≡ known

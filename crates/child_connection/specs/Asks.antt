@@ -1,5 +1,5 @@
 -- What an ask sets, what it says, and when it is refused.
-use Rattle.std.specs.Prelude.{ℕ, Bool, true, false, List, Option, Some, None}
+use Rattle.std.specs.Prelude.{ℕ, ◌+◌, length, max, Bool, true, false, List, Option, Some, None}
 use Rattle.nsi_primitive.specs.declared.kind.Directionality.{Directionality}
 use Rattle.nsi_primitive.specs.declared.kind.Kind.{Kind}
 use Rattle.nsi_primitive.specs.declared.message.Body.{Body}
@@ -14,7 +14,8 @@ use Rattle.child_connection.specs.Views.{ChildConnection, sent, open_request}
 
 ---- The view
 
--- a request is asked: it is kept until it is answered, and a request of the reservation machine keeps the phase before it
+-- a request is asked: it is kept until it is answered, and a request of the reservation machine keeps the phase before it;
+-- for a commit there is memory for its version
 unfoldable pub asks : Kind → ℕ → ChildConnection → ChildConnection
 asks Kind.Reserve c x =
     record x {
@@ -24,7 +25,13 @@ asks Kind.Reserve c x =
       attempt = Some c;
       error = None;
     }
-asks Kind.ReserveCommit c x = record x { reserve_request = Some (sent c Kind.ReserveCommit); before = x.phase; phase = Phase.Committing }
+asks Kind.ReserveCommit c x =
+    record x {
+      reserve_request = Some (sent c Kind.ReserveCommit);
+      before = x.phase;
+      phase = Phase.Committing;
+      room = max x.room (length x.committed + 1);
+    }
 asks Kind.ReserveAbort c x = record x { reserve_request = Some (sent c Kind.ReserveAbort); before = x.phase; phase = Phase.Aborting }
 asks Kind.Provision c x = record x { provision_request = Some (sent c Kind.Provision); provision_error = None }
 asks Kind.Release c x = record x { provision_request = Some (sent c Kind.Release); provision_error = None }

@@ -18,6 +18,7 @@ use Rattle.child_connection.specs.Asks.{asks, is_about, request_about, reserve_f
 use Rattle.child_connection.specs.Hearing.{hears, hear, push_version}
 use Rattle.child_connection.specs.Holding.{is_reservation, phase_of, holds, fits, settles, is_response, teaches, IsSameReservation, IsAlike, IsApart, Learns, Commits}
 use Rattle.child_connection.specs.Standing.{Standing, IsQuiet, back}
+use Rattle.child_connection.specs.Later.{IsReady, IsLater}
 
 ---- Messages
 
@@ -40,6 +41,21 @@ AsksKeepThePlace = (k : Kind) (c : ℕ) (x : ChildConnection) → IsSamePlace x 
 
 abbrev pub MessagesKeepThePlace : Type 0
 MessagesKeepThePlace = (m : Message) (x : ChildConnection) → IsSamePlace x (hear m x).view
+
+---- What can be taken back
+
+-- a view is a later form of itself, and a later form of a later form is one
+abbrev pub SameIsLater : Type 0
+SameIsLater = (x : ChildConnection) → IsReady x → IsLater x x
+
+abbrev pub LaterIsLater : Type 0
+LaterIsLater = (x y z : ChildConnection) → IsLater x y → IsLater y z → IsLater x z
+
+abbrev pub AsksAreLater : Type 0
+AsksAreLater = (k : Kind) (c : ℕ) (x : ChildConnection) → IsReady x → IsLater x (asks k c x)
+
+abbrev pub MessagesAreLater : Type 0
+MessagesAreLater = (m : Message) (x : ChildConnection) → IsReady x → IsLater x (hear m x).view
 
 ---- What an ask says
 

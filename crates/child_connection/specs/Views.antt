@@ -6,7 +6,7 @@ use Rattle.nsi_primitive.specs.declared.plane.Plane.{Plane}
 use Rattle.child_connection.specs.declared.state.Phase.{Phase}
 use Rattle.child_connection.specs.declared.state.Sent.{Sent}
 
--- what a parent knows of a child's connection
+-- what a parent knows of a child's connection, and for how many committed versions memory is at hand
 pub record ChildConnection : Type 0 where
   pub child : List ℕ
   pub source : List ℕ
@@ -25,6 +25,7 @@ pub record ChildConnection : Type 0 where
   pub gone : Bool
   pub plane : Plane
   pub plane_notice : ℕ
+  pub room : ℕ
 
 abbrev pub no_plane : Plane
 no_plane = record { active = false; version = 0; consistent = true }
@@ -50,6 +51,7 @@ new_view child source dest =
       gone = false;
       plane = no_plane;
       plane_notice = 0;
+      room = 0;
     }
 
 ---- Unanswered requests

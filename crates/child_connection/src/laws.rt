@@ -1,6 +1,6 @@
 //! The laws of a view. Each function is its contract.
 
-ghost use Rattle.child_connection.specs.Laws.{IgnoredLeaves, NewHearsNothing, AsksKeepThePlace, MessagesKeepThePlace, AsksNameTheConnection, FirstNamesNone, ModificationNamesTheConnection, AsksArePrintable, FirstIsPrintable, ModificationIsPrintable, AskedStands, AskedIsHeld, NoneWasHeld, OthersHoldTheSame, HeldUntilAnswered, NewFits, AsksKeepTheFit, MessagesKeepTheFit, ApartIsTheSame, OnlySettlingChanges, OthersAreAlike, SameHearTheSame, RequestStaysOrEnds, AttemptIsAsked, HeldKeepsTheAttempt, AsksKeepWhatIsKnown, MessagesTeach, FirstAnswerTeaches, MessagesCommit, AskedMayGoBack, RefusedGoesBack, SameIsQuiet, ConfirmedRests, FailedRests, TimedOutRests, CommitRests, FailedCommitRests, AbortRests};
+ghost use Rattle.child_connection.specs.Laws.{IgnoredLeaves, NewHearsNothing, AsksKeepThePlace, MessagesKeepThePlace, SameIsLater, LaterIsLater, AsksAreLater, MessagesAreLater, AsksNameTheConnection, FirstNamesNone, ModificationNamesTheConnection, AsksArePrintable, FirstIsPrintable, ModificationIsPrintable, AskedStands, AskedIsHeld, NoneWasHeld, OthersHoldTheSame, HeldUntilAnswered, NewFits, AsksKeepTheFit, MessagesKeepTheFit, ApartIsTheSame, OnlySettlingChanges, OthersAreAlike, SameHearTheSame, RequestStaysOrEnds, AttemptIsAsked, HeldKeepsTheAttempt, AsksKeepWhatIsKnown, MessagesTeach, FirstAnswerTeaches, MessagesCommit, AskedMayGoBack, RefusedGoesBack, SameIsQuiet, ConfirmedRests, FailedRests, TimedOutRests, CommitRests, FailedCommitRests, AbortRests};
 
 /// What is ignored changes nothing, and a view that asked nothing hears nothing.
 pub fn ignoring()
@@ -12,6 +12,14 @@ pub fn ignoring()
 pub fn places()
     ensures asks { AsksKeepThePlace }
     ensures messages { MessagesKeepThePlace }
+{}
+
+/// What is asked, and what is heard, can be taken back.
+pub fn later()
+    ensures same { SameIsLater }
+    ensures then { LaterIsLater }
+    ensures asks { AsksAreLater }
+    ensures messages { MessagesAreLater }
 {}
 
 /// What is asked names the view's connection, where it is known, and can be written.

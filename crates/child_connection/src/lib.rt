@@ -2,9 +2,11 @@
 #![tactic(auto)]
 
 pub mod laws;
+pub mod savepoint;
 pub mod state;
 pub mod view;
 
+pub use savepoint::Savepoint;
 pub use state::{AskFault, Phase, Sent, Taken};
 pub use view::ChildConnection;
 

@@ -335,3 +335,31 @@ fn copy_is_a_view_of_its_own(rt: HostRuntime) -> Result<(), Fail> {
     assert_eq!(rt; counts, [0, 1]);
     Ok(())
 }
+
+/// How many versions a view has whose commit is confirmed, was taken back, and is confirmed again: then, behind the taking
+/// back, and in the end.
+fn commit_taken_back(alloc: Global) -> Result<[usize; 3], Fail> {
+    let mut view = held(alloc)?;
+    let parent = Name::of(alloc, b"r1")?;
+    let _asked = told(view.ask(&parent, id(6)?, Kind::ReserveCommit));
+    let saved = view.save();
+    let confirmed = confirmed_commits(&mut view, alloc)?;
+    view.restore(&saved);
+    let taken_back = view.committed().len();
+    let again = confirmed_commits(&mut view, alloc)?;
+    Ok([confirmed, taken_back, again])
+}
+
+fn confirmed_commits(view: &mut ChildConnection, alloc: Global) -> Result<usize, Fail> {
+    let connection = id(90)?;
+    let body = Body::ReserveCommitConfirmed { connection };
+    let _taken = hear(view, alloc, b"p1", 6, body)?;
+    Ok(view.committed().len())
+}
+
+#[test]
+fn confirmation_that_is_taken_back_can_be_heard_again(rt: HostRuntime) -> Result<(), Fail> {
+    let counts = commit_taken_back(rt.alloc())?;
+    assert_eq!(rt; counts, [1, 0, 1]);
+    Ok(())
+}

@@ -1,11 +1,12 @@
 //! A parent's view of a child's connection.
 
 ghost use Rattle.std.specs.Prelude.{◌≡◌};
-ghost use Rattle.child_connection.specs.Views.{new_view, open_request, is_kind, is_id, is_open, is_open_of};
+ghost use Rattle.child_connection.specs.Views.{new_view, open_request, is_kind, is_id, is_open, is_open_of, is_asking};
 
 mod asking;
 mod copies;
 mod hearing;
+mod saving;
 
 use crate::state::{Phase, Sent};
 use nsi_base::{Name, Version};
@@ -34,10 +35,11 @@ pub struct ChildConnection {
     gone: bool,
     plane: Plane,
     plane_notice: u64,
+    room: usize,
 }
 
 impl Model for ChildConnection {
-    ghost use Rattle.std.specs.Prelude.{◌≡◌, ◌<◌, true, vec_len, vec_capacity};
+    ghost use Rattle.std.specs.Prelude.{◌≡◌, ◌<◌, ◌≤◌, true, length, vec_capacity};
     ghost use Rattle.nsi_primitive.specs.declared.kind.Kind.{Kind};
     ghost use Rattle.child_connection.specs.Views.{is_asking};
     ghost use Rattle.child_connection.specs.Views.{ChildConnection as View};
@@ -62,11 +64,12 @@ impl Model for ChildConnection {
       gone = x.gone;
       plane = x.plane;
       plane_notice = x.plane_notice;
+      room = x.room;
     } };
 
-    // While a commit is unanswered there is room for its version: to take the answer takes no memory.
-    ghost invariant = { λ x. is_asking x.reserve_request Kind.ReserveCommit ≡ true →
-        vec_len x.committed < vec_capacity x.committed };
+    // While a commit is unanswered there is memory for its version: to take the answer takes none.
+    ghost invariant = { λ x. (is_asking x.reserve_request Kind.ReserveCommit ≡ true →
+        length x.committed.items < x.room) × (x.room ≤ vec_capacity x.committed) };
 }
 
 impl ChildConnection {
@@ -96,6 +99,7 @@ impl ChildConnection {
                 consistent: true,
             },
             plane_notice: 0,
+            room: 0,
         }
     }
 
@@ -230,6 +234,15 @@ fn is_open_of(request: &Option<Sent>, kind: Kind, correlation: Id) -> bool
     match request {
         None => false,
         Some(sent) => correlation == sent.correlation && is_kind(kind, sent.kind),
+    }
+}
+
+fn is_asking(request: &Option<Sent>, kind: Kind) -> bool
+    ensures { result ≡ is_asking request.now kind }
+{
+    match request {
+        None => false,
+        Some(sent) => is_kind(kind, sent.kind),
     }
 }
 

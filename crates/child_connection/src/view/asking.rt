@@ -7,6 +7,7 @@ ghost use Rattle.nsi_primitive.specs.declared.kind.Kind.{Kind as K};
 ghost use Rattle.nsi_primitive.specs.declared.message.Body.{Body as B};
 ghost use Rattle.child_connection.specs.declared.state.AskFault.{AskFault as Fault};
 ghost use Rattle.child_connection.specs.Asks.{asks, request_about, told_direction, first_reserve, modification, reserve_for, header_to, to_child, is_about, outstanding, ask_refusal, reserve_refusal};
+ghost use Rattle.child_connection.specs.Later.{IsLater};
 
 use super::ChildConnection;
 use crate::state::{AskFault, Phase, Sent};
@@ -30,13 +31,17 @@ impl ChildConnection {
         service: Option<&Service>,
     ) -> Result<Message, AskFault>
         requires first { IsSome (option_copied service) ↔ (self.old.connection ≡ None) }
-        requires apart { IfSome (option_copied service) (λ _. bytes_eq self.old.source self.old.dest ≡ false) }
+        requires apart { IfSome (option_copied service)
+            (λ _. bytes_eq self.old.source self.old.dest ≡ false) }
         ensures refused { IfSome (reserve_refusal self.old) (λ fault. result ≡ Err fault) }
-        ensures memory { IfNone (reserve_refusal self.old) (IfErr result (λ fault. fault ≡ Fault.NoMemory)) }
-        ensures message { let asked = reserve_for (option_copied service.entry) version start end capacity self.old in
+        ensures memory { IfNone (reserve_refusal self.old)
+            (IfErr result (λ fault. fault ≡ Fault.NoMemory)) }
+        ensures message { let asked =
+            reserve_for (option_copied service.entry) version start end capacity self.old in
             IfOk result (λ m. m ≡ to_child parent.now correlation self.old (B.Reserve asked)) }
         ensures asked { OnOk result (self.new ≡ asks K.Reserve correlation self.old) }
         ensures kept { OnErr result (self.new ≡ self.old) }
+        ensures later { IsLater self.old self.new }
     {
         if let Some(open) = self.reserve_request {
             return Err(AskFault::Outstanding(open.correlation));
@@ -57,11 +62,13 @@ impl ChildConnection {
     pub fn ask(&mut self, parent: &Name, correlation: Id, kind: Kind) -> Result<Message, AskFault>
         requires { is_about kind ≡ true }
         ensures refused { IfSome (ask_refusal kind self.old) (λ fault. result ≡ Err fault) }
-        ensures memory { IfNone (ask_refusal kind self.old) (IfErr result (λ fault. fault ≡ Fault.NoMemory)) }
-        ensures message { IfSome self.old.connection
-            (λ id. IfOk result (λ m. m ≡ to_child parent.now correlation self.old (request_about kind id))) }
+        ensures memory { IfNone (ask_refusal kind self.old)
+            (IfErr result (λ fault. fault ≡ Fault.NoMemory)) }
+        ensures message { IfSome self.old.connection (λ id. IfOk result
+            (λ m. m ≡ to_child parent.now correlation self.old (request_about kind id))) }
         ensures asked { OnOk result (self.new ≡ asks kind correlation self.old) }
         ensures kept { OnErr result (self.new ≡ self.old) }
+        ensures later { IsLater self.old self.new }
     {
         let Some(connection) = self.connection else {
             return Err(AskFault::NoId);
@@ -96,7 +103,8 @@ impl ChildConnection {
         capacity: Mbps,
         service: Option<&Service>,
     ) -> Result<ReserveRequest, AllocError>
-        ensures { IfOk result (λ r. r ≡ reserve_for (option_copied service.entry) version start end capacity self.now) }
+        ensures { IfOk result (λ r. r ≡
+            reserve_for (option_copied service.entry) version start end capacity self.now) }
     {
         match service {
             Some(service) => Ok(ReserveRequest {
@@ -171,6 +179,7 @@ impl ChildConnection {
         });
         self.before = self.phase;
         self.phase = Phase::Committing;
+        self.room = self.room.max(self.committed.len() + 1);
         Ok(())
     }
 

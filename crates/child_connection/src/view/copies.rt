@@ -1,6 +1,6 @@
 //! Copies of a view.
 
-ghost use Rattle.std.specs.Prelude.{◌≡◌, ◌<◌, IfOk, vec_len, vec_capacity};
+ghost use Rattle.std.specs.Prelude.{◌≡◌, ◌≤◌, IfOk, vec_len, vec_capacity};
 
 use super::ChildConnection;
 use nsi_base::Version;
@@ -11,7 +11,8 @@ impl ChildConnection {
     pub fn copy(&self) -> Result<ChildConnection, AllocError>
         ensures { IfOk result (λ x. x ≡ self.now) }
     {
-        let committed = copy_versions(*self.committed.allocator(), &self.committed)?;
+        let alloc = *self.committed.allocator();
+        let committed = copy_versions(alloc, &self.committed, self.room)?;
         Ok(ChildConnection {
             child: self.child.copy()?,
             source: self.source.copy()?,
@@ -30,19 +31,24 @@ impl ChildConnection {
             gone: self.gone,
             plane: self.plane,
             plane_notice: self.plane_notice,
+            room: self.room,
         })
     }
 }
 
-/// The same versions, with room for one more.
-fn copy_versions(alloc: Global, versions: &[Version]) -> Result<Vec<Version>, AllocError>
+/// The same versions, with room for so many.
+fn copy_versions(
+    alloc: Global,
+    versions: &[Version],
+    room: usize,
+) -> Result<Vec<Version>, AllocError>
     ensures copy { IfOk result (λ copy. copy.items ≡ versions.now) }
-    ensures room { IfOk result (λ copy. vec_len copy < vec_capacity copy) }
+    ensures room { IfOk result (λ copy. room ≤ vec_capacity copy) }
 {
     let mut copy = Vec::new(alloc);
     for version in versions {
         copy.push(*version)?;
     }
-    copy.reserve(1)?;
+    copy.reserve(room.saturating_sub(versions.len()))?;
     Ok(copy)
 }

@@ -1,8 +1,9 @@
 //! What a message makes of a view.
 
-ghost use Rattle.std.specs.Prelude.{◌≡◌, ◌<◌, true, vec_len, vec_capacity};
+ghost use Rattle.std.specs.Prelude.{◌≡◌, ◌<◌, ◌≤◌, true, vec_len, vec_capacity};
 ghost use Rattle.nsi_primitive.specs.declared.kind.Kind.{Kind as K};
 ghost use Rattle.child_connection.specs.Hearing.{Heard, heard_if, responded, confirmed, failed, is_reserving_or_held, timed_out, push_version, commit_confirmed, commit_failed, abort_confirmed, answers, errored, provision_confirmed, terminate_confirmed, ended, told_plane, plane_changed, hears, hear};
+ghost use Rattle.child_connection.specs.Later.{IsLater};
 
 use super::{ChildConnection, is_id, is_open, is_open_of};
 use crate::state::{Phase, Sent, Taken};
@@ -15,6 +16,7 @@ impl ChildConnection {
     pub fn take(&mut self, message: &Message) -> Taken
         ensures view { self.new ≡ (hear message.now self.old).view }
         ensures taken { result ≡ (hear message.now self.old).taken }
+        ensures later { IsLater self.old self.new }
     {
         if message.header.provider.is(&self.child) {
             self.hears(&message.body, message.header.correlation)
@@ -258,7 +260,8 @@ fn answers(request: &Option<Sent>) -> Taken
 /// A version joins the others, for which there is room.
 fn push_in_room(versions: &mut Vec<Version>, version: &Option<Version>)
     requires { vec_len versions.old < vec_capacity versions.old }
-    ensures { versions.new.items ≡ push_version versions.old.items version.now }
+    ensures pushed { versions.new.items ≡ push_version versions.old.items version.now }
+    ensures room { vec_capacity versions.old ≤ vec_capacity versions.new }
 {
     if let Some(version) = version {
         let _pushed = versions.push(*version);

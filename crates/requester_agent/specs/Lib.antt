@@ -1,0 +1,9 @@
+pub mod Setting
+pub mod State
+pub mod Views
+pub mod Steps
+pub mod Good
+pub mod Step
+pub mod Core
+pub mod Taking
+pub mod Laws

@@ -1,0 +1,13 @@
+//! The agent that asks for connections: one view of a connection for each label.
+#![tactic(auto)]
+
+mod asking;
+mod hearing;
+pub mod laws;
+pub mod requester;
+mod requester_core;
+
+pub use requester::Requester;
+
+#[cfg(test)]
+mod tests;

@@ -1,0 +1,166 @@
+//! What r1's user asks, and what p1 says to r1 of the connection that it made first.
+
+ghost use Rattle.std.specs.Prelude.{◌≡◌, false, IfOk};
+ghost use Rattle.nsi_primitive.specs.Printable.{IsPrintableAsk, IsPrintableBody, ArePointsApart, needs_label};
+ghost use Rattle.requester_agent.specs.Steps.{is_query_ask};
+
+use nsi_base::{AgentNo, HoldTime, Mbps, Name, Second, Version};
+use nsi_primitive::{
+    Ask, Body, Cause, Directionality, ErrorName, Exception, Header, HoldTimeout, Id, Message,
+    ReserveAsk, ReserveConfirmation, What, id_of,
+};
+use std::alloc::Global;
+use std::test::Fail;
+
+#[derive(Clone, Copy)]
+pub(super) enum Wish {
+    Reserve,
+    Commit,
+    Abort,
+    Provision,
+    Release,
+    Terminate,
+}
+
+#[derive(Clone, Copy)]
+pub(super) enum Said {
+    Response,
+    Confirmed,
+    Committed,
+    Refused,
+    TimedOut,
+    Terminate,
+}
+
+/// The id that an agent draws as its n-th: p1 is agent 0, and r1 agent 1.
+pub(super) fn id(agent: u16, n: u32) -> Result<Id, Fail> {
+    let agent = AgentNo::new(agent).ok_or("an agent")?;
+    Ok(id_of(agent, u64::from(n)))
+}
+
+fn second(n: u64) -> Result<Second, Fail> {
+    Ok(Second::new(n).ok_or("a second")?)
+}
+
+fn mbps() -> Result<Mbps, Fail> {
+    Ok(Mbps::new(600).ok_or("a bandwidth")?)
+}
+
+fn reserve(alloc: Global) -> Result<What, Fail>
+    ensures apart { IfOk result ArePointsApart }
+    ensures served { IfOk result (λ what. is_query_ask what ≡ false) }
+{
+    let source = Name::of(alloc, b"A")?;
+    let dest = Name::of(alloc, b"B")?;
+    if source.is(&dest) {
+        return Err(Fail::from("one point alone"));
+    }
+    Ok(What::Reserve(ReserveAsk {
+        source,
+        dest,
+        capacity: mbps()?,
+        start: second(100)?,
+        end: second(200)?,
+        version: None,
+    }))
+}
+
+fn what_of(alloc: Global, wish: Wish) -> Result<What, Fail>
+    ensures apart { IfOk result ArePointsApart }
+    ensures served { IfOk result (λ what. is_query_ask what ≡ false) }
+{
+    match wish {
+        Wish::Reserve => reserve(alloc),
+        Wish::Commit => Ok(What::Commit),
+        Wish::Abort => Ok(What::Abort),
+        Wish::Provision => Ok(What::Provision),
+        Wish::Release => Ok(What::Release),
+        Wish::Terminate => Ok(What::Terminate),
+    }
+}
+
+pub(super) fn ask_of(alloc: Global, label: &str, wish: Wish) -> Result<Ask, Fail>
+    ensures printable { IfOk result IsPrintableAsk }
+    ensures served { IfOk result (λ ask. is_query_ask ask.what ≡ false) }
+{
+    let label = Name::of(alloc, label.as_bytes())?;
+    let what = what_of(alloc, wish)?;
+    Ok(Ask {
+        label: Some(label),
+        what,
+    })
+}
+
+fn confirmed(alloc: Global) -> Result<Body, Fail>
+    ensures { IfOk result IsPrintableBody }
+{
+    Ok(Body::ReserveConfirmed(ReserveConfirmation {
+        capacity: mbps()?,
+        connection: id(0, 1)?,
+        description: None,
+        dest: Name::of(alloc, b"B")?,
+        directionality: Directionality::Bidirectional,
+        end: second(200)?,
+        global: None,
+        source: Name::of(alloc, b"A")?,
+        start: second(100)?,
+        symmetric: None,
+        version: Version::first(),
+    }))
+}
+
+fn refused(alloc: Global) -> Result<Body, Fail>
+    ensures { IfOk result IsPrintableBody }
+{
+    Ok(Body::Error {
+        connection: None,
+        exception: Exception {
+            nsa: Name::of(alloc, b"p1")?,
+            cause: Cause::Plain(ErrorName::UnknownStp),
+        },
+    })
+}
+
+fn timed_out(alloc: Global) -> Result<Body, Fail>
+    ensures { IfOk result IsPrintableBody }
+{
+    Ok(Body::ReserveTimeout(HoldTimeout {
+        connection: id(0, 1)?,
+        notification: 1,
+        originating_connection: id(0, 1)?,
+        originating_nsa: Name::of(alloc, b"p1")?,
+        time: second(60)?,
+        value: HoldTime::new(60).ok_or("a hold")?,
+    }))
+}
+
+fn body_of(alloc: Global, said: Said) -> Result<Body, Fail>
+    ensures { IfOk result IsPrintableBody }
+{
+    let connection = id(0, 1)?;
+    match said {
+        Said::Response => Ok(Body::ReserveResponse { connection }),
+        Said::Confirmed => confirmed(alloc),
+        Said::Committed => Ok(Body::ReserveCommitConfirmed { connection }),
+        Said::Refused => refused(alloc),
+        Said::TimedOut => timed_out(alloc),
+        Said::Terminate => Ok(Body::Terminate { connection }),
+    }
+}
+
+fn header_of(alloc: Global, n: u32) -> Result<Header, Fail> {
+    Ok(Header {
+        correlation: id(1, n)?,
+        requester: Name::of(alloc, b"r1")?,
+        provider: Name::of(alloc, b"p1")?,
+    })
+}
+
+/// p1 says something under the how manieth id of r1.
+pub(super) fn message_of(alloc: Global, n: u32, said: Said) -> Result<Message, Fail>
+    ensures { IfOk result (λ m. IsPrintableBody m.body) }
+{
+    let header = header_of(alloc, n)?;
+    let body = body_of(alloc, said)?;
+    Ok(Message { header, body })
+}
