@@ -1,0 +1,18 @@
+-- Views by the legs of a route.
+use Rattle.std.proofs.Common.{◌≡◌, ◌∙◌, ℕ, List, [], map, sym, ap}
+use Rattle.stp_topology.specs.declared.network.Network.{Network}
+use Rattle.path_segments.specs.declared.path.Segment.{Segment}
+use Rattle.path_segments.specs.Paths.{IsPath, IsLess, IsLeastPath}
+use Rattle.agent_state.specs.declared.parent.Leg.{Leg}
+use Rattle.child_connection.specs.Views.{ChildConnection}
+use Rattle.aggregator_agent.specs.Asking.{views_of}
+use Rattle.aggregator_agent.specs.Setting.{AreLegs, legs_of}
+
+pub along : (t : Network) (a source dest : ℕ) (xs : List Segment) (views : List ChildConnection) (legs : List Leg) → AreLegs t a source dest legs → IsPath t a source dest xs
+    → ((other : List Segment) → IsPath t a source dest other → IsLess t a other xs → ⊥) → views ≡ views_of (legs_of t xs) → views ≡ views_of legs
+along t a source dest xs views legs are path least e = e ∙ ap views_of (sym (are.least xs (record { path = path; least = least })))
+
+pub nowhere : (t : Network) (a source dest : ℕ) (views : List ChildConnection) (legs : List Leg) → AreLegs t a source dest legs
+    → ((xs : List Segment) → IsPath t a source dest xs → ⊥) → views ≡ [] → views ≡ views_of legs
+unfolding views_of
+nowhere t a source dest views legs are none e = e ∙ ap views_of (sym (are.none none))

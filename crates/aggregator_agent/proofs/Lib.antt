@@ -1,0 +1,4 @@
+mod Rows
+pub mod Each
+pub mod Known
+pub mod Legs
