@@ -187,15 +187,15 @@ fn put(retry: &mut Retry, alloc: Global, kind: &str, agent: u16) -> Result<(), F
 /// Four messages wait, the last of the identity of the first.
 fn four_wait(alloc: Global) -> Result<Retry, Fail> {
     let mut retry = Retry::new(alloc);
-    for (kind, agent) in [
-        ("response", 1),
-        ("confirmed", 1),
-        ("response", 2),
-        ("response", 1),
-    ] {
-        put(&mut retry, alloc, kind, agent)?;
-    }
+    put_four(&mut retry, alloc)?;
     Ok(retry)
+}
+
+fn put_four(retry: &mut Retry, alloc: Global) -> Result<(), Fail> {
+    put(retry, alloc, "response", 1)?;
+    put(retry, alloc, "confirmed", 1)?;
+    put(retry, alloc, "response", 2)?;
+    put(retry, alloc, "response", 1)
 }
 
 fn ack(retry: &mut Retry, alloc: Global, kind: &str, agent: u16) -> Result<bool, Fail> {
@@ -227,14 +227,21 @@ fn messages_wait_in_order(rt: HostRuntime) -> Result<(), Fail> {
     Ok(())
 }
 
+/// Whether the last of the messages that are acknowledged waited.
+fn ack_all(retry: &mut Retry, alloc: Global, acks: &[(&str, u16)]) -> Result<bool, Fail> {
+    let mut waited = false;
+    for (kind, agent) in acks {
+        waited = ack(retry, alloc, kind, *agent)?;
+    }
+    Ok(waited)
+}
+
 /// What waits once messages were acknowledged, and whether the last of these waited.
 fn behind_acks(alloc: Global, acks: &[(&str, u16)]) -> Result<(Vec<(u16, Kind)>, bool), Fail> {
     let mut retry = four_wait(alloc)?;
-    let mut waited = false;
-    for (kind, agent) in acks {
-        waited = ack(&mut retry, alloc, kind, *agent)?;
-    }
-    Ok((waiting(&retry, alloc)?, waited))
+    let waited = ack_all(&mut retry, alloc, acks)?;
+    let found = waiting(&retry, alloc)?;
+    Ok((found, waited))
 }
 
 #[test]

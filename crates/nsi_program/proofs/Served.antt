@@ -15,7 +15,7 @@ use Rattle.provider_agent.specs.Good.{IsGood}
 use Rattle.provider_agent.specs.State.{State}
 use Rattle.provider_agent.specs.Steps.{after, waiting_work}
 use Rattle.provider_agent.proofs.GoodAfter.{good_after}
-use Rattle.provider_agent.proofs.RunsSafe.{after_all_append}
+use Rattle.provider_agent.proofs.RunsSafe.{after_all_append, after_all_out}
 use Rattle.provider_run.proofs.Working.{taken_after}
 use Rattle.provider_run.proofs.WorkRuns.{run_append}
 use Rattle.nsi_program.specs.Receiving.{received}
@@ -25,14 +25,6 @@ use Rattle.nsi_program.specs.declared.receiving.Received.{Received}
 use Rattle.nsi_program.specs.declared.status.Status.{Status}
 
 ---- Entries one after another
-
-pub after_all_out : (setting : Setting) (stp_of : List ℕ → Option ℕ) (s : State) (front back : List Entry)
-    → (after_all setting stp_of s (front ++ back)).out ≡ (after_all setting stp_of s front).out ++ (after_all setting stp_of (after_all setting stp_of s front).state back).out
-unfolding after_all
-after_all_out setting stp_of s [] back = refl
-after_all_out setting stp_of s (e ∷ front) back =
-    ap (λ xs. (after setting stp_of s e).out ++ xs) (after_all_out setting stp_of (after setting stp_of s e).state front back)
-    ∙ sym (append_assoc (after setting stp_of s e).out (after_all setting stp_of (after setting stp_of s e).state front).out (after_all setting stp_of (after_all setting stp_of (after setting stp_of s e).state front).state back).out)
 
 -- each entry of a run counts
 pub taken_all : (setting : Setting) (stp_of : List ℕ → Option ℕ) (s : State) (es : List Entry) → IsRun setting stp_of s es → (after_all setting stp_of s es).state.taken ≡ s.taken + length es

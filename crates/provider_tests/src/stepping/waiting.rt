@@ -11,7 +11,11 @@ use stp_topology::Topology;
 type Row = (&'static str, &'static [Step], &'static [Kind]);
 
 const WAITING: [Row; 8] = [
-    ("What a request causes.", &[RESERVE], &[Kind::ReserveResponse]),
+    (
+        "What a request causes.",
+        &[RESERVE],
+        &[Kind::ReserveResponse],
+    ),
     (
         "What work causes, behind it.",
         &[RESERVE, WORK],
@@ -20,7 +24,11 @@ const WAITING: [Row; 8] = [
     (
         "What a tick causes, behind both.",
         &[RESERVE, WORK, Step::Tick(60)],
-        &[Kind::ReserveResponse, Kind::ReserveConfirmed, Kind::ReserveTimeout],
+        &[
+            Kind::ReserveResponse,
+            Kind::ReserveConfirmed,
+            Kind::ReserveTimeout,
+        ],
     ),
     (
         "The first one is acknowledged.",
