@@ -1,4 +1,3 @@
 mod Rows
 pub mod Each
-pub mod Known
 pub mod Legs

@@ -1,5 +1,5 @@
 -- What the topology says to an aggregator.
-use Rattle.std.specs.Prelude.{◌≡◌, ◌<◌, ℕ, List, [], length, map, Option}
+use Rattle.std.specs.Prelude.{◌≡◌, ℕ, List, [], map, Option}
 use Rattle.stp_topology.specs.declared.network.Network.{Network}
 use Rattle.stp_topology.specs.Network.{name_of, stp_of, stp_name_of}
 use Rattle.path_segments.specs.declared.path.Segment.{Segment}
@@ -25,10 +25,6 @@ leg_of t x = record { child = name_of t x.child; source = stp_name_of t x.entry;
 
 unfoldable pub legs_of : Network → List Segment → List Leg
 legs_of t xs = map (leg_of t) xs
-
--- its child and its points are declared
-abbrev pub IsKnown : Network → Segment → Type 0
-IsKnown t x = (x.child < length t.agents) × (x.entry < length t.stps) × (x.exit < length t.stps)
 
 -- the legs are those of the least path between the points, and there are none exactly where there is no path
 pub record AreLegs (t : Network) (aggregator source dest : ℕ) (legs : List Leg) : Type 0 where

@@ -3,7 +3,8 @@
 ghost use Rattle.std.specs.Prelude.{◌≡◌, ◌<◌, ℕ, List as Sequence, length, IfOk, All};
 ghost use Rattle.agent_state.specs.declared.parent.Leg.{Leg as LegValue};
 ghost use Rattle.aggregator_agent.specs.Asking.{view_of, views_of};
-ghost use Rattle.aggregator_agent.specs.Setting.{AreLegs, legs_of, leg_of, IsKnown};
+ghost use Rattle.aggregator_agent.specs.Setting.{AreLegs, legs_of, leg_of};
+ghost use Rattle.path_segments.specs.Paths.{IsKnown};
 
 use child_connection::ChildConnection;
 use nsi_base::{AgentNo, StpNo};

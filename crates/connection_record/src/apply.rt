@@ -128,9 +128,10 @@ impl Record {
         Ok(true)
     }
 
-    /// Does what the row of a machine's table says, or ends the connection.
+    /// Does what the row of a machine's table says, or ends the connection. Where memory is wanting it may have moved, and can
+    /// be restored.
     #[tactic(auto, unfolding(crate::specs::Applied::moves))]
-    fn apply_move(
+    pub fn apply_move(
         &mut self,
         replies: &mut Vec<Reply>,
         side: Side,
@@ -150,8 +151,9 @@ impl Record {
         }
     }
 
+    /// Moves the reservation machine, and says what it says. Where memory is wanting it may have moved.
     #[tactic(auto, using(crate::proofs::Growing::reserves_later))]
-    fn apply_reservation_and_say(
+    pub fn apply_reservation_and_say(
         &mut self,
         replies: &mut Vec<Reply>,
         event: ReservationMove,
@@ -166,8 +168,9 @@ impl Record {
         say(replies, reply)
     }
 
+    /// Moves the provision machine in the same way.
     #[tactic(auto, using(crate::proofs::Growing::provisions_later))]
-    fn apply_provision_and_say(
+    pub fn apply_provision_and_say(
         &mut self,
         replies: &mut Vec<Reply>,
         side: Side,
@@ -184,8 +187,9 @@ impl Record {
         say(replies, reply)
     }
 
+    /// Moves the lifecycle machine in the same way.
     #[tactic(auto, using(crate::proofs::Growing::lives_later))]
-    fn apply_lifecycle_and_say(
+    pub fn apply_lifecycle_and_say(
         &mut self,
         replies: &mut Vec<Reply>,
         event: LifecycleMove,
@@ -200,9 +204,9 @@ impl Record {
         say(replies, reply)
     }
 
-    /// Answers what is open, and then the terminate.
+    /// Answers what is open, and then the terminate. Where memory is wanting it may have moved.
     #[tactic(auto, unfolding(crate::specs::Applied::closes))]
-    fn close(
+    pub fn close(
         &mut self,
         replies: &mut Vec<Reply>,
         agent: &Name,
@@ -302,7 +306,8 @@ impl Record {
         self.rsm == Rsm::ReserveHeld && is_due(self.deadline, now)
     }
 
-    fn pass_schedule(&mut self, replies: &mut Vec<Reply>, now: Second) -> Result<(), AllocError>
+    /// Ends a connection whose schedule is over. Where memory is wanting it may have moved.
+    pub fn pass_schedule(&mut self, replies: &mut Vec<Reply>, now: Second) -> Result<(), AllocError>
         ensures rec { OnOk result (self.new
             ≡ (lives_if (schedule_end (last self.old.committed) now) now self.old).rec) }
         ensures out { OnOk result (replies.new.items ≡ replies.old.items

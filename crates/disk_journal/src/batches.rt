@@ -21,19 +21,26 @@ pub struct BatchFile<D: Disk> {
 impl<D: Disk> BatchFile<D> {
     /// Writes a batch behind the closed gate, after it has made room for this and for `settle`.
     pub fn hold(&mut self, alloc: Global, payload: &[u8]) -> Result<(), DiskError>
-        requires settled { IfSome (D.history self.old.disk) (Settled self.old.gate self.old.longest) }
+        requires settled { IfSome (D.history self.old.disk)
+            (Settled self.old.gate self.old.longest) }
         requires none { self.old.next ≡ self.old.gate }
         requires runs { (D.meter self.old.disk).stopped ≡ false }
         ensures cause { HasCauses (D.meter self.old.disk) (D.meter self.new.disk) result }
         ensures untold { D.history self.old.disk ≡ None → D.history self.new.disk ≡ None }
-        ensures same { IsErrOf result DiskError.NoMemory → D.history self.new.disk ≡ D.history self.old.disk }
-        ensures places { IsErrOf result DiskError.NoMemory → (self.new.next ≡ self.old.next) × (self.new.longest ≡ self.old.longest) }
+        ensures same { IsErrOf result DiskError.NoMemory →
+            D.history self.new.disk ≡ D.history self.old.disk }
+        ensures places { IsErrOf result DiskError.NoMemory →
+            (self.new.next ≡ self.old.next) × (self.new.longest ≡ self.old.longest) }
         ensures runs { IsErrOf result DiskError.NoMemory → (D.meter self.new.disk).stopped ≡ false }
         ensures gate { self.new.gate ≡ self.old.gate }
         ensures next { OnOk result (self.old.gate < self.new.next) }
-        ensures held { OnOk result (Told (D.history self.old.disk) (D.history self.new.disk) (Held payload.now self.new.gate self.new.next self.new.longest)) }
-        ensures room { OnOk result (HasSyncRoom (D.meter self.new.disk) self.new.gate self.new.longest) }
-        ensures any_moment { Crashes (D.history self.old.disk) (D.history self.new.disk) (λ h. Means (payloads h)) }
+        ensures held { OnOk result
+            (Told (D.history self.old.disk) (D.history self.new.disk)
+            (Held payload.now self.new.gate self.new.next self.new.longest)) }
+        ensures room { OnOk result
+            (HasSyncRoom (D.meter self.new.disk) self.new.gate self.new.longest) }
+        ensures any_moment { Crashes (D.history self.old.disk) (D.history self.new.disk)
+            (λ h. Means (payloads h)) }
     {
         let piece = frame(alloc, payload)?;
         let next = self.gate.checked_add(piece.len() as u64).ok_or(AllocError)?;
@@ -52,7 +59,8 @@ impl<D: Disk> BatchFile<D> {
 
     /// Makes the waiting batch durable: it is synced, then its gate is opened, and that is synced.
     pub fn settle(&mut self) -> Result<(), DiskError>
-        requires waits { self.old.gate < self.old.next → IfSome (D.history self.old.disk) (Waits self.old.gate self.old.next self.old.longest) }
+        requires waits { self.old.gate < self.old.next →
+            IfSome (D.history self.old.disk) (Waits self.old.gate self.old.next self.old.longest) }
         requires none { self.old.gate ≤ self.old.next }
         requires runs { (D.meter self.old.disk).stopped ≡ false }
         ensures cause { HasCauses (D.meter self.old.disk) (D.meter self.new.disk) result }
@@ -60,11 +68,19 @@ impl<D: Disk> BatchFile<D> {
         ensures next { OnOk result (self.new.next ≡ self.old.next) }
         ensures fits { self.old.next < 2 ^ 64 }
         ensures errs { OnErr result (self.old.gate < self.old.next) }
-        ensures idle { OnOk result (self.old.next ≡ self.old.gate → (D.history self.new.disk ≡ D.history self.old.disk) × (self.new.longest ≡ self.old.longest)) }
-        ensures synced { OnOk result (self.old.gate < self.old.next → Told (D.history self.old.disk) (D.history self.new.disk) (λ h. Grew (waiting self.old.gate self.old.next h) self.new.gate self.new.longest h)) }
+        ensures idle { OnOk result (self.old.next ≡ self.old.gate →
+            (D.history self.new.disk ≡ D.history self.old.disk)
+            × (self.new.longest ≡ self.old.longest)) }
+        ensures synced { OnOk result (self.old.gate < self.old.next →
+            Told (D.history self.old.disk) (D.history self.new.disk)
+            (λ h. Grew (waiting self.old.gate self.old.next h) self.new.gate self.new.longest h)) }
         ensures settled { OnOk result (self.new.gate ≡ self.old.next) }
-        ensures any_moment { self.old.gate < self.old.next → Crashes (D.history self.old.disk) (D.history self.new.disk) (λ h. MeansOneOf (payloads h) (waiting self.old.gate self.old.next h)) }
-        ensures room { self.old.gate < self.old.next → HasSyncRoom (D.meter self.old.disk) self.old.gate self.old.longest → IsErrOf result DiskError.NoMemory → ⊥ }
+        ensures any_moment { self.old.gate < self.old.next →
+            Crashes (D.history self.old.disk) (D.history self.new.disk)
+            (λ h. MeansOneOf (payloads h) (waiting self.old.gate self.old.next h)) }
+        ensures room { self.old.gate < self.old.next →
+            HasSyncRoom (D.meter self.old.disk) self.old.gate self.old.longest →
+            IsErrOf result DiskError.NoMemory → ⊥ }
     {
         if self.next == self.gate {
             return Ok(());

@@ -41,13 +41,20 @@ impl<D: Disk> DiskJournal<D> {
         ensures none { IfOk result (λ r. ⟦<DiskJournal<D> as Journal>⟧.waits r.0 ≡ false) }
         ensures entries { IfOk result (λ r. ReadsAsJournal r.1.items (D.history disk)) }
         ensures printable { IfOk result (λ r. All IsPrintableEntry r.1.items) }
-        ensures kept { IfOk result (λ r. Keeps r.1.items (D.history disk) (⟦<DiskJournal<D> as Journal>⟧.kept r.0)) }
-        ensures crashes { IfOk result (λ r. Crashes (D.history disk) (⟦<DiskJournal<D> as Journal>⟧.history r.0) AsBefore) }
-        ensures fault_crashes { IfErr result (λ f. Crashes (D.history disk) (D.history f.disk) AsBefore) }
-        ensures fault_left { IfErr result (λ f. LeavesNow (D.history disk) (D.history f.disk) AsBefore) }
-        ensures cause { IfErr result (λ f. StartsFor (D.meter disk) (D.meter f.disk) (D.history disk) f.cause) }
-        ensures quiet { IfOk result (λ r. KeepsCounts (D.meter disk) (⟦<DiskJournal<D> as Journal>⟧.meter r.0)) }
-        ensures untold { D.history disk ≡ None → IfOk result (λ r. ⟦<DiskJournal<D> as Journal>⟧.history r.0 ≡ None) }
+        ensures kept { IfOk result
+            (λ r. Keeps r.1.items (D.history disk) (⟦<DiskJournal<D> as Journal>⟧.kept r.0)) }
+        ensures crashes { IfOk result
+            (λ r. Crashes (D.history disk) (⟦<DiskJournal<D> as Journal>⟧.history r.0) AsBefore) }
+        ensures fault_crashes { IfErr result
+            (λ f. Crashes (D.history disk) (D.history f.disk) AsBefore) }
+        ensures fault_left { IfErr result
+            (λ f. LeavesNow (D.history disk) (D.history f.disk) AsBefore) }
+        ensures cause { IfErr result
+            (λ f. StartsFor (D.meter disk) (D.meter f.disk) (D.history disk) f.cause) }
+        ensures quiet { IfOk result
+            (λ r. KeepsCounts (D.meter disk) (⟦<DiskJournal<D> as Journal>⟧.meter r.0)) }
+        ensures untold { D.history disk ≡ None →
+            IfOk result (λ r. ⟦<DiskJournal<D> as Journal>⟧.history r.0 ≡ None) }
     {
         let mut disk = disk;
         match open(alloc, &mut disk) {
@@ -82,11 +89,14 @@ impl<D: Disk> DiskJournal<D> {
         requires runs { (D.meter disk).stopped ≡ false }
         ensures ready { IfOk result (λ j. ⟦<DiskJournal<D> as Journal>⟧.is_ready j) }
         ensures none { IfOk result (λ j. ⟦<DiskJournal<D> as Journal>⟧.waits j ≡ false) }
-        ensures kept { IfOk result (λ j. Keeps [] (D.history disk) (⟦<DiskJournal<D> as Journal>⟧.kept j)) }
+        ensures kept { IfOk result
+            (λ j. Keeps [] (D.history disk) (⟦<DiskJournal<D> as Journal>⟧.kept j)) }
         ensures cause { IfErr result (λ f. StartsFor (D.meter disk) (D.meter f.disk) None f.cause) }
         ensures unread { IfErr result (λ f. ReadsNothing f.cause) }
-        ensures quiet { IfOk result (λ j. KeepsCounts (D.meter disk) (⟦<DiskJournal<D> as Journal>⟧.meter j)) }
-        ensures untold { D.history disk ≡ None → IfOk result (λ j. ⟦<DiskJournal<D> as Journal>⟧.history j ≡ None) }
+        ensures quiet { IfOk result
+            (λ j. KeepsCounts (D.meter disk) (⟦<DiskJournal<D> as Journal>⟧.meter j)) }
+        ensures untold { D.history disk ≡ None →
+            IfOk result (λ j. ⟦<DiskJournal<D> as Journal>⟧.history j ≡ None) }
     {
         let mut disk = disk;
         match empty(&mut disk) {
@@ -145,13 +155,18 @@ impl<D: Disk> Journal for DiskJournal<D> {
 
     ghost waits = { λ j. nat_lt j.batches.gate j.batches.next };
 
-    ghost is_ready = { λ j. IsReady (D.history j.batches.disk) (D.meter j.batches.disk) j.batches.gate j.batches.next j.batches.longest × IsCounted (D.history j.batches.disk) j.batches.gate j.batches.next j.count j.more };
+    ghost is_ready = { λ j. IsReady (D.history j.batches.disk) (D.meter j.batches.disk)
+        j.batches.gate j.batches.next j.batches.longest
+        × IsCounted (D.history j.batches.disk) j.batches.gate j.batches.next j.count j.more };
 
     ghost tells = { λ j. told j.batches.gate j.batches.next (D.history j.batches.disk) };
 
-    ghost leaves_synced = { λ j ready. leaves j.batches.gate j.batches.next j.batches.longest j.count j.more (D.history j.batches.disk) (D.meter j.batches.disk) ready.0 ready.1 };
+    ghost leaves_synced = { λ j ready.
+        leaves j.batches.gate j.batches.next j.batches.longest j.count j.more
+        (D.history j.batches.disk) (D.meter j.batches.disk) ready.0 ready.1 };
 
-    ghost none_waits = { λ j waits. none j.batches.gate j.batches.next (D.history j.batches.disk) waits };
+    ghost none_waits = { λ j waits. none j.batches.gate j.batches.next
+        (D.history j.batches.disk) waits };
 
     fn append(&mut self, alloc: Global, entries: &[Entry]) -> Result<(), JournalFault> {
         let payload = write_payload(alloc, entries)?;

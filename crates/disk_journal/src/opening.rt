@@ -44,7 +44,8 @@ impl From<DiskError> for StartCause {
 /// The whole disk, after a sync.
 fn read_all<D: Disk>(alloc: Global, disk: &mut D) -> Result<Vec<u8>, DiskError>
     requires runs { (D.meter disk.old).stopped ≡ false }
-    ensures read { IfOk result (λ bytes. IfSome (D.history disk.old) (λ h. (D.history disk.new ≡ Some (Synced h)) × (bytes.items ≡ seen h))) }
+    ensures read { IfOk result (λ bytes. IfSome (D.history disk.old)
+        (λ h. (D.history disk.new ≡ Some (Synced h)) × (bytes.items ≡ seen h))) }
     ensures untold { D.history disk.old ≡ None → D.history disk.new ≡ None }
     ensures any_moment { Crashes (D.history disk.old) (D.history disk.new) AsRead }
     ensures cause { HasCauses (D.meter disk.old) (D.meter disk.new) result }
@@ -63,7 +64,8 @@ fn close<D: Disk>(disk: &mut D) -> Result<(), DiskError>
     requires rests { IfSome (D.history disk.old) Rests }
     ensures untold { D.history disk.old ≡ None → D.history disk.new ≡ None }
     ensures closed { OnOk result (Told (D.history disk.old) (D.history disk.new) IsEmptied) }
-    ensures any_moment { Crashes (D.history disk.old) (D.history disk.new) (λ h c. recovers batch_of c ≡ Ok []) }
+    ensures any_moment { Crashes (D.history disk.old) (D.history disk.new)
+        (λ h c. recovers batch_of c ≡ Ok []) }
     ensures cause { HasCauses (D.meter disk.old) (D.meter disk.new) result }
 {
     disk.write_at(0, &[0])?;
@@ -83,10 +85,13 @@ pub struct Opening {
 pub fn open<D: Disk>(alloc: Global, disk: &mut D) -> Result<Opening, StartCause>
     requires runs { (D.meter disk.old).stopped ≡ false }
     ensures untold { D.history disk.old ≡ None → D.history disk.new ≡ None }
-    ensures opened { IfOk result (λ o. Told (D.history disk.old) (D.history disk.new) (Opened o.entries.items o.gate o.longest)) }
+    ensures opened { IfOk result
+        (λ o. Told (D.history disk.old) (D.history disk.new)
+        (Opened o.entries.items o.gate o.longest)) }
     ensures printable { IfOk result (λ o. All IsPrintableEntry o.entries.items) }
     ensures any_moment { Crashes (D.history disk.old) (D.history disk.new) AsBefore }
-    ensures cause { IfErr result (StartsFor (D.meter disk.old) (D.meter disk.new) (D.history disk.old)) }
+    ensures cause { IfErr result
+        (StartsFor (D.meter disk.old) (D.meter disk.new) (D.history disk.old)) }
     ensures quiet { OnOk result (KeepsCounts (D.meter disk.old) (D.meter disk.new)) }
     ensures runs { OnOk result ((D.meter disk.new).stopped ≡ false) }
 {

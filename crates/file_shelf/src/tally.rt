@@ -23,7 +23,14 @@ impl Model for Tally {
 
     ghost Value = { Meter };
 
-    ghost view = { λ t. record { faults = t.faults; stops = 0; stopped = false; calls = t.calls; longest = t.longest; bytes = t.bytes } };
+    ghost view = { λ t. record {
+      faults = t.faults;
+      stops = 0;
+      stopped = false;
+      calls = t.calls;
+      longest = t.longest;
+      bytes = t.bytes;
+    } };
 }
 
 impl Tally {

@@ -78,7 +78,8 @@ pub trait Journal {
         requires printable { All IsPrintableEntry entries.now }
         ensures ready { OnOk result (is_ready self.new) }
         ensures held { OnOk result (Waits entries.now (kept self.old) (kept self.new)) }
-        ensures any_moment { LeavesSynced reading (kept self.old) (history self.old) (history self.new) }
+        ensures any_moment { LeavesSynced reading (kept self.old) (history self.old)
+            (history self.new) }
         ensures cause { HasJournalCause (meter self.old) (meter self.new) result }
         ensures same_disk { IsErrOf result NoRoom → history self.new ≡ history self.old }
         ensures same { IsErrOf result NoRoom → kept self.new ≡ kept self.old }
@@ -91,7 +92,8 @@ pub trait Journal {
         ensures ready { OnOk result (is_ready self.new) }
         ensures none { OnOk result (waits self.new ≡ false) }
         ensures synced { OnOk result (AddsWaiting (kept self.old) (kept self.new)) }
-        ensures any_moment { LeavesWaiting reading (kept self.old) (history self.old) (history self.new) }
+        ensures any_moment { LeavesWaiting reading (kept self.old) (history self.old)
+            (history self.new) }
         ensures cause { HasJournalCause (meter self.old) (meter self.new) result }
         ensures given { IsErrOf result NoRoom → ⊥ }
         ensures untold { history self.old ≡ None → history self.new ≡ None };
@@ -134,12 +136,15 @@ pub fn keep<J: Journal>(
     ensures ready { OnOk result (J.is_ready journal.new) }
     ensures none { OnOk result (J.waits journal.new ≡ false) }
     ensures kept { OnOk result (Adds entries.now (J.kept journal.old) (J.kept journal.new)) }
-    ensures any_moment { LeavesWith J.reading entries.now (J.kept journal.old) (J.history journal.old) (J.history journal.new) }
+    ensures any_moment { LeavesWith J.reading entries.now (J.kept journal.old)
+        (J.history journal.old) (J.history journal.new) }
     ensures left { MayLeaveWith J.reading entries.now (J.kept journal.old) (J.history journal.new) }
     ensures cause { HasJournalCause (J.meter journal.old) (J.meter journal.new) result }
-    ensures same_disk { IsErrOf result JournalFault.NoMemory → J.history journal.new ≡ J.history journal.old }
+    ensures same_disk { IsErrOf result JournalFault.NoMemory →
+        J.history journal.new ≡ J.history journal.old }
     ensures same { IsErrOf result JournalFault.NoMemory → J.kept journal.new ≡ J.kept journal.old }
-    ensures usable { IsErrOf result JournalFault.NoMemory → (J.waits journal.new ≡ false) × J.is_ready journal.new }
+    ensures usable { IsErrOf result JournalFault.NoMemory →
+        (J.waits journal.new ≡ false) × J.is_ready journal.new }
     ensures untold { J.history journal.old ≡ None → J.history journal.new ≡ None }
 {
     journal.append(alloc, entries)?;

@@ -19,7 +19,8 @@ pub fn write_payload(alloc: Global, entries: &[Entry]) -> Result<Vec<u8>, AllocE
     requires { All IsPrintableEntry entries.now }
     ensures spelled { IfOk result (λ b. b.items ≡ payload_spelling entries.now) }
     ensures again { IfOk result (λ b. payload_of b.items ≡ Some entries.now) }
-    ensures batch { 0 < length entries.now → IfOk result (λ b. batch_of b.items ≡ Some entries.now) }
+    ensures batch { 0 < length entries.now →
+        IfOk result (λ b. batch_of b.items ≡ Some entries.now) }
 {
     let mut out = Vec::new(alloc);
     out.push(FORM)?;

@@ -18,7 +18,8 @@ use std::alloc::{AllocError, Global};
 pub fn write_entry(alloc: Global, entry: &Entry) -> Result<Vec<u8>, AllocError>
     requires { IsPrintableEntry entry.now }
     ensures spelled { IfOk result (λ b. b.items ≡ entry_spelling entry.now) }
-    ensures again { IfOk result (λ b. (rest : List ℕ) → entry_of (b.items ++ rest) ≡ Some (entry.now, length b.items)) }
+    ensures again { IfOk result (λ b. (rest : List ℕ) →
+        entry_of (b.items ++ rest) ≡ Some (entry.now, length b.items)) }
 {
     let mut out = Vec::new(alloc);
     push_entry(alloc, &mut out, entry)?;
@@ -65,7 +66,8 @@ fn push_body(alloc: Global, out: &mut Vec<u8>, input: &Input) -> Result<(), Allo
 
 fn push_ask(alloc: Global, out: &mut Vec<u8>, number: u32, ask: &Ask) -> Result<(), AllocError>
     requires { IsPrintableAsk ask.now }
-    ensures put { OnOk result (out.new.items ≡ out.old.items ++ body_of (Input.Ask number ask.now)) }
+    ensures put { OnOk result
+        (out.new.items ≡ out.old.items ++ body_of (Input.Ask number ask.now)) }
     ensures parts { OnOk result (HasParts (Input.Ask number ask.now)) }
 {
     let text = print_ask(alloc, ask)?;
@@ -83,7 +85,8 @@ fn push_message(alloc: Global, out: &mut Vec<u8>, message: &Message) -> Result<(
 }
 
 fn push_ack(alloc: Global, out: &mut Vec<u8>, identity: &Identity) -> Result<(), AllocError>
-    ensures put { OnOk result (out.new.items ≡ out.old.items ++ body_of (Input.Acked identity.now)) }
+    ensures put { OnOk result
+        (out.new.items ≡ out.old.items ++ body_of (Input.Acked identity.now)) }
     ensures parts { OnOk result (HasParts (Input.Acked identity.now)) }
 {
     let line = print_ack(alloc, identity)?;
@@ -91,7 +94,8 @@ fn push_ack(alloc: Global, out: &mut Vec<u8>, identity: &Identity) -> Result<(),
 }
 
 fn push_work(out: &mut Vec<u8>, number: RecordNo, machine: Machine) -> Result<(), AllocError>
-    ensures put { OnOk result (out.new.items ≡ out.old.items ++ (to_be_bytes w32 number ++ machine_byte machine ∷ [])) }
+    ensures put { OnOk result
+        (out.new.items ≡ out.old.items ++ (to_be_bytes w32 number ++ machine_byte machine ∷ [])) }
     ensures parts { number ≤ greatest_record }
 {
     push_u32(out, number.get())?;

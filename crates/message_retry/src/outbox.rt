@@ -220,7 +220,8 @@ fn is_of(message: &Message, i: &Identity) -> bool
 /// Takes the message of a number out.
 fn discard(messages: &mut BTreeMap<u64, Message>, number: u64)
     ensures ordered { IsOrdered nat_cmp messages.old }
-    ensures rest { messages.new.entries ≡ remove_entry (is_at (nat_cmp number)) messages.old.entries }
+    ensures rest { messages.new.entries
+        ≡ remove_entry (is_at (nat_cmp number)) messages.old.entries }
 {
     let _count = messages.len();
     messages.remove(&number);

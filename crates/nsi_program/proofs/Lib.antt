@@ -3,7 +3,6 @@ pub mod Promised
 pub mod Declared
 pub mod Served
 pub mod Serves
-pub mod Known
 pub mod Limits
 pub mod Written
 pub mod Checks

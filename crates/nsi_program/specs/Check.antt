@@ -1,5 +1,5 @@
 -- What the command `check` writes.
-use Rattle.std.specs.Prelude.{◌≡◌, ◌<◌, ◌⊎◌, ℕ, List, [], ◌∷◌, ◌++◌, length, drop, map, nat_le, Bool, true, false, codes, decimal, Result, Ok, Err}
+use Rattle.std.specs.Prelude.{◌≡◌, ◌⊎◌, ℕ, List, [], ◌∷◌, ◌++◌, length, drop, map, nat_le, Bool, true, false, codes, decimal, Result, Ok, Err}
 use Rattle.std.specs.List.{concat}
 use Rattle.nsi_base.specs.Lines.{lines_of}
 use Rattle.stp_topology.specs.declared.network.Network.{Network}
@@ -31,10 +31,6 @@ segment_text t x = name_text (name_of t x.child) ++ name_text (stp_name_of t x.e
 
 abbrev pub path_line : Network → List Segment → List ℕ
 path_line t xs = as_line (codes "path" ++ concat (map (segment_text t) xs))
-
--- its child and its points are declared
-abbrev pub IsKnown : Network → Segment → Type 0
-IsKnown t x = (x.child < length t.agents) × (x.entry < length t.stps) × (x.exit < length t.stps)
 
 ---- Answers
 

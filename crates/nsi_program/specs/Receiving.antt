@@ -14,7 +14,8 @@ use Rattle.json_primitives.specs.Lines.{line_of}
 use Rattle.nsi_program.specs.declared.payload.PayloadFault.{PayloadFault}
 use Rattle.nsi_primitive.specs.Printable.{IsPrintableInput}
 use Rattle.provider_agent.specs.State.{State}
-use Rattle.provider_agent.specs.Steps.{is_seen, is_for_provider, is_on_time}
+use Rattle.agent_state.specs.Entries.{is_on_time}
+use Rattle.provider_agent.specs.Steps.{is_seen, is_for_provider}
 use Rattle.nsi_program.specs.declared.receiving.Received.{Received}
 
 -- a request says nothing where it was taken before

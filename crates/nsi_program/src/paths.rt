@@ -1,7 +1,8 @@
 //! Least paths as lines.
 
 ghost use Rattle.std.specs.Prelude.{◌≡◌, ◌<◌, ◌++◌, length, codes, decimal, IfOk, OnOk, All};
-ghost use Rattle.nsi_program.specs.Check.{IsKnown, segment_text, path_line, count_line, TellsPath, Answers};
+ghost use Rattle.path_segments.specs.Paths.{IsKnown};
+ghost use Rattle.nsi_program.specs.Check.{segment_text, path_line, count_line, TellsPath, Answers};
 
 use crate::asked::{Ask, Wanted, ask_of};
 use nsi_base::Name;

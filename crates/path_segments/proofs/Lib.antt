@@ -14,3 +14,4 @@ pub mod First
 pub mod Sound
 pub mod Named
 pub mod OneLeast
+pub mod Known

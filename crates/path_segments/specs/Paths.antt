@@ -83,3 +83,7 @@ IsLess t a xs ys = Less (placed (children_of t a) xs) (placed (children_of t a) 
 pub record IsLeastPath (t : Network) (a source dest : ℕ) (xs : List Segment) : Type 0 where
   pub path : IsPath t a source dest xs
   pub least : (other : List Segment) → IsPath t a source dest other → IsLess t a other xs → ⊥
+
+-- the child and both points of a segment are declared
+abbrev pub IsKnown : Network → Segment → Type 0
+IsKnown t x = (x.child < length t.agents) × (x.entry < length t.stps) × (x.exit < length t.stps)

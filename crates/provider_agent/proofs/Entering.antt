@@ -6,7 +6,8 @@ use Rattle.nsi_primitive.specs.declared.entry.Entry.{Entry}
 use Rattle.nsi_primitive.specs.declared.entry.Happening.{Happening}
 use Rattle.provider_agent.specs.Setting.{Setting}
 use Rattle.provider_agent.specs.State.{State, blank, unchanged}
-use Rattle.provider_agent.specs.Steps.{is_on_time, is_for_provider, most_entries, may_take, after, after_if}
+use Rattle.agent_state.specs.Entries.{is_on_time, most_entries}
+use Rattle.provider_agent.specs.Steps.{is_for_provider, may_take, after, after_if}
 use Rattle.provider_agent.specs.Runs.{after_all}
 use Rattle.provider_agent.specs.Safety.{IsRun}
 use Rattle.provider_agent.specs.Events.{Journal, all_synced, happens, journal_after, enter, entered, batch}

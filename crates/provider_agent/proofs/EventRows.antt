@@ -37,7 +37,7 @@ use Rattle.provider_agent.specs.AgentRuns.{replay, replayed, IsOfAgentRun, IsAge
 
 ---- The provider and what it is asked
 
-abbrev setting : Setting
+abbrev pub setting : Setting
 setting =
     record {
       name = codes "p1";
@@ -46,7 +46,7 @@ setting =
       capacities = record { stp = 0; flow = Flow.Both; mbps = 1000 } ∷ record { stp = 1; flow = Flow.Both; mbps = 1000 } ∷ [];
     }
 
-abbrev stp_of : List ℕ → Option ℕ
+abbrev pub stp_of : List ℕ → Option ℕ
 stp_of name = if bytes_eq name (codes "A") then Some 0 else if bytes_eq name (codes "B") then Some 1 else None
 
 -- the n-th message between a requester and the provider

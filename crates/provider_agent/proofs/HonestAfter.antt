@@ -38,7 +38,8 @@ use Rattle.provider_agent.specs.declared.agent.Agent.{Agent}
 use Rattle.provider_agent.specs.Setting.{Setting}
 use Rattle.provider_agent.specs.Others.{first_lack, bandwidth, cause_of, lack_of, lacking}
 use Rattle.provider_agent.specs.State.{State, record_at, no_record}
-use Rattle.provider_agent.specs.Steps.{step, receives, works, work_at, forces, force_move, is_forcible, keeps, ticks, taken_at, with_new, messages_of, error_reply, is_waiting, may_take, after_if, after, agent_of, own_origin}
+use Rattle.agent_state.specs.Entries.{error_reply}
+use Rattle.provider_agent.specs.Steps.{step, receives, works, work_at, forces, force_move, is_forcible, keeps, ticks, taken_at, with_new, messages_of, is_waiting, may_take, after_if, after, agent_of, own_origin}
 use Rattle.provider_agent.specs.Safety.{places_of, others_load, said, is_bandwidth, is_refusal, IsHonestWork, IsChecking, IsHonest}
 use Rattle.provider_agent.specs.Good.{IsGood}
 use Rattle.provider_agent.proofs.Turning.{IsNoCommit, reserves_untold}

@@ -36,7 +36,8 @@ use Rattle.connection_record.specs.Applied.{reservation_closing, provision_closi
 use Rattle.provider_agent.specs.Setting.{Setting}
 use Rattle.provider_agent.specs.Others.{first_lack, cause_of, lack_of, lacking}
 use Rattle.provider_agent.specs.State.{State, Stepped, record_at, no_record}
-use Rattle.provider_agent.specs.Steps.{step, receives, works, work_at, forces, force_move, is_forcible, keeps, ticks, taken_at, with_new, error_reply, is_waiting, may_take, after_if, after, agent_of, own_origin}
+use Rattle.agent_state.specs.Entries.{error_reply}
+use Rattle.provider_agent.specs.Steps.{step, receives, works, work_at, forces, force_move, is_forcible, keeps, ticks, taken_at, with_new, is_waiting, may_take, after_if, after, agent_of, own_origin}
 use Rattle.provider_agent.specs.Good.{IsGoodRecord, IsGood}
 use Rattle.provider_agent.proofs.EachSays.{EachReply, EachMessage, nothing_said, one_said, closes_each, ticked_each, kept_each, ticks_each}
 use Rattle.provider_agent.proofs.GoodAfter.{waits_within}

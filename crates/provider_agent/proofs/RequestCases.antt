@@ -14,7 +14,8 @@ use Rattle.connection_record.specs.Moves.{is_live, fresh, service_of}
 use Rattle.connection_record.specs.Refusal.{refusal, is_in_place, has_row, refused_if, or_else, about, named_refusal, record_refusal, modification_refusal, place_of, points_of, record_for}
 use Rattle.provider_agent.specs.Setting.{Setting}
 use Rattle.provider_agent.specs.State.{State, Stepped, unchanged, says, record_at, no_record, name_or}
-use Rattle.provider_agent.specs.Steps.{receives, answers, accepts, opens, opens_between, taken_at, with_new, error_reply}
+use Rattle.agent_state.specs.Entries.{error_reply}
+use Rattle.provider_agent.specs.Steps.{receives, answers, accepts, opens, opens_between, taken_at, with_new}
 
 -- the state in which a request counts as seen
 abbrev pub seen_with : State → Message → State

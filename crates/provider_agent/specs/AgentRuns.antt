@@ -10,7 +10,8 @@ use Rattle.nsi_primitive.specs.declared.entry.Happening.{Happening}
 use Rattle.nsi_primitive.specs.declared.entry.Input.{Input}
 use Rattle.provider_agent.specs.Setting.{Setting}
 use Rattle.provider_agent.specs.State.{State, Stepped, blank}
-use Rattle.provider_agent.specs.Steps.{is_on_time, is_for_provider, most_entries, after}
+use Rattle.agent_state.specs.Entries.{is_on_time, most_entries}
+use Rattle.provider_agent.specs.Steps.{is_for_provider, after}
 use Rattle.provider_agent.specs.Runs.{after_all}
 use Rattle.provider_agent.specs.Safety.{IsCapped, IsRising, Keeps, IsHonest}
 use Rattle.provider_agent.specs.Events.{Journal, all_synced, synced_part, IsCut, cut, happens, journal_after}

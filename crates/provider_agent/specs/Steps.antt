@@ -1,5 +1,5 @@
 -- One entry at a provider.
-use Rattle.std.specs.Prelude.{ℕ, ◌+◌, Bool, true, false, not, List, [], ◌∷◌, ◌++◌, ◌==◌, ◌&&◌, nat_le, nat_lt, length, slice_set, Option, Some, None, unwrap_or, option_map, option_and_then, position, if◌then◌else◌}
+use Rattle.std.specs.Prelude.{ℕ, ◌+◌, Bool, true, false, not, List, [], ◌∷◌, ◌++◌, ◌==◌, ◌&&◌, nat_lt, length, slice_set, Option, Some, None, unwrap_or, option_map, option_and_then, position, if◌then◌else◌}
 use Rattle.nsi_primitive.specs.Ids.{id_of}
 use Rattle.nsi_primitive.specs.Messages.{is_request, is_query, connection_of}
 use Rattle.nsi_primitive.specs.declared.kind.ErrorName.{ErrorName}
@@ -17,10 +17,11 @@ use Rattle.connection_record.specs.declared.record.Record.{Record}
 use Rattle.connection_record.specs.declared.life.LifecycleMove.{LifecycleMove}
 use Rattle.connection_record.specs.declared.moves.Origin.{Origin}
 use Rattle.connection_record.specs.declared.apply.Move.{Move}
-use Rattle.connection_record.specs.Replies.{Moved, plain, addressed}
+use Rattle.connection_record.specs.Replies.{Moved, addressed}
 use Rattle.connection_record.specs.Moves.{fresh, service_of}
 use Rattle.connection_record.specs.Applied.{moves, moves_if, requested, waits, first_machine, has_work, work_of, ticked, status_of, is_told, tells}
 use Rattle.connection_record.specs.Refusal.{is_created, refusal, place_of, points_of}
+use Rattle.agent_state.specs.Entries.{is_on_time, most_entries, error_reply}
 use Rattle.provider_agent.specs.declared.agent.Agent.{Agent}
 use Rattle.provider_agent.specs.Setting.{Setting}
 use Rattle.provider_agent.specs.Others.{lacking}
@@ -82,10 +83,6 @@ opens _ setting stp_of s m = unchanged s
 abbrev pub accepts : Option ℕ → Setting → (List ℕ → Option ℕ) → State → Message → Stepped
 accepts None setting stp_of s m = opens m.body setting stp_of s m
 accepts (Some id) setting stp_of s m = taken_at setting s (unwrap_or (place_of id m.header.requester s.records) 0) m
-
--- a refused request is answered by an error under its own header
-abbrev pub error_reply : List ℕ → Message → ErrorName → Message
-error_reply agent m error = record { header = m.header; body = Body.Error (connection_of m.body) (plain agent error) }
 
 abbrev pub answers : Option ErrorName → Setting → (List ℕ → Option ℕ) → State → Message → Stepped
 answers (Some error) setting stp_of s m = says s (error_reply setting.name m error ∷ [])
@@ -192,20 +189,11 @@ ticks setting now s = with_ticks now s (ticks_all (agent_of setting) s.now now s
 
 ---- One entry
 
--- a tick may go on to a later second, all else happens now
-abbrev pub is_on_time : Input → ℕ → ℕ → Bool
-is_on_time Input.Tick second now = nat_le now second
-is_on_time _ second now = second == now
-
 -- a provider has no asks of its own, and answers no query yet
 abbrev pub is_for_provider : Input → Bool
 is_for_provider (Input.Ask _ _) = false
 is_for_provider (Input.Got m) = not (is_query m.body)
 is_for_provider _ = true
-
--- an agent takes so many entries
-abbrev pub most_entries : ℕ
-most_entries = 4194304
 
 abbrev pub may_take : State → Entry → Bool
 may_take s e = nat_lt s.taken most_entries && (is_for_provider e.input && is_on_time e.input e.second s.now)

@@ -1,7 +1,8 @@
 -- What a move of a record leaves of it, and what is then said.
-use Rattle.std.specs.Prelude.{◌≡◌, ℕ, List, Result, OnOk, OnErr, IfOk, slice_set}
+use Rattle.std.specs.Prelude.{◌≡◌, ◌++◌, ℕ, List, Result, OnOk, OnErr, IfOk, slice_set}
 use Rattle.std.specs.declared.alloc.AllocError.{AllocError}
 use Rattle.nsi_primitive.specs.Ids.{id_of}
+use Rattle.message_retry.specs.Retry.{Retry}
 use Rattle.connection_record.specs.declared.record.Record.{Record}
 use Rattle.connection_record.specs.Replies.{Moved}
 use Rattle.connection_record.specs.Applied.{tells, status_of, is_told}
@@ -26,4 +27,9 @@ pub record IsTurnedAt (agent : Agent) (moment : Moment) (place : ℕ) (old new :
   pub rec : OnOk result (new ≡ slice_set old place (told_behind agent moment (record_at place old) x).rec)
   pub out : IfOk result (λ turned. turned.out.items ≡ messages_by agent.name (told_behind agent moment (record_at place old) x))
   pub drawn : IfOk result (λ turned. turned.drawn ≡ drawn (is_told (status_of moment.second (record_at place old)) moment.second x.rec))
+  pub err : OnErr result (new ≡ old)
+
+-- what is said waits behind what waited; where memory is wanting, that is what it was
+pub record IsStored (old new : Retry) (result : Result Turned AllocError) : Type 0 where
+  pub waits : IfOk result (λ turned. new ≡ record old { waiting = old.waiting ++ turned.out.items })
   pub err : OnErr result (new ≡ old)

@@ -4,7 +4,8 @@ ghost use Rattle.std.specs.Prelude.{◌≡◌, ◌<◌, ◌≤◌, length, true,
 ghost use Rattle.stp_topology.specs.Sound.{IsProvider};
 ghost use Rattle.provider_agent.specs.Setting.{setting_of, own_stp};
 ghost use Rattle.provider_agent.specs.State.{blank};
-ghost use Rattle.provider_agent.specs.Steps.{step, is_on_time};
+ghost use Rattle.agent_state.specs.Entries.{is_on_time};
+ghost use Rattle.provider_agent.specs.Steps.{step};
 ghost use Rattle.provider_agent.specs.Kept.{freed};
 ghost use Rattle.provider_agent.specs.Core.{standing_at, IsConsistent, IsReady};
 ghost use Rattle.provider_agent.specs.Step.{counted, IsStep};

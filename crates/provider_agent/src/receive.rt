@@ -6,28 +6,27 @@ ghost use Rattle.nsi_primitive.specs.declared.message.Body.{Body as BodyValue};
 ghost use Rattle.message_retry.specs.Taken.{is_taken, with_taken};
 ghost use Rattle.nsi_primitive.specs.Ids.{id_of};
 ghost use Rattle.nsi_primitive.specs.declared.state.Side.{Side as SideValue};
-ghost use Rattle.connection_record.specs.Moves.{service_of};
 ghost use Rattle.connection_record.specs.Applied.{requested, moves_if};
 ghost use Rattle.connection_record.specs.Refusal.{refusal, unnamed_refusal, points_of};
 ghost use Rattle.provider_agent.specs.Setting.{own_stp};
-ghost use Rattle.provider_agent.specs.State.{name_or, record_at, says};
-ghost use Rattle.provider_agent.specs.Steps.{receives, answers, opens_between, taken_at, error_reply};
+ghost use Rattle.provider_agent.specs.State.{record_at, says};
+ghost use Rattle.agent_state.specs.Entries.{error_reply};
+ghost use Rattle.provider_agent.specs.Steps.{receives, answers, opens_between, taken_at};
 ghost use Rattle.provider_agent.specs.Core.{IsConsistent, IsReady};
 ghost use Rattle.provider_agent.specs.Step.{IsStep};
-ghost use Rattle.provider_agent.specs.Turned.{IsTurned, IsTurnedAt};
+ghost use Rattle.provider_agent.specs.Turned.{IsTurned, IsTurnedAt, IsStored};
 
 use crate::agent::Agent;
 use crate::find::place_of;
 use crate::provider_core::Core;
 use crate::records::{Moment, Turned, turn};
 use crate::setting::own_stp;
+use agent_state::{refusal_of, service_of};
 use connection_record::Record;
 use connection_record::refusal::schedule_refusal;
 use message_retry::Retry;
-use nsi_base::{AgentNo, Name, Second, StpNo, copy_text};
-use nsi_primitive::{
-    Body, Cause, Directionality, ErrorName, Exception, Message, ReserveRequest, Service, id_of,
-};
+use nsi_base::{AgentNo, StpNo};
+use nsi_primitive::{Body, ErrorName, Message, ReserveRequest, id_of};
 use std::alloc::{AllocError, Global};
 use stp_topology::Topology;
 
@@ -252,31 +251,6 @@ impl Core {
     }
 }
 
-/// The answer to a request that is refused.
-fn refusal_of(
-    alloc: Global,
-    agent: &Name,
-    message: &Message,
-    error: ErrorName,
-) -> Result<Vec<Message>, AllocError>
-    ensures { IfOk result (λ out. out.items ≡ error_reply agent.now message.now error ∷ []) }
-{
-    let header = message.header.copy()?;
-    let nsa = agent.copy()?;
-    let mut out = Vec::new(alloc);
-    out.push(Message {
-        header,
-        body: Body::Error {
-            connection: message.body.connection(),
-            exception: Exception {
-                nsa,
-                cause: Cause::Plain(error),
-            },
-        },
-    })?;
-    Ok(out)
-}
-
 /// Moves a record by a request.
 #[tactic(auto, using(crate::proofs::Turning::told_still, crate::proofs::Turning::drawn_still))]
 fn take(
@@ -288,9 +262,7 @@ fn take(
     moment: Moment,
 ) -> Result<Turned, AllocError>
     requires { moment.next < 4611686018427387904 }
-    ensures stored { let old = retry.old in
-        IfOk result (λ t. retry.new ≡ record old { waiting = old.waiting ++ t.out.items }) }
-    ensures unstored { OnErr result (retry.new ≡ retry.old) }
+    ensures stored { IsStored retry.old retry.new result }
     ensures turned { let m = message.now in
         let event = requested m.body m.header.correlation own.old in
         let x = moves_if SideValue.Provider event moment.second own.old in
@@ -317,9 +289,7 @@ fn take_among(
 ) -> Result<Turned, AllocError>
     requires within { moment.place < length records.old.items }
     requires next { moment.next < 4611686018427387904 }
-    ensures stored { let old = retry.old in
-        IfOk result (λ t. retry.new ≡ record old { waiting = old.waiting ++ t.out.items }) }
-    ensures unstored { OnErr result (retry.new ≡ retry.old) }
+    ensures stored { IsStored retry.old retry.new result }
     ensures turned { let m = message.now in
         let place = moment.place in
         let own = record_at place records.old.items in
@@ -346,26 +316,4 @@ fn points_of(
     let source = own_stp(topology, provider, source)?;
     let dest = own_stp(topology, provider, dest)?;
     Some((source, dest))
-}
-
-/// What a first reserve asks for.
-fn service_of(request: &ReserveRequest) -> Result<Service, AllocError>
-    requires source { IsSome request.now.source }
-    requires dest { IsSome request.now.dest }
-    ensures { let q = request.now in
-        IfOk result (λ s. s ≡ service_of q (name_or q.source) (name_or q.dest)) }
-{
-    let (Some(source), Some(dest)) = (&request.source, &request.dest) else {
-        unreachable!()
-    };
-    Ok(Service {
-        source: source.copy()?,
-        dest: dest.copy()?,
-        directionality: request
-            .directionality
-            .unwrap_or(Directionality::Bidirectional),
-        symmetric: request.symmetric,
-        global: copy_text(&request.global)?,
-        description: copy_text(&request.description)?,
-    })
 }

@@ -1,20 +1,20 @@
 //! What is done to one record of many, and what its agent then says.
 
-ghost use Rattle.std.specs.Prelude.{◌≡◌, ◌<◌, ◌++◌, ◌∷◌, [], length, IfOk, OnOk, OnErr};
+ghost use Rattle.std.specs.Prelude.{◌≡◌, ◌<◌, length, OnErr};
 ghost use Rattle.nsi_primitive.specs.Ids.{id_of};
 ghost use Rattle.nsi_primitive.specs.declared.state.Side.{Side as SideValue};
 ghost use Rattle.connection_record.specs.Later.{IsLater};
-ghost use Rattle.connection_record.specs.Replies.{addressed};
 ghost use Rattle.connection_record.specs.Applied.{moves};
 ghost use Rattle.provider_agent.specs.State.{record_at};
 ghost use Rattle.provider_agent.specs.Steps.{drawn};
-ghost use Rattle.provider_agent.specs.Turned.{IsTurned, IsTurnedAt};
+ghost use Rattle.provider_agent.specs.Turned.{IsTurned, IsTurnedAt, IsStored};
 
 use crate::agent::Agent;
-use connection_record::{Move, Record, Reply};
+use agent_state::push_replies;
+use connection_record::{Move, Record};
 use message_retry::Retry;
-use nsi_base::{Name, Second};
-use nsi_primitive::{Header, Message, Side, id_of};
+use nsi_base::Second;
+use nsi_primitive::{Message, Side, id_of};
 use std::alloc::{AllocError, Global};
 
 /// When a record is moved, and at which place it stands: the second, and the number of the next id, under which a change of its
@@ -33,57 +33,6 @@ pub struct Turned {
     pub drawn: u64,
 }
 
-fn message_of(provider: &Name, requester: &Name, reply: Reply) -> Result<Message, AllocError>
-    ensures { IfOk result (λ m. m ≡ record {
-      header = record {
-        correlation = reply.correlation;
-        requester = requester.now;
-        provider = provider.now;
-      };
-      body = reply.body;
-    }) }
-{
-    let header = Header {
-        correlation: reply.correlation,
-        requester: requester.copy()?,
-        provider: provider.copy()?,
-    };
-    Ok(Message {
-        header,
-        body: reply.body,
-    })
-}
-
-fn push_reply(
-    out: &mut Vec<Message>,
-    agent: &Name,
-    owner: &Name,
-    reply: Reply,
-) -> Result<(), AllocError>
-    ensures { let said = addressed agent.now owner.now (reply ∷ []) in
-        OnOk result (out.new.items ≡ out.old.items ++ said) }
-{
-    let message = message_of(agent, owner, reply)?;
-    out.push(message)?;
-    Ok(())
-}
-
-/// The agent says what a record says, to its owner.
-pub fn push_replies(
-    out: &mut Vec<Message>,
-    agent: &Name,
-    owner: &Name,
-    replies: Vec<Reply>,
-) -> Result<(), AllocError>
-    ensures { let said = addressed agent.now owner.now replies.items in
-        OnOk result (out.new.items ≡ out.old.items ++ said) }
-{
-    for reply in replies {
-        push_reply(out, agent, owner, reply)?;
-    }
-    Ok(())
-}
-
 /// Moves a record, and gives what its agent then says, which waits. Where memory is wanting, nothing changes.
 pub fn turn(
     alloc: Global,
@@ -94,9 +43,7 @@ pub fn turn(
     moment: Moment,
 ) -> Result<Turned, AllocError>
     requires { moment.next < 4611686018427387904 }
-    ensures stored { let old = retry.old in
-        IfOk result (λ t. retry.new ≡ record old { waiting = old.waiting ++ t.out.items }) }
-    ensures unstored { OnErr result (retry.new ≡ retry.old) }
+    ensures stored { IsStored retry.old retry.new result }
     ensures turned { let x = moves SideValue.Provider event moment.second own.old in
         IsTurned agent.now moment own.old own.new result x }
     ensures err { OnErr result (own.new ≡ own.old) }
@@ -121,9 +68,7 @@ fn try_turn(
     moment: Moment,
 ) -> Result<Turned, AllocError>
     requires { moment.next < 4611686018427387904 }
-    ensures stored { let old = retry.old in
-        IfOk result (λ t. retry.new ≡ record old { waiting = old.waiting ++ t.out.items }) }
-    ensures unstored { OnErr result (retry.new ≡ retry.old) }
+    ensures stored { IsStored retry.old retry.new result }
     ensures turned { let x = moves SideValue.Provider event moment.second own.old in
         IsTurned agent.now moment own.old own.new result x }
     ensures later { IsLater own.old own.new }
@@ -162,9 +107,7 @@ pub fn turn_at(
 ) -> Result<Turned, AllocError>
     requires within { moment.place < length records.old.items }
     requires next { moment.next < 4611686018427387904 }
-    ensures stored { let old = retry.old in
-        IfOk result (λ t. retry.new ≡ record old { waiting = old.waiting ++ t.out.items }) }
-    ensures unstored { OnErr result (retry.new ≡ retry.old) }
+    ensures stored { IsStored retry.old retry.new result }
     ensures turned { let place = moment.place in
         let own = record_at place records.old.items in
         let x = moves SideValue.Provider event moment.second own in

@@ -15,7 +15,8 @@ ghost use Rattle.provider_agent.specs.Step.{IsStep};
 
 use crate::agent::Agent;
 use crate::provider_core::{Core, number_of};
-use crate::records::{drawn_for, push_replies};
+use crate::records::drawn_for;
+use agent_state::push_replies;
 use capacity_calendar::Calendar;
 use connection_record::{Origin, Record, Savepoint};
 use message_retry::Retry;

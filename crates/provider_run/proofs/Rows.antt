@@ -1,6 +1,6 @@
 -- What a provider answers, computed: two points of 1000 Mbps, requests of one requester, a line after the other.
-use Rattle.std.proofs.Common.{◌≡◌, ℕ, Bool, true, false, List, [], ◌∷◌, length, Option, Some, None, refl, if◌then◌else◌}
-use Rattle.std.specs.Prelude.{bytes_eq, codes}
+use Rattle.std.proofs.Common.{◌≡◌, ℕ, Bool, true, false, List, [], ◌∷◌, length, Option, Some, None, refl}
+use Rattle.std.specs.Prelude.{codes}
 use Rattle.nsi_base.specs.declared.flow.Flow.{Flow}
 use Rattle.nsi_primitive.specs.Ids.{id_of}
 use Rattle.nsi_primitive.specs.Messages.{connection_of}
@@ -25,26 +25,14 @@ use Rattle.connection_record.specs.Lives.{provision_event, lifecycle_event, prov
 use Rattle.connection_record.specs.Moves.{event_of, reserves, hold_end, is_live, is_working, worked}
 use Rattle.connection_record.specs.Refusal.{has_row, is_in_place, unnamed_refusal, modification_refusal, refusal}
 use Rattle.connection_record.specs.Applied.{moves, closes, reservation_closing, provision_closing, requested, first_machine, waits, work_of, provided, is_provisioning, is_terminating, ticks as record_ticks, tells, tells_plane}
-use Rattle.provider_agent.specs.Setting.{Setting}
 use Rattle.provider_agent.specs.Others.{lacking}
 use Rattle.provider_agent.specs.State.{State, Stepped, blank}
 use Rattle.provider_agent.specs.Steps.{receives, works, forces, ticks, ticks_all, step, after}
 use Rattle.provider_agent.specs.Runs.{after_all}
+use Rattle.provider_agent.proofs.EventRows.{setting, stp_of}
 use Rattle.provider_run.specs.Works.{now_at, works_of, all_works, with_works}
 
----- The provider and its requests
-
-abbrev setting : Setting
-setting =
-    record {
-      name = codes "p1";
-      number = 0;
-      hold = 60;
-      capacities = record { stp = 0; flow = Flow.Both; mbps = 1000 } ∷ record { stp = 1; flow = Flow.Both; mbps = 1000 } ∷ [];
-    }
-
-abbrev stp_of : List ℕ → Option ℕ
-stp_of name = if bytes_eq name (codes "A") then Some 0 else if bytes_eq name (codes "B") then Some 1 else None
+---- Its requests
 
 -- the n-th request of a requester
 abbrev from : List ℕ → ℕ → Body → Message

@@ -8,7 +8,8 @@ mod waiting;
 
 ghost use Rattle.std.specs.Prelude.{◌≡◌, ◌<◌, true};
 ghost use Rattle.nsi_primitive.specs.Printable.{IsPrintableInput};
-ghost use Rattle.provider_agent.specs.Steps.{is_for_provider, is_on_time};
+ghost use Rattle.agent_state.specs.Entries.{is_on_time};
+ghost use Rattle.provider_agent.specs.Steps.{is_for_provider};
 
 use nsi_base::{RecordNo, Second};
 use nsi_primitive::{

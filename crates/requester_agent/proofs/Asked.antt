@@ -7,7 +7,8 @@ use Rattle.message_retry.specs.Retry.{Retry}
 use Rattle.agent_state.specs.declared.parent.View.{View}
 use Rattle.agent_state.specs.State.{AgentState, stays}
 use Rattle.requester_agent.specs.Views.{Asked}
-use Rattle.requester_agent.specs.Steps.{find_view, answers, asks_at, asks_new, retry_of, with_retry}
+use Rattle.agent_state.specs.Entries.{retry_of, with_retry}
+use Rattle.requester_agent.specs.Steps.{find_view, answers, asks_at, asks_new}
 use Rattle.requester_agent.specs.Taking.{waits_more}
 
 pub found_none : (label : List ℕ) (vs : List View) → position (λ v. bytes_eq label v.label) vs ≡ None → find_view label vs ≡ None

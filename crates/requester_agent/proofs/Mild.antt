@@ -22,7 +22,8 @@ use Rattle.agent_state.specs.declared.parent.View.{View}
 use Rattle.agent_state.specs.State.{AgentState, AgentStepped, stays, counts_agent}
 use Rattle.requester_agent.specs.Setting.{Setting}
 use Rattle.requester_agent.specs.Views.{Asked, asks_if_free, asks_if_known, asks_about, asks_reserve, service_between, service_if, reserve_of}
-use Rattle.requester_agent.specs.Steps.{find_view, view_at, next_id, answers, refuses, asks_at, asks_new, asks_found, reserves, asked_of, asked, view_hears, hears_if, retry_of, acked, ticks, step}
+use Rattle.agent_state.specs.Entries.{retry_of}
+use Rattle.requester_agent.specs.Steps.{find_view, view_at, next_id, answers, refuses, asks_at, asks_new, asks_found, reserves, asked_of, asked, view_hears, hears_if, acked, ticks, step}
 use Rattle.requester_agent.specs.Good.{IsApart, IsGood}
 
 -- the laws of views that it rests on

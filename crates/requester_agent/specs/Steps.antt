@@ -1,5 +1,5 @@
 -- One entry at a requester.
-use Rattle.std.specs.Prelude.{ℕ, ◌+◌, ◌==◌, ◌&&◌, nat_lt, nat_le, not, Bool, true, false, List, [], ◌∷◌, ◌++◌, length, map, slice_get, slice_set, position, Option, Some, None}
+use Rattle.std.specs.Prelude.{ℕ, ◌+◌, ◌&&◌, nat_lt, not, Bool, true, false, List, [], ◌∷◌, ◌++◌, length, map, slice_get, slice_set, position, Option, Some, None}
 use Rattle.std.specs.Option.{option_map, option_and_then}
 use Rattle.std.specs.Str.{bytes_eq}
 use Rattle.nsi_primitive.specs.Ids.{id_of}
@@ -11,11 +11,12 @@ use Rattle.nsi_primitive.specs.declared.entry.Input.{Input}
 use Rattle.nsi_primitive.specs.declared.kind.Kind.{Kind}
 use Rattle.nsi_primitive.specs.declared.message.Identity.{Identity}
 use Rattle.nsi_primitive.specs.declared.message.Message.{Message}
-use Rattle.message_retry.specs.Retry.{Retry, is_old, saw, without}
+use Rattle.message_retry.specs.Retry.{is_old, saw, without}
 use Rattle.child_connection.specs.Views.{new_view}
 use Rattle.child_connection.specs.Hearing.{hear}
 use Rattle.agent_state.specs.declared.parent.View.{View}
-use Rattle.agent_state.specs.State.{State, AgentState, AgentStepped, stays, counts_agent}
+use Rattle.agent_state.specs.State.{AgentState, AgentStepped, stays, counts_agent}
+use Rattle.agent_state.specs.Entries.{retry_of, with_retry, is_on_time, most_entries}
 use Rattle.requester_agent.specs.Setting.{Setting}
 use Rattle.requester_agent.specs.Views.{Asked, asks_about, asks_reserve}
 
@@ -81,13 +82,6 @@ asked (Some label) what set s = asked_of what label (find_view label s.views) se
 
 ---- Messages
 
--- what it keeps of messages
-abbrev pub retry_of : State → Retry
-retry_of b = record { waiting = b.waiting; seen = b.seen; heard = b.heard }
-
-abbrev pub with_retry : Retry → State → State
-with_retry t b = record b { waiting = t.waiting; seen = t.seen; heard = t.heard }
-
 abbrev pub view_hears : Message → View → View
 view_hears m v = record v { child = (hear m v.child).view }
 
@@ -105,11 +99,6 @@ ticks second s = stays (record s { base = record s.base { now = second } })
 
 ---- One entry
 
--- a tick may go on to a later second, all else happens now
-abbrev pub is_on_time : Input → ℕ → ℕ → Bool
-is_on_time Input.Tick second now = nat_le now second
-is_on_time _ second now = second == now
-
 -- what asks for what an agent knows
 abbrev pub is_query_ask : What → Bool
 is_query_ask What.Summary = true
@@ -122,10 +111,6 @@ is_query_ask _ = false
 abbrev pub is_for_requester : Input → Bool
 is_for_requester (Input.Ask number ask) = not (is_query_ask ask.what)
 is_for_requester _ = true
-
--- an agent takes so many entries
-abbrev pub most_entries : ℕ
-most_entries = 4194304
 
 abbrev pub may_take : AgentState → Entry → Bool
 may_take s e = nat_lt s.base.taken most_entries && (is_for_requester e.input && is_on_time e.input e.second s.base.now)

@@ -8,7 +8,8 @@ ghost use Rattle.nsi_primitive.specs.Printable.{IsPrintable, IsPrintableInput};
 ghost use Rattle.message_retry.specs.Retry.{is_old};
 ghost use Rattle.agent_state.specs.State.{blank_agent};
 ghost use Rattle.requester_agent.specs.Setting.{IsRequester, setting_of};
-ghost use Rattle.requester_agent.specs.Steps.{after, may_take, retry_of};
+ghost use Rattle.agent_state.specs.Entries.{retry_of};
+ghost use Rattle.requester_agent.specs.Steps.{after, may_take};
 ghost use Rattle.requester_agent.specs.Good.{IsGood};
 
 use crate::laws::every_entry;

@@ -7,7 +7,8 @@ ghost use Rattle.message_retry.specs.Retry.{is_old};
 ghost use Rattle.child_connection.specs.Asks.{is_about};
 ghost use Rattle.agent_state.specs.State.{blank_agent};
 ghost use Rattle.requester_agent.specs.Setting.{IsRequester, setting_of};
-ghost use Rattle.requester_agent.specs.Steps.{retry_of, find_view, asks_found, reserves, asked, hears_if, step};
+ghost use Rattle.agent_state.specs.Entries.{retry_of};
+ghost use Rattle.requester_agent.specs.Steps.{find_view, asks_found, reserves, asked, hears_if, step};
 ghost use Rattle.requester_agent.specs.Core.{standing_at};
 ghost use Rattle.requester_agent.specs.Taking.{IsStep, IsTakenAs, IsAskable};
 

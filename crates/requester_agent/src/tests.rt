@@ -5,7 +5,8 @@ mod wishes;
 
 ghost use Rattle.std.specs.Prelude.{◌≡◌, ◌<◌, true};
 ghost use Rattle.nsi_primitive.specs.Printable.{IsPrintableInput};
-ghost use Rattle.requester_agent.specs.Steps.{is_for_requester, is_on_time};
+ghost use Rattle.agent_state.specs.Entries.{is_on_time};
+ghost use Rattle.requester_agent.specs.Steps.{is_for_requester};
 
 use crate::Requester;
 use child_connection::Phase;

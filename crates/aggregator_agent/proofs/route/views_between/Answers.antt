@@ -1,8 +1,8 @@
 use Rattle.std.proofs.Common.{List, sym, subst}
 use Rattle.std.specs.List.{All}
 use Rattle.path_segments.specs.declared.path.Segment.{Segment}
-use Rattle.aggregator_agent.specs.Setting.{IsKnown}
-use Rattle.aggregator_agent.proofs.Known.{path_known}
+use Rattle.path_segments.specs.Paths.{IsKnown}
+use Rattle.path_segments.proofs.Known.{path_known}
 use Rattle.aggregator_agent.proofs.route.views_between.Goals as goal
 
 pub views_along-requires : goal.views_along-requires

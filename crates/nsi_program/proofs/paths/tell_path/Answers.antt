@@ -1,8 +1,8 @@
 use Rattle.std.proofs.Common.{List, sym, subst}
 use Rattle.std.specs.List.{All}
 use Rattle.path_segments.specs.declared.path.Segment.{Segment}
-use Rattle.nsi_program.specs.Check.{IsKnown}
-use Rattle.nsi_program.proofs.Known.{path_known}
+use Rattle.path_segments.specs.Paths.{IsKnown}
+use Rattle.path_segments.proofs.Known.{path_known}
 use Rattle.nsi_program.proofs.paths.tell_path.Goals as goal
 
 pub path_line-requires : goal.path_line-requires

@@ -24,7 +24,7 @@ returns-clause-step c =
     let out_is = c.in_ok-turn.ensures.turned.out ∙ (ap (λ (r : Record). messages_of (setting_at d) (made_turn (setting_at d) (state_at d) m r)) made_is ∙ opened_out (setting_at d) (state_at d) m c.args.request.now points) in
     record {
       state =
-          ap (λ (r : Retry). record (state_at d) { records = c.push.new.self.items; seen = r.seen; heard = r.heard; waiting = r.waiting; next = d.next + 1 + c.in_ok-turn.turn.drawn }) c.in_ok-turn.ensures.stored
+          ap (λ (r : Retry). record (state_at d) { records = c.push.new.self.items; seen = r.seen; heard = r.heard; waiting = r.waiting; next = d.next + 1 + c.in_ok-turn.turn.drawn }) c.in_ok-turn.ensures.stored.waits
           ∙ (ap (λ rs. record (state_at d) { records = rs; waiting = d.retry.waiting ++ c.in_ok-turn.turn.out.items; next = d.next + 1 + c.in_ok-turn.turn.drawn }) records_are
           ∙ (ap (λ k. record (state_at d) { records = turned_records; waiting = d.retry.waiting ++ c.in_ok-turn.turn.out.items; next = d.next + 1 + k }) drawn_is
           ∙ (ap (λ out. record (state_at d) { records = turned_records; waiting = d.retry.waiting ++ out; next = d.next + 1 + made_drawn (state_at d) m (made (setting_at d) (state_at d) m c.args.request.now points) }) out_is

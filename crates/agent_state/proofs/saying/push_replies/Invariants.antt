@@ -1,6 +1,6 @@
 use Rattle.std.proofs.Common.{◌≡◌, ◌++◌}
 use Rattle.connection_record.specs.Replies.{addressed}
-use Rattle.provider_agent.proofs.records.push_replies.Given as goal
+use Rattle.agent_state.proofs.saying.push_replies.Given as goal
 
 -- what is said, and behind it what is still to be said
 abbrev pub invariant-loop-reply : goal.invariant-loop-reply

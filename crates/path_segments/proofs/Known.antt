@@ -6,11 +6,10 @@ use Rattle.stp_topology.specs.declared.network.Network.{Network}
 use Rattle.stp_topology.specs.Network.{children_of, partner_of}
 use Rattle.stp_topology.specs.Sound.{IsSound}
 use Rattle.path_segments.specs.declared.path.Segment.{Segment}
-use Rattle.path_segments.specs.Paths.{IsSegment, Offers, Onward, IsPath, position_of, placed, greatest_rank}
+use Rattle.path_segments.specs.Paths.{IsSegment, Offers, Onward, IsPath, position_of, placed, greatest_rank, IsKnown}
 use Rattle.path_segments.proofs.Flat.{entry_within, exit_within}
 use Rattle.path_segments.proofs.OneLeast.{at_position}
 use Rattle.path_segments.proofs.Sound.{are_agents}
-use Rattle.nsi_program.specs.Check.{IsKnown}
 
 segment_known : (t : Network) → IsSound t → (a : ℕ) (x : Segment) → IsSegment (Offers t greatest_rank) (children_of t a) (position_of (children_of t a) x.child) x.entry x.exit → IsKnown t x
 segment_known t s a x g =
