@@ -32,11 +32,6 @@ no_view = new_view [] [] []
 abbrev pub view_at : ℕ → List ChildConnection → ChildConnection
 view_at n views = get_or views n no_view
 
--- both are one
-pub record IsAsBefore (old new : Connection) : Type 0 where
-  pub own : new.own ≡ old.own
-  pub children : new.children.items ≡ old.children.items
-
 ---- One child
 
 -- a child is asked a body of a kind under a correlation, or not at all; the request is handed on

@@ -5,3 +5,11 @@ pub mod Turns
 pub mod Clock
 pub mod Steps
 pub mod Connections
+pub mod Bonds
+pub mod Undo
+pub mod Rounds
+pub mod Core
+pub mod Step
+pub mod Good
+pub mod Laws
+pub mod Requesting

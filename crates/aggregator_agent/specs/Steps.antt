@@ -16,7 +16,8 @@ use Rattle.connection_record.specs.Moves.{fresh, service_of}
 use Rattle.connection_record.specs.Refusal.{refusal, place_of, points_of}
 use Rattle.child_connection.specs.Views.{ChildConnection}
 use Rattle.agent_state.specs.declared.parent.Due.{Due}
-use Rattle.agent_state.specs.State.{State, AgentState, AgentStepped, stays, sends, counts_agent, record_at, children_at, name_or}
+use Rattle.agent_state.specs.Entries.{is_on_time, most_entries, error_reply, retry_of, with_retry}
+use Rattle.agent_state.specs.State.{AgentState, AgentStepped, stays, sends, counts_agent, record_at, children_at, name_or}
 use Rattle.aggregator_agent.specs.declared.agent.Agent.{Agent}
 use Rattle.aggregator_agent.specs.Setting.{Setting}
 use Rattle.aggregator_agent.specs.Asking.{Turn, with_path}
@@ -25,18 +26,12 @@ use Rattle.aggregator_agent.specs.Clock.{Clocked, clock_all, due_for, told_dues}
 
 ---- Messages that came
 
-abbrev pub retry_of : State → Retry
-retry_of s = record { waiting = s.waiting; seen = s.seen; heard = s.heard }
-
-abbrev pub with_retry : State → Retry → State
-with_retry s t = record s { waiting = t.waiting; seen = t.seen; heard = t.heard }
-
 -- whether a message was taken before
 abbrev pub is_seen : AgentState → Message → Bool
 is_seen s m = is_old m (retry_of s.base)
 
 abbrev pub sees : Message → AgentState → AgentState
-sees m s = record s { base = with_retry s.base (saw m (retry_of s.base)) }
+sees m s = record s { base = with_retry (saw m (retry_of s.base)) s.base }
 
 ---- A request
 
@@ -91,10 +86,6 @@ request_to (Some n) setting s m = request_at setting s n m
 abbrev pub accepts : Option ℕ → Setting → AgentState → Message → AgentStepped
 accepts None setting s m = opens m.body setting s m
 accepts (Some id) setting s m = request_to (place_of id m.header.requester s.base.records) setting s m
-
--- a refused request is answered by an error under its own header
-abbrev pub error_reply : List ℕ → Message → ErrorName → Message
-error_reply agent m error = record { header = m.header; body = Body.Error (connection_of m.body) (plain agent error) }
 
 unfoldable pub answers : Option ErrorName → Setting → AgentState → Message → AgentStepped
 answers (Some error) setting s m = sends s (error_reply setting.agent.name m error ∷ [])
@@ -163,20 +154,11 @@ acknowledged i s = record s { base = record s.base { waiting = without i s.base.
 
 ---- One entry
 
--- a tick may go on to a later second, all else happens now
-abbrev pub is_on_time : Input → ℕ → ℕ → Bool
-is_on_time Input.Tick second now = not (nat_lt second now)
-is_on_time _ second now = second == now
-
 -- an aggregator has no asks of its own, and answers no query yet
 abbrev pub is_for_aggregator : Input → Bool
 is_for_aggregator (Input.Ask _ _) = false
 is_for_aggregator (Input.Got m) = not (is_query m.body)
 is_for_aggregator _ = true
-
--- an agent takes so many entries
-abbrev pub most_entries : ℕ
-most_entries = 4194304
 
 abbrev pub may_take : AgentState → Entry → Bool
 may_take s e = nat_lt s.base.taken most_entries && (is_for_aggregator e.input && is_on_time e.input e.second s.base.now)

@@ -2,18 +2,35 @@
 #![tactic(auto)]
 
 mod agent;
+pub mod aggregator;
+mod aggregator_core;
 mod asking;
+mod clock;
 pub mod connection;
+mod entering;
+mod find;
 mod hearing;
+mod keeping;
+mod late;
+pub mod laws;
 mod moving;
+mod outbox;
 mod passing;
 mod planes;
+mod receive;
+mod requesting;
+mod rounds;
 mod route;
+mod said;
 mod saying;
 mod settling;
 mod turning;
 mod verdicts;
 
 pub use agent::Agent;
+pub use aggregator::Aggregator;
 pub use connection::{Connection, Turning};
 pub use route::views_between;
+
+#[cfg(test)]
+mod tests;

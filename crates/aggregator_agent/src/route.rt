@@ -14,7 +14,7 @@ use stp_topology::Topology;
 
 /// Views of the children on the least path between two points, in the order of its segments; none where there is no
 /// path.
-#[tactic(auto, using(crate::proofs::Legs::along, crate::proofs::Legs::nowhere))]
+#[tactic(auto, using(crate::proofs::Legs::along, crate::proofs::Legs::nowhere, crate::proofs::Legs::undeclared))]
 pub fn views_between(
     alloc: Global,
     topology: &Topology,
@@ -22,11 +22,16 @@ pub fn views_between(
     source: StpNo,
     dest: StpNo,
 ) -> Result<Vec<ChildConnection>, AllocError>
-    requires { source < length topology.now.stps }
-    ensures { (legs : Sequence LegValue) → AreLegs topology.now aggregator source dest legs →
+    ensures legs { (legs : Sequence LegValue) →
+        AreLegs topology.now aggregator source dest legs →
         IfOk result (λ views. views.items ≡ views_of legs) }
+    ensures some { IfOk result (λ views.
+        (legs : Sequence LegValue) × (views.items ≡ views_of legs)) }
 {
     topology.facts();
+    if source.get() as usize >= topology.stps() {
+        return Ok(Vec::new(alloc));
+    }
     match find(alloc, topology, aggregator, source, dest) {
         Ok(path) => {
             let views = views_along(alloc, topology, path.segments.items())?;

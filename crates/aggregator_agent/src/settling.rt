@@ -6,12 +6,12 @@ ghost use Rattle.connection_record.specs.Later.{IsLater};
 ghost use Rattle.aggregator_agent.specs.Settling.{settles_reservation, settles_provision, closes_unless, settles, is_there};
 
 use crate::agent::Agent;
-use crate::moving::{close, provision_if, reserve_if};
+use crate::moving::{provision_if, reserve_if};
 use crate::verdicts::{is_any_there, provision_due, reservation_due};
 use child_connection::ChildConnection;
 use connection_record::{Record, Reply};
 use nsi_base::Second;
-use nsi_primitive::Lsm;
+use nsi_primitive::{Lsm, Side};
 use std::alloc::AllocError;
 
 #[tactic(auto, unfolding(crate::specs::Settling::settles_reservation))]
@@ -68,7 +68,7 @@ fn close_unless_there(
     if is_any_there(children) {
         Ok(())
     } else {
-        close(own, replies, &agent.name, now)
+        own.close(replies, &agent.name, Side::Aggregator, now)
     }
 }
 

@@ -1,27 +1,28 @@
 //! The turn of a connection.
 
 ghost use Rattle.std.specs.Prelude.{◌≡◌, ◌<◌, ◌++◌, option_to_list, IfOk, OnOk, OnErr};
-ghost use Rattle.connection_record.specs.declared.record.Record.{Record as RecordValue};
-ghost use Rattle.connection_record.specs.Later.{saved_of, IsLater};
+ghost use Rattle.connection_record.specs.Later.{IsLater};
 ghost use Rattle.connection_record.specs.Lives.{lives_if};
 ghost use Rattle.std.specs.List.{list_any};
 ghost use Rattle.aggregator_agent.specs.Asking.{next_after, replies_by};
 ghost use Rattle.aggregator_agent.specs.Turns.{loses, breaks, tell_joined, hold_ends, force_ends, heard_by, pass_on, takes, turn_by_request, turn_by_answer, requested_turn, answered_turn};
 ghost use Rattle.aggregator_agent.specs.Settling.{settle};
-ghost use Rattle.aggregator_agent.specs.Connections.{turn_of, IsAsBefore};
+ghost use Rattle.aggregator_agent.specs.Connections.{turn_of};
+ghost use Rattle.aggregator_agent.specs.Bonds.{bond, requested_bond, answered, IsDone};
 
 use crate::agent::Agent;
 use crate::asking::pass_all;
 use crate::connection::{Connection, Turning};
+use crate::entering::Entering;
 use crate::hearing::{Heard, hear_all};
 use crate::moving::{apply_if, reserve_if};
 use crate::passing::{force_by, hold_end_by};
 use crate::planes::{joined_of, tell_plane};
+use crate::said::{Moment, Said};
 use crate::settling::settle;
-use child_connection::ChildConnection;
-use connection_record::{LifecycleMove, Record, Reply, Savepoint};
+use connection_record::{LifecycleMove, Record, Reply};
 use dataplane_state::announces;
-use nsi_base::Second;
+use nsi_base::{RecordNo, Second};
 use nsi_primitive::{Lsm, Message, Plane};
 use std::alloc::{AllocError, Global};
 
@@ -68,64 +69,55 @@ fn live_if(
 
 impl Connection {
     /// Takes a request of its owner: its own record takes it, the children are asked, what is due at once is done, and the
-    /// change of the data plane is told. Where memory is wanting, nothing has changed.
+    /// change of the data plane is told. Where memory is wanting it may have changed, and can go back.
+    #[tactic(auto, unfolding(crate::specs::Turns::request_turn, crate::specs::Turns::spoken))]
     pub fn take_request(
         &mut self,
         alloc: Global,
-        turning: &mut Turning,
-        agent: &Agent,
-        message: &Message,
-        now: Second,
+        said: &mut Said,
+        entering: &Entering<'_>,
+        number: RecordNo,
     ) -> Result<(), AllocError>
-        ensures turned { let t = turn_of self.old turning.old in
-            let turned = requested_turn agent.now now message.now t in
-            OnOk result (turn_of self.new turning.new ≡ turned) }
-        ensures err { OnErr result (IsAsBefore self.old self.new) }
+        ensures done { let e = entering.now in
+            let next = said.old.next in
+            let one = requested_bond e.agent.now e.second e.message.now number next (bond self.old) in
+            IsDone said.old said.new (bond self.new) result one }
+        ensures later { IsLater self.old.own self.new.own }
     {
-        let own = self.own.save();
-        let children = copies_of(alloc, &self.children)?;
-        match self.try_request(alloc, turning, agent, message, now) {
-            Ok(()) => Ok(()),
-            Err(error) => {
-                self.go_back(&own, children);
-                Err(error)
-            }
-        }
+        let mut turning = Turning::new(alloc, said.next);
+        let Entering {
+            agent,
+            message,
+            second,
+        } = *entering;
+        self.try_request(alloc, &mut turning, agent, message, second)?;
+        said.add(agent, &self.own.owner, Moment { number, second }, turning)
     }
 
     /// Takes a message of a child: the views hear it, the own hold or life ends with a child's, what is due then is done,
-    /// and the change of the data plane is told. Where memory is wanting, nothing has changed.
+    /// and the change of the data plane is told. Where memory is wanting it may have changed, and can go back.
+    #[tactic(auto, unfolding(crate::specs::Turns::answer_turn, crate::specs::Turns::spoken))]
     pub fn take_answer(
         &mut self,
         alloc: Global,
-        turning: &mut Turning,
-        agent: &Agent,
-        message: &Message,
-        now: Second,
+        said: &mut Said,
+        entering: &Entering<'_>,
+        number: RecordNo,
     ) -> Result<(), AllocError>
-        ensures turned { let t = turn_of self.old turning.old in
-            OnOk result (turn_of self.new turning.new ≡ answered_turn agent.now now message.now t) }
-        ensures err { OnErr result (IsAsBefore self.old self.new) }
+        ensures done { let e = entering.now in
+            let next = said.old.next in
+            let one = answered e.agent.now e.second e.message.now number next (bond self.old) in
+            IsDone said.old said.new (bond self.new) result one }
+        ensures later { IsLater self.old.own self.new.own }
     {
-        let own = self.own.save();
-        let children = copies_of(alloc, &self.children)?;
-        match self.try_answer(alloc, turning, agent, message, now) {
-            Ok(()) => Ok(()),
-            Err(error) => {
-                self.go_back(&own, children);
-                Err(error)
-            }
-        }
-    }
-
-    /// Goes back to what it was. It takes no memory.
-    fn go_back(&mut self, own: &Savepoint, children: Vec<ChildConnection>)
-        ensures own { (r : RecordValue) →
-            own.now ≡ saved_of r → IsLater r self.old.own → self.new.own ≡ r }
-        ensures children { self.new.children.items ≡ children.items }
-    {
-        self.own.restore(own);
-        self.children = children;
+        let mut turning = Turning::new(alloc, said.next);
+        let Entering {
+            agent,
+            message,
+            second,
+        } = *entering;
+        self.try_answer(alloc, &mut turning, agent, message, second)?;
+        said.add(agent, &self.own.owner, Moment { number, second }, turning)
     }
 
     #[tactic(auto, unfolding(crate::specs::Turns::turn_by_request), using(connection_record::proofs::Growing::later_trans))]
@@ -303,17 +295,4 @@ impl Connection {
         let notice = tell_plane(&mut self.own, is_told, &after, correlation, now)?;
         turning.give_notice(notice)
     }
-}
-
-fn copies_of(
-    alloc: Global,
-    children: &[ChildConnection],
-) -> Result<Vec<ChildConnection>, AllocError>
-    ensures { IfOk result (λ copies. copies.items ≡ children.now) }
-{
-    let mut copies = Vec::new(alloc);
-    for child in children {
-        copies.push(child.copy()?)?;
-    }
-    Ok(copies)
 }

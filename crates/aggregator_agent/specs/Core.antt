@@ -1,0 +1,34 @@
+-- An aggregator's fields as a standing.
+use Rattle.std.specs.Prelude.{ℕ, [], List}
+use Rattle.message_retry.specs.Retry.{Retry}
+use Rattle.agent_state.specs.declared.parent.Due.{Due}
+use Rattle.agent_state.specs.State.{State, AgentState}
+use Rattle.aggregator_agent.specs.declared.aggregator_core.Core.{Core}
+use Rattle.aggregator_agent.specs.declared.outbox.Outbox.{Outbox}
+use Rattle.aggregator_agent.specs.Bonds.{Bond, bonds, records_of, children_of}
+use Rattle.aggregator_agent.specs.Setting.{Standing}
+
+-- the state whose connections are these
+abbrev pub state_of : List Bond → Outbox → (next now taken : ℕ) → AgentState
+state_of bs o next now taken =
+    record {
+      base =
+          record {
+            records = records_of bs;
+            seen = o.retry.seen;
+            heard = o.retry.heard;
+            waiting = o.retry.waiting;
+            next = next;
+            now = now;
+            taken = taken;
+          };
+      children = children_of bs;
+      dues = o.dues.items;
+      views = [];
+    }
+
+abbrev pub state_at : Core → AgentState
+state_at d = state_of (bonds d.connections.items) d.outbox d.next d.now d.taken
+
+abbrev pub standing_at : Core → Standing
+standing_at d = record { agent = d.agent; state = state_at d }
