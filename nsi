@@ -32,6 +32,12 @@ run() {
     state=$(state)
     [ "$state" != built ] || exec "$program" "$@"
     require_rt "$state"
+    if keeps_journals "$@"; then
+        say "the program is $state, and only a built one keeps journals, so it is proved and built now"
+        build
+        clear_room
+        exec "$program" "$@"
+    fi
     say "the program is $state, so this call runs before any proof, once its input has ended; to prove and build: $0 --build"
     make_room
     cat >"$room/input" || fail 'standard input could not be kept'
@@ -41,6 +47,11 @@ run() {
     exec <"$room/input"
     clear_room
     exec "$program" "$@"
+}
+
+# `rt try` hands on no environment.
+keeps_journals() {
+    [ "${1-}" = provide ] && [ -n "${NSI_JOURNALS-}" ]
 }
 
 # Ends with the program's status and output, and returns where the toolchain couldn't run it to its end.

@@ -4,4 +4,6 @@
 #[cfg(test)]
 mod running;
 #[cfg(test)]
+mod stopping;
+#[cfg(test)]
 mod tables;

@@ -5,6 +5,7 @@ mod counting;
 mod cutting;
 mod holds;
 mod hostile;
+mod journals;
 mod kinds;
 mod modifications;
 mod outside;
@@ -14,6 +15,7 @@ mod provisioning;
 mod rows;
 mod terminating;
 
+use nsi_disk::MemoryShelf;
 use nsi_outside::{MemorySink, MemorySource};
 use nsi_program::top_plain;
 use std::alloc::{AllocError, Global};
@@ -54,7 +56,8 @@ fn run(
     }
     let mut source = MemorySource::new(input, failing.reads);
     let mut sink = MemorySink::new(alloc, failing.writes);
-    let status = top_plain(alloc, &all, &mut source, &mut sink).code();
+    let mut shelf = MemoryShelf::new(Vec::new(alloc), Vec::new(alloc));
+    let status = top_plain(alloc, &all, &mut source, &mut sink, &mut shelf).code();
     let mut bytes = Vec::new(alloc);
     bytes.extend_from_slice(sink.bytes())?;
     Ok(Written { status, bytes })

@@ -15,6 +15,11 @@ cause_of disk.Failed = DiskFault
 cause_of disk.Stopped = Stopped
 cause_of disk.NoMemory = NoMemory
 
+-- no call has failed, and none has stopped the disk
+pub record KeepsCounts (old new : Meter) : Type 0 where
+  pub faults : new.faults ≡ old.faults
+  pub stops : new.stops ≡ old.stops
+
 -- each cause comes only for its reason, and no count falls
 pub record StartsFor (old new : Meter) (history : Option History) (cause : StartCause) : Type 0 where
   pub faults : old.faults ≤ new.faults
@@ -22,6 +27,7 @@ pub record StartsFor (old new : Meter) (history : Option History) (cause : Start
   pub fault : cause ≡ DiskFault → old.faults < new.faults
   pub stopped : cause ≡ Stopped → old.stops < new.stops
   pub reading : (place : ℕ) → cause ≡ NotAJournal place → IfSome history (λ h. recovers batch_of (seen h) ≡ Err place)
+  pub calm : (place : ℕ) → cause ≡ NotAJournal place → KeepsCounts old new
 
 -- where both are told, a crash now leaves what the old history names
 abbrev pub LeavesNow : Option History → Option History → (History → List ℕ → Type 0) → Type 0
@@ -38,8 +44,3 @@ Keeps entries history kept = IfSome history (λ h. kept ≡ Some (record { synce
 -- a told disk reads as these entries
 abbrev pub ReadsAsJournal : List Entry → Option History → Type 0
 ReadsAsJournal entries history = IfSome history (λ h. recovers batch_of (seen h) ≡ Ok entries)
-
--- no call has failed, and none has stopped the disk
-pub record KeepsCounts (old new : Meter) : Type 0 where
-  pub faults : new.faults ≡ old.faults
-  pub stops : new.stops ≡ old.stops

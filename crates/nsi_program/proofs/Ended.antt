@@ -5,9 +5,10 @@ use Rattle.nsi_program.specs.declared.status.Status.{Status}
 use Rattle.nsi_program.specs.declared.words.Command.{Command}
 use Rattle.nsi_program.specs.Lines.{as_line}
 use Rattle.nsi_program.specs.Check.{Checks, Begins}
-use Rattle.nsi_program.specs.Cut.{IsCutByFault, IsFrontOfCut, IsStopped}
-use Rattle.nsi_program.specs.Ends.{usage_promise, HasEnded, IsCut, IsCutShort}
-use Rattle.nsi_program.specs.Promise.{Writes, WritesFront, is_told, read_fault_line, IsKept}
+use Rattle.nsi_program.specs.Cut.{IsCutByFault}
+use Rattle.nsi_program.specs.Ends.{usage_promise, WithReading, HasEnded, IsCut, IsBroken, IsCutShort, Counts}
+use Rattle.nsi_program.specs.Phases.{Reading}
+use Rattle.nsi_program.specs.Promise.{Writes, WritesFront, is_told, read_fault_line, promise_of, IsKept}
 use Rattle.nsi_program.specs.Writes.{WritesSome, WritesSomeFront}
 use Rattle.nsi_program.proofs.Checks.{some_begins}
 use Rattle.nsi_program.proofs.Written.{nothing_some}
@@ -17,20 +18,32 @@ pub nothing_begun : (left old new : Option (List ℕ)) → new ≡ old → IfSom
 nothing_begun None old new e = tt
 nothing_begun (Some bytes) old new e = let b = some_begins bytes in nothing_some (Begins bytes) old new b.0 b.1 e
 
-pub check_ended : (command : Option Command) (content left new : Option (List ℕ)) (status : Status) → command ≡ Some Command.Check
-    → IfSome left (λ bytes. WritesSome (Checks bytes status) content new) → HasEnded command content left status new
-check_ended command content left new status e h =
-    let P : Option Command → Type 0 = λ x. HasEnded x content left status new in subst P (sym e) (ended content left h)
+abbrev Holds : Type 0
+Holds = List ℕ → Option (List ℕ)
+
+pub provide_ended : (command : Option Command) (most : ℕ) (holds : Holds) (content left new : Option (List ℕ)) (status : Status) → command ≡ Some (Command.Provide most)
+    → WithReading holds left (λ read. IsKept (promise_of read most content left) status new) → HasEnded command holds content left status new
+provide_ended command most holds content left new status e w =
+    let P : Option Command → Type 0 = λ x. HasEnded x holds content left status new in subst P (sym e) (promise_of w.0 most content left, (w.0, w.1, refl), w.2)
+
+-- what holds of an end by each reading
+pub with_reading : (holds : Holds) (left : Option (List ℕ)) (P Q : Reading → Type 0) → ((read : Reading) → P read → Q read) → WithReading holds left P → WithReading holds left Q
+with_reading holds left P Q f w = (w.0, w.1, f w.0 w.2)
+
+pub check_ended : (command : Option Command) (holds : Holds) (content left new : Option (List ℕ)) (status : Status) → command ≡ Some Command.Check
+    → IfSome left (λ bytes. WritesSome (Checks bytes status) content new) → HasEnded command holds content left status new
+check_ended command holds content left new status e h =
+    let P : Option Command → Type 0 = λ x. HasEnded x holds content left status new in subst P (sym e) (ended content left h)
   where
-    ended : (content left : Option (List ℕ)) → IfSome left (λ bytes. WritesSome (Checks bytes status) content new) → HasEnded (Some Command.Check) content left status new
+    ended : (content left : Option (List ℕ)) → IfSome left (λ bytes. WritesSome (Checks bytes status) content new) → HasEnded (Some Command.Check) holds content left status new
     ended None left h = (None, refl, tt)
     ended (Some c) None h = (None, refl, tt)
     ended (Some c) (Some bytes) h = (Some (status, c ++ h.0), ((status, h.0), h.1, refl), (refl, h.2))
 
-pub usage_ended : (command : Option Command) (content left new : Option (List ℕ)) (status : Status) → command ≡ None
-    → (status ≡ Status.Usage) × Writes content new (as_line (codes "fault usage")) → HasEnded command content left status new
-usage_ended command content left new status e h =
-    let P : Option Command → Type 0 = λ x. HasEnded x content left status new in subst P (sym e) (usage_promise content, refl, kept content h.1)
+pub usage_ended : (command : Option Command) (holds : Holds) (content left new : Option (List ℕ)) (status : Status) → command ≡ None
+    → (status ≡ Status.Usage) × Writes content new (as_line (codes "fault usage")) → HasEnded command holds content left status new
+usage_ended command holds content left new status e h =
+    let P : Option Command → Type 0 = λ x. HasEnded x holds content left status new in subst P (sym e) (usage_promise content, refl, kept content h.1)
   where
     kept : (content : Option (List ℕ)) → Writes content new (as_line (codes "fault usage")) → IsKept (usage_promise content) status new
     kept None w = tt
@@ -38,24 +51,35 @@ usage_ended command content left new status e h =
 
 ---- Cut short
 
-pub provide_cut : (command : Option Command) (most : ℕ) (content left rest new : Option (List ℕ)) → command ≡ Some (Command.Provide most) → IsCutByFault most content left rest new → IsCut command content left rest new
-provide_cut command most content left rest new e w = let P : Option Command → Type 0 = λ x. IsCut x content left rest new in subst P (sym e) w
+pub provide_cut : (command : Option Command) (most : ℕ) (holds : Holds) (content left rest new : Option (List ℕ)) → command ≡ Some (Command.Provide most) → WithReading holds left (λ read. IsCutByFault read most content left rest new)
+    → IsCut command holds content left rest new
+provide_cut command most holds content left rest new e w = let P : Option Command → Type 0 = λ x. IsCut x holds content left rest new in subst P (sym e) w
 
-pub check_cut : (command : Option Command) (content left rest new : Option (List ℕ)) → command ≡ Some Command.Check → Writes content new read_fault_line → IsCut command content left rest new
-check_cut command content left rest new e w = let P : Option Command → Type 0 = λ x. IsCut x content left rest new in subst P (sym e) w
+pub check_cut : (command : Option Command) (holds : Holds) (content left rest new : Option (List ℕ)) → command ≡ Some Command.Check → Writes content new read_fault_line → IsCut command holds content left rest new
+check_cut command holds content left rest new e w = let P : Option Command → Type 0 = λ x. IsCut x holds content left rest new in subst P (sym e) w
 
-pub provide_cut_short : (command : Option Command) (most : ℕ) (content left rest : Option (List ℕ)) (before after : ℕ) (new : Option (List ℕ)) → command ≡ Some (Command.Provide most)
-    → ((after ≡ before) × IsStopped most content left new) ⊎ ((before < after) × IsFrontOfCut most content left rest new) → IsCutShort command content left rest before after new
-provide_cut_short command most content left rest before after new e h = let P : Option Command → Type 0 = λ x. IsCutShort x content left rest before after new in subst P (sym e) h
+pub provide_broken : (command : Option Command) (most : ℕ) (holds : Holds) (content left new : Option (List ℕ)) → command ≡ Some (Command.Provide most) → IsBroken (Some (Command.Provide most)) holds content left new
+    → IsBroken command holds content left new
+provide_broken command most holds content left new e w = let P : Option Command → Type 0 = λ x. IsBroken x holds content left new in subst P (sym e) w
 
-pub check_cut_short : (command : Option Command) (content left rest : Option (List ℕ)) (before after : ℕ) (new : Option (List ℕ)) → command ≡ Some Command.Check
-    → ((after ≡ before) × IfSome left (λ bytes. WritesSomeFront (Begins bytes) content new)) ⊎ ((before < after) × WritesFront content new read_fault_line) → IsCutShort command content left rest before after new
-check_cut_short command content left rest before after new e h = let P : Option Command → Type 0 = λ x. IsCutShort x content left rest before after new in subst P (sym e) h
+pub provide_cut_short : (command : Option Command) (most : ℕ) (holds : Holds) (content left rest : Option (List ℕ)) (before after : Counts) (new : Option (List ℕ)) → command ≡ Some (Command.Provide most)
+    → IsCutShort (Some (Command.Provide most)) holds content left rest before after new → IsCutShort command holds content left rest before after new
+provide_cut_short command most holds content left rest before after new e h = let P : Option Command → Type 0 = λ x. IsCutShort x holds content left rest before after new in subst P (sym e) h
 
-pub usage_cut_short : (command : Option Command) (content left rest : Option (List ℕ)) (faults : ℕ) (new : Option (List ℕ)) (status : Status) → command ≡ None → (is_told status ≡ false → WritesFront content new (as_line (codes "fault usage")))
-    → (status ≡ Status.WriteFault) ⊎ (status ≡ Status.NoMemory) → IsCutShort command content left rest faults faults new
-usage_cut_short command content left rest faults new status e w h =
-    let P : Option Command → Type 0 = λ x. IsCutShort x content left rest faults faults new in subst P (sym e) (inl (refl, w (untold h)))
+pub check_cut_short : (command : Option Command) (holds : Holds) (content left rest : Option (List ℕ)) (before after : Counts) (new : Option (List ℕ)) → command ≡ Some Command.Check
+    → ((after.reads ≡ before.reads) × IfSome left (λ bytes. WritesSomeFront (Begins bytes) content new)) ⊎ ((before.reads < after.reads) × WritesFront content new read_fault_line)
+    → IsCutShort command holds content left rest before after new
+check_cut_short command holds content left rest before after new e h = let P : Option Command → Type 0 = λ x. IsCutShort x holds content left rest before after new in subst P (sym e) (by_fault h)
+  where
+    by_fault : ((after.reads ≡ before.reads) × IfSome left (λ bytes. WritesSomeFront (Begins bytes) content new)) ⊎ ((before.reads < after.reads) × WritesFront content new read_fault_line)
+        → IsCutShort (Some Command.Check) holds content left rest before after new
+    by_fault (inl w) = inl w
+    by_fault (inr w) = inr (inl w)
+
+pub usage_cut_short : (command : Option Command) (holds : Holds) (content left rest : Option (List ℕ)) (counts : Counts) (new : Option (List ℕ)) (status : Status) → command ≡ None → (is_told status ≡ false → WritesFront content new (as_line (codes "fault usage")))
+    → (status ≡ Status.WriteFault) ⊎ (status ≡ Status.NoMemory) → IsCutShort command holds content left rest counts counts new
+usage_cut_short command holds content left rest counts new status e w h =
+    let P : Option Command → Type 0 = λ x. IsCutShort x holds content left rest counts counts new in subst P (sym e) (inl (refl, w (untold h)))
   where
     untold : (status ≡ Status.WriteFault) ⊎ (status ≡ Status.NoMemory) → is_told status ≡ false
     untold (inl q) = ap is_told q

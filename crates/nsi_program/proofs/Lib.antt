@@ -8,4 +8,10 @@ pub mod Written
 pub mod Checks
 pub mod Ended
 pub mod OneText
+pub mod Begun
+pub mod Provided
+pub mod Batches
+pub mod Started
+pub mod Stepping
+pub mod TopologyLines
 mod CheckRows

@@ -6,64 +6,63 @@ use Rattle.stp_topology.specs.Network.{nothing}
 use Rattle.line_reader.specs.Given.{Given, given_of, with_line, TakesLine, IsAtEnd}
 use Rattle.nsi_program.specs.declared.status.Ending.{Ending}
 use Rattle.nsi_program.specs.declared.status.Status.{Status}
-use Rattle.nsi_program.specs.declared.provide.Phase.{Phase}
-use Rattle.nsi_program.specs.declared.provide.Step.{Step}
+use Rattle.nsi_program.specs.Phases.{Reading, Phase, in_topology, Step, goes_to, ends_as}
 use Rattle.nsi_program.specs.Outcome.{move_of, last_of, behind, outcome, status_of, with_status}
 use Rattle.nsi_base.specs.Range.{greatest_input}
 use Rattle.nsi_program.specs.Promise.{Writes, behind_content, promised, promised_after, ended, IsSameEnd, IsKept, promise_of}
 
 -- the outcome of a line and those behind it
-pub of_line : (long : Bool) (number : ℕ) (phase : Phase) (line : List ℕ) (lines : List (List ℕ))
-    → outcome long number phase (line ∷ lines) ≡ behind (move_of number phase line).text (move_of number phase line).step (λ p. outcome long (number + 1) p lines)
+pub of_line : (read : Reading) (long : Bool) (number : ℕ) (phase : Phase) (line : List ℕ) (lines : List (List ℕ))
+    → outcome read long number phase (line ∷ lines) ≡ behind (move_of read number phase line).text (move_of read number phase line).step (λ p. outcome read long (number + 1) p lines)
 unfolding outcome
-of_line long number phase line lines = refl
+of_line read long number phase line lines = refl
 
-pub of_end : (long : Bool) (number : ℕ) (phase : Phase) → outcome long number phase [] ≡ with_status (last_of long number phase)
+pub of_end : (read : Reading) (long : Bool) (number : ℕ) (phase : Phase) → outcome read long number phase [] ≡ with_status (last_of long number phase)
 unfolding outcome
-of_end long number phase = refl
+of_end read long number phase = refl
 
 -- the line's text comes first
 pub behind_text : (text : List ℕ) (step : Step) (next : Phase → Status × List ℕ) → (rest : List ℕ) × ((behind text step next).1 ≡ text ++ rest)
-behind_text text (Step.End e) next = ([], sym (append-nil text))
-behind_text text (Step.More p) next = ((next p).1, refl)
+behind_text text (ends_as e) next = ([], sym (append-nil text))
+behind_text text (goes_to p) next = ((next p).1, refl)
 
-whole : (number : ℕ) (phase : Phase) (line text : List ℕ) (step : Step) (g rest : Given) → g ≡ with_line line rest → text ≡ (move_of number phase line).text → step ≡ (move_of number phase line).step
-    → outcome g.long number phase g.lines ≡ behind text step (λ p. outcome rest.long (number + 1) p rest.lines)
-whole number phase line text step g rest e x s =
-    ap (λ (h : Given). outcome h.long number phase h.lines) e
-    ∙ (of_line rest.long number phase line rest.lines
-    ∙ (ap (λ y. behind y (move_of number phase line).step (λ p. outcome rest.long (number + 1) p rest.lines)) (sym x)
-    ∙ ap (λ y. behind text y (λ p. outcome rest.long (number + 1) p rest.lines)) (sym s)))
+whole : (read : Reading) (number : ℕ) (phase : Phase) (line text : List ℕ) (step : Step) (g rest : Given) → g ≡ with_line line rest → text ≡ (move_of read number phase line).text → step ≡ (move_of read number phase line).step
+    → outcome read g.long number phase g.lines ≡ behind text step (λ p. outcome read rest.long (number + 1) p rest.lines)
+whole read number phase line text step g rest e x s =
+    ap (λ (h : Given). outcome read h.long number phase h.lines) e
+    ∙ (of_line read rest.long number phase line rest.lines
+    ∙ (ap (λ y. behind y (move_of read number phase line).step (λ p. outcome read rest.long (number + 1) p rest.lines)) (sym x)
+    ∙ ap (λ y. behind text y (λ p. outcome read rest.long (number + 1) p rest.lines)) (sym s)))
 
-pub line_step : (number : ℕ) (phase : Phase) (line text : List ℕ) (step : Step) (content after : Option (List ℕ)) (old new : Option Given) → TakesLine old new line
-    → text ≡ (move_of number phase line).text → step ≡ (move_of number phase line).step → Writes content after text
-    → IsSameEnd (promised number phase content old) (promised_after (number + 1) step after new)
-line_step number phase line text step None after old new t x s w = tt
-line_step number phase line text step (Some c) after None new t x s w = tt
-line_step number phase line text (Step.End e) (Some c) after (Some g) new t x s w =
+pub line_step : (read : Reading) (number : ℕ) (phase : Phase) (line text : List ℕ) (step : Step) (content after : Option (List ℕ)) (old new : Option Given) → TakesLine old new line
+    → text ≡ (move_of read number phase line).text → step ≡ (move_of read number phase line).step → Writes content after text
+    → IsSameEnd (promised read number phase content old) (promised_after read (number + 1) step after new)
+line_step read number phase line text step None after old new t x s w = tt
+line_step read number phase line text step (Some c) after None new t x s w = tt
+line_step read number phase line text (ends_as e) (Some c) after (Some g) new t x s w =
     ap (ended e) w
-    ∙ ap (λ o. Some (behind_content c o)) (sym (whole number phase line text (Step.End e) g t.0 t.2 x s))
-line_step number phase line text (Step.More p) (Some c) after (Some g) new t x s w =
-    ap (λ a. promised (number + 1) p a new) w
-    ∙ (ap (promised (number + 1) p (Some (c ++ text))) t.1
-    ∙ (ap (λ z. Some ((outcome t.0.long (number + 1) p t.0.lines).0, z)) (append_assoc c text (outcome t.0.long (number + 1) p t.0.lines).1)
-    ∙ ap (λ o. Some (behind_content c o)) (sym (whole number phase line text (Step.More p) g t.0 t.2 x s))))
+    ∙ ap (λ o. Some (behind_content c o)) (sym (whole read number phase line text (ends_as e) g t.0 t.2 x s))
+line_step read number phase line text (goes_to p) (Some c) after (Some g) new t x s w =
+    ap (λ a. promised read (number + 1) p a new) w
+    ∙ (ap (promised read (number + 1) p (Some (c ++ text))) t.1
+    ∙ (ap (λ z. Some ((outcome read t.0.long (number + 1) p t.0.lines).0, z)) (append_assoc c text (outcome read t.0.long (number + 1) p t.0.lines).1)
+    ∙ ap (λ o. Some (behind_content c o)) (sym (whole read number phase line text (goes_to p) g t.0 t.2 x s))))
 
 -- at the end of the lines
-last_is : (number : ℕ) (phase : Phase) (g : Given) (long : Bool) → g ≡ record { lines = []; long = long } → outcome g.long number phase g.lines ≡ with_status (last_of long number phase)
-last_is number phase g long e = ap (λ (h : Given). outcome h.long number phase h.lines) e ∙ of_end long number phase
+last_is : (read : Reading) (number : ℕ) (phase : Phase) (g : Given) (long : Bool) → g ≡ record { lines = []; long = long } → outcome read g.long number phase g.lines ≡ with_status (last_of long number phase)
+last_is read number phase g long e = ap (λ (h : Given). outcome read h.long number phase h.lines) e ∙ of_end read long number phase
 
-pub end_step : (number : ℕ) (phase : Phase) (long : Bool) (end : Ending × List ℕ) (content after : Option (List ℕ)) (old : Option Given) → IsAtEnd old long → end ≡ last_of long number phase → Writes content after end.1
-    → IsSameEnd (promised number phase content old) (ended end.0 after)
-end_step number phase long end None after old t e w = tt
-end_step number phase long end (Some c) after None t e w = tt
-end_step number phase long end (Some c) after (Some g) t e w =
-    ap (ended end.0) w ∙ ap (λ o. Some (behind_content c o)) (ap with_status e ∙ sym (last_is number phase g long t))
+pub end_step : (read : Reading) (number : ℕ) (phase : Phase) (long : Bool) (end : Ending × List ℕ) (content after : Option (List ℕ)) (old : Option Given) → IsAtEnd old long → end ≡ last_of long number phase → Writes content after end.1
+    → IsSameEnd (promised read number phase content old) (ended end.0 after)
+end_step read number phase long end None after old t e w = tt
+end_step read number phase long end (Some c) after None t e w = tt
+end_step read number phase long end (Some c) after (Some g) t e w =
+    ap (ended end.0) w ∙ ap (λ o. Some (behind_content c o)) (ap with_status e ∙ sym (last_is read number phase g long t))
 
 -- a step that ends
-pub step_along : (number : ℕ) (step : Step) (ending : Ending) (promise : Option (Status × List ℕ)) (content : Option (List ℕ)) (given : Option Given) → step ≡ Step.End ending → IsSameEnd promise (ended ending content)
-    → IsSameEnd promise (promised_after (number + 1) step content given)
-step_along number step ending promise content given e s = let P : Step → Type 0 = λ x. IsSameEnd promise (promised_after (number + 1) x content given) in subst P (sym e) s
+pub step_along : (read : Reading) (number : ℕ) (step : Step) (ending : Ending) (promise : Option (Status × List ℕ)) (content : Option (List ℕ)) (given : Option Given) → step ≡ ends_as ending → IsSameEnd promise (ended ending content)
+    → IsSameEnd promise (promised_after read (number + 1) step content given)
+step_along read number step ending promise content given e s = let P : Step → Type 0 = λ x. IsSameEnd promise (promised_after read (number + 1) x content given) in subst P (sym e) s
 
 -- along what doesn't change
 pub same_along : (a b c : Option (Status × List ℕ)) → IsSameEnd a b → IsSameEnd b c → IsSameEnd a c
@@ -83,11 +82,11 @@ is_kept (Some p) ending status (Some c) s e = (e ∙ first s, ap (λ x. Some x) 
     second h = cc
 
 -- at the start nothing is promised but what the whole input makes
-pub same_start : (held : Held) (t : Network) (most : ℕ) (content left : Option (List ℕ)) → held ≡ record { bytes = []; room = greatest_input } → t ≡ nothing
-    → IsSameEnd (promise_of most content left) (promised 1 (Phase.Declaring (record { topology = t; most = most })) content (to_come held left))
+pub same_start : (read : Reading) (held : Held) (t : Network) (most : ℕ) (content left : Option (List ℕ)) → held ≡ record { bytes = []; room = greatest_input } → t ≡ nothing
+    → IsSameEnd (promise_of read most content left) (promised read 1 (in_topology (record { topology = t; most = most })) content (to_come held left))
 unfolding to_come
-same_start held t most None left h n = tt
-same_start held t most (Some c) None h n = tt
-same_start held t most (Some c) (Some bytes) h n =
-    ap (λ (x : Held). promised 1 (Phase.Declaring (record { topology = t; most = most })) (Some c) (Some (given_of (budget x) (x.bytes ++ bytes)))) h
-    ∙ ap (λ x. promised 1 (Phase.Declaring (record { topology = x; most = most })) (Some c) (Some (given_of greatest_input bytes))) n
+same_start read held t most None left h n = tt
+same_start read held t most (Some c) None h n = tt
+same_start read held t most (Some c) (Some bytes) h n =
+    ap (λ (x : Held). promised read 1 (in_topology (record { topology = t; most = most })) (Some c) (Some (given_of (budget x) (x.bytes ++ bytes)))) h
+    ∙ ap (λ x. promised read 1 (in_topology (record { topology = x; most = most })) (Some c) (Some (given_of greatest_input bytes))) n

@@ -1,14 +1,20 @@
 -- How each command may end, and all that the sink has then.
-use Rattle.std.specs.Prelude.{◌≡◌, ◌≤◌, ◌<◌, ◌⊎◌, ℕ, List, ◌++◌, length, codes, Option, Some, None, Ok, option_map, IfSome}
+use Rattle.std.specs.Prelude.{◌≡◌, ◌≤◌, ◌<◌, ◌⊎◌, ℕ, List, ◌++◌, length, take, codes, Option, Some, None, Ok, option_map, IfSome}
 use Rattle.nsi_base.specs.Lines.{lines_of}
+use Rattle.nsi_disk.specs.ShelfCounts.{Raised}
+use Rattle.journal_entry.specs.Payloads.{batch_of}
+use Rattle.journal_entry.specs.Journals.{recovers}
+use Rattle.line_reader.specs.Given.{given_of}
 use Rattle.stp_topology.specs.declared.network.Network.{Network}
-use Rattle.stp_topology.specs.Network.{nothing}
+use Rattle.stp_topology.specs.Network.{nothing, first_provider, name_of}
 use Rattle.stp_topology.specs.Text.{read_lines}
 use Rattle.nsi_program.specs.declared.status.Status.{Status}
 use Rattle.nsi_program.specs.declared.words.Command.{Command}
 use Rattle.nsi_program.specs.Check.{Checks, Begins}
 use Rattle.nsi_program.specs.Lines.{as_line}
-use Rattle.nsi_program.specs.Cut.{IsCutByFault, IsFrontOfCut, IsStopped}
+use Rattle.nsi_program.specs.Phases.{Reading}
+use Rattle.nsi_program.specs.Outcome.{disk_fault_line}
+use Rattle.nsi_program.specs.Cut.{IsCutByFault, IsFrontOfCut, IsStopped, AnswersThen}
 use Rattle.nsi_base.specs.Range.{greatest_input}
 use Rattle.nsi_program.specs.Promise.{behind_content, promise_of, read_fault_line, Writes, WritesFront, IsKept}
 use Rattle.nsi_program.specs.Writes.{WritesSomeFront}
@@ -23,37 +29,89 @@ Promises ends None left promise = promise ≡ None
 Promises ends (Some c) None promise = promise ≡ None
 Promises ends (Some c) (Some bytes) promise = (end : Status × List ℕ) × ends bytes end × (promise ≡ Some (behind_content c end))
 
--- what the command and its input promise of how it ends
-abbrev pub MayEnd : Option Command → Option (List ℕ) → Option (List ℕ) → Option (Status × List ℕ) → Type 0
-MayEnd None content left promise = promise ≡ usage_promise content
-MayEnd (Some (Command.Provide most)) content left promise = promise ≡ promise_of most content left
-MayEnd (Some Command.Check) content left promise = Promises (λ bytes end. Checks bytes end.0 end.1) content left promise
+---- Journals
+
+-- the lines begin with a topology that has this provider
+abbrev pub Serves : List (List ℕ) → Network → ℕ → Type 0
+Serves lines t provider = (n : ℕ) × (read_lines nothing 0 lines ≡ Ok (t, n)) × (first_provider t ≡ Some provider)
+
+-- where the shelf tells what it holds under the name of the first provider, its journal reads so
+abbrev pub IsReading : (List ℕ → Option (List ℕ)) → List (List ℕ) → Reading → Type 0
+IsReading holds lines read = (t : Network) (provider : ℕ) → Serves lines t provider → IfSome (holds (name_of t provider)) (λ file. recovers batch_of file ≡ read)
+
+abbrev pub lines_in : List ℕ → List (List ℕ)
+lines_in bytes = (given_of greatest_input bytes).lines
+
+-- where the source tells: some reading of the journal has this
+abbrev pub WithReading : (List ℕ → Option (List ℕ)) → Option (List ℕ) → (Reading → Type 0) → Type 0
+WithReading holds left P = (read : Reading) × IfSome left (λ bytes. IsReading holds (lines_in bytes) read) × P read
+
+---- Ends
+
+-- what the command, its input and its journal promise of how it ends
+abbrev pub MayEnd : Option Command → (List ℕ → Option (List ℕ)) → Option (List ℕ) → Option (List ℕ) → Option (Status × List ℕ) → Type 0
+MayEnd None holds content left promise = promise ≡ usage_promise content
+MayEnd (Some (Command.Provide most)) holds content left promise = WithReading holds left (λ read. promise ≡ promise_of read most content left)
+MayEnd (Some Command.Check) holds content left promise = Promises (λ bytes end. Checks bytes end.0 end.1) content left promise
 
 -- the command has ended as it may
-abbrev pub HasEnded : Option Command → Option (List ℕ) → Option (List ℕ) → Status → Option (List ℕ) → Type 0
-HasEnded command content left status new = (promise : Option (Status × List ℕ)) × MayEnd command content left promise × IsKept promise status new
+abbrev pub HasEnded : Option Command → (List ℕ → Option (List ℕ)) → Option (List ℕ) → Option (List ℕ) → Status → Option (List ℕ) → Type 0
+HasEnded command holds content left status new = (promise : Option (Status × List ℕ)) × MayEnd command holds content left promise × IsKept promise status new
 
 -- Reading failed. `provide` has answered all lines that ended within what was read, `check` none; words of no form read nothing.
-abbrev pub IsCut : Option Command → (content left rest new : Option (List ℕ)) → Type 0
-IsCut None content left rest new = ⊥
-IsCut (Some (Command.Provide most)) content left rest new = IsCutByFault most content left rest new
-IsCut (Some Command.Check) content left rest new = Writes content new read_fault_line
+abbrev pub IsCut : Option Command → (List ℕ → Option (List ℕ)) → (content left rest new : Option (List ℕ)) → Type 0
+IsCut None holds content left rest new = ⊥
+IsCut (Some (Command.Provide most)) holds content left rest new = WithReading holds left (λ read. IsCutByFault read most content left rest new)
+IsCut (Some Command.Check) holds content left rest new = Writes content new read_fault_line
+
+-- The disk failed or stopped. `provide` has answered some first lines, and behind them stands whose disk it was; no other command has a disk.
+abbrev pub IsBroken : Option Command → (List ℕ → Option (List ℕ)) → (content left new : Option (List ℕ)) → Type 0
+IsBroken (Some (Command.Provide most)) holds content left new =
+    WithReading holds left (λ read. IfSome content (λ c. IfSome left (λ bytes. (t : Network) × (provider : ℕ) × Serves (lines_in bytes) t provider
+    × (text : List ℕ) × AnswersThen read most (given_of greatest_input bytes) (disk_fault_line (name_of t provider)) text × (new ≡ Some (c ++ text)))))
+IsBroken _ holds content left new = ⊥
 
 -- Writing was cut short, and no read has failed.
-abbrev pub IsCutInAnswers : Option Command → (content left new : Option (List ℕ)) → Type 0
-IsCutInAnswers None content left new = WritesFront content new (as_line (codes "fault usage"))
-IsCutInAnswers (Some (Command.Provide most)) content left new = IsStopped most content left new
-IsCutInAnswers (Some Command.Check) content left new = IfSome left (λ bytes. WritesSomeFront (Begins bytes) content new)
+abbrev pub IsCutInAnswers : Option Command → (List ℕ → Option (List ℕ)) → (content left new : Option (List ℕ)) → Type 0
+IsCutInAnswers None holds content left new = WritesFront content new (as_line (codes "fault usage"))
+IsCutInAnswers (Some (Command.Provide most)) holds content left new = WithReading holds left (λ read. IsStopped read most content left new)
+IsCutInAnswers (Some Command.Check) holds content left new = IfSome left (λ bytes. WritesSomeFront (Begins bytes) content new)
 
 -- Writing was cut short within the line of a fault of reading.
-abbrev pub IsCutInFault : Option Command → (content left rest new : Option (List ℕ)) → Type 0
-IsCutInFault None content left rest new = ⊥
-IsCutInFault (Some (Command.Provide most)) content left rest new = IsFrontOfCut most content left rest new
-IsCutInFault (Some Command.Check) content left rest new = WritesFront content new read_fault_line
+abbrev pub IsCutInFault : Option Command → (List ℕ → Option (List ℕ)) → (content left rest new : Option (List ℕ)) → Type 0
+IsCutInFault None holds content left rest new = ⊥
+IsCutInFault (Some (Command.Provide most)) holds content left rest new = WithReading holds left (λ read. IsFrontOfCut read most content left rest new)
+IsCutInFault (Some Command.Check) holds content left rest new = WritesFront content new read_fault_line
 
--- writing was cut short, before or after a fault of reading
-abbrev pub IsCutShort : Option Command → (content left rest : Option (List ℕ)) → (before after : ℕ) → Option (List ℕ) → Type 0
-IsCutShort command content left rest before after new = ((after ≡ before) × IsCutInAnswers command content left new) ⊎ ((before < after) × IsCutInFault command content left rest new)
+-- Writing was cut short within the line of a disk's fault.
+abbrev pub IsCutInDisk : Option Command → (List ℕ → Option (List ℕ)) → (content left new : Option (List ℕ)) → Type 0
+IsCutInDisk (Some (Command.Provide most)) holds content left new =
+    WithReading holds left (λ read. IfSome content (λ c. IfSome left (λ bytes. (t : Network) × (provider : ℕ) × Serves (lines_in bytes) t provider × (k : ℕ)
+    × (text : List ℕ) × AnswersThen read most (given_of greatest_input bytes) (take k (disk_fault_line (name_of t provider))) text × (new ≡ Some (c ++ text)))))
+IsCutInDisk _ holds content left new = ⊥
+
+-- the counts of a source, and of the disks of a shelf
+pub record Counts : Type 0 where
+  pub reads : ℕ
+  pub faults : ℕ
+  pub stops : ℕ
+
+abbrev pub counted : (reads faults stops : ℕ) → Counts
+counted reads faults stops = record { reads = reads; faults = faults; stops = stops }
+
+-- a count was raised; one that reaches its type's end stands still there
+abbrev pub HasRisen : ℕ → ℕ → Type 0
+HasRisen old new = (by : ℕ) × (0 < by) × Raised old by new
+
+-- a disk, or its shelf, has counted a fault or a stop
+abbrev pub HasDiskFault : Counts → Counts → Type 0
+HasDiskFault before after = HasRisen before.faults after.faults ⊎ HasRisen before.stops after.stops
+
+-- Writing was cut short: in the answers, or behind a fault of reading or of the disk, whose counts then rose.
+abbrev pub IsCutShort : Option Command → (List ℕ → Option (List ℕ)) → (content left rest : Option (List ℕ)) → (before after : Counts) → Option (List ℕ) → Type 0
+IsCutShort command holds content left rest before after new =
+    ((after.reads ≡ before.reads) × IsCutInAnswers command holds content left new) ⊎ ((before.reads < after.reads) × IsCutInFault command holds content left rest new)
+    ⊎ (HasDiskFault before after × IsCutInDisk command holds content left new)
 
 -- The lines begin with a topology.
 abbrev pub HasTopology : List (List ℕ) → Type 0

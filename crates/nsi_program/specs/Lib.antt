@@ -4,11 +4,16 @@ pub mod Payload
 pub mod Receiving
 pub mod Lines
 pub mod Runs
+pub mod Phases
 pub mod Outcome
+pub mod Halts
+pub mod Declares
 pub mod Promise
 pub mod Cut
+pub mod UpTo
 pub mod Words
 pub mod Asked
 pub mod Check
 pub mod Writes
 pub mod Ends
+pub mod Provided

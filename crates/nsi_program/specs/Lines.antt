@@ -11,7 +11,7 @@ use Rattle.provider_agent.specs.Runs.{after_all}
 use Rattle.provider_agent.specs.State.{Stepped}
 use Rattle.provider_run.specs.Works.{with_works}
 use Rattle.nsi_program.specs.Receiving.{received}
-use Rattle.nsi_program.specs.Serving.{Serving, points_at}
+use Rattle.nsi_program.specs.Serving.{Serving, Served, points_at}
 use Rattle.nsi_program.specs.declared.receiving.Received.{Received}
 
 -- bytes as a line
@@ -22,28 +22,28 @@ as_line bytes = bytes ++ 10 ∷ []
 abbrev pub lines_of_messages : List Message → List ℕ
 lines_of_messages messages = concat (map (λ m. as_line (spelling m)) messages)
 
--- the provider after a line, and what is written for the line
-pub record Served : Type 0 where
-  pub serving : Serving
-  pub text : List ℕ
-
 -- the answer to a line that can't be read or isn't served: its fault, the key of the fault, and the number of the line
 abbrev pub payload : ℕ → PayloadFault → List ℕ
 payload number fault = as_line (payload_spelling (payload_name fault) (payload_key fault) number)
 
 -- nothing is taken
 abbrev pub says : Serving → List ℕ → Option Served
-says s text = Some (record { serving = s; text = text })
+says s text = Some (record { serving = s; entries = []; text = text })
 
--- after a run of the provider; each entry that it has taken is an event, and so is each sync
-abbrev pub served : Serving → Stepped → Option Served
-served s x =
-    if nat_le (x.state.taken + s.syncs + 1) s.most then Some (record { serving = record s { standing = record s.standing { state = x.state }; syncs = s.syncs + 1 }; text = lines_of_messages x.out })
+-- after these entries; each that the provider has taken is an event, and so are the others and a sync
+abbrev pub served : Serving → List Entry → Stepped → Option Served
+served s es x =
+    if nat_le (x.state.taken + s.others + 1) s.most then
+    Some (record { serving = record s { standing = record s.standing { state = x.state }; others = s.others + 1 }; entries = es; text = lines_of_messages x.out })
     else None
+
+-- an entry, and all work that waits then
+abbrev pub batch_with : Serving → Entry → List Entry
+batch_with s e = with_works s.standing.setting (points_at s) s.standing.state e
 
 -- an entry is taken, then all work that waits, and one sync stands behind them
 unfoldable pub entered : Serving → Entry → Option Served
-entered s e = served s (after_all s.standing.setting (points_at s) s.standing.state (with_works s.standing.setting (points_at s) s.standing.state e))
+entered s e = served s (batch_with s e) (after_all s.standing.setting (points_at s) s.standing.state (batch_with s e))
 
 abbrev pub answered : Received → Serving → ℕ → Option Served
 answered Received.Nothing s number = says s []

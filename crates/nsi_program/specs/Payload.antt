@@ -1,5 +1,5 @@
 -- Why a line isn't taken, as it is written.
-use Rattle.std.specs.Prelude.{ℕ, List, codes, Option, Some, None}
+use Rattle.std.specs.Prelude.{ℕ, List, codes, Option, None}
 use Rattle.json_fields.specs.Faults.{fault_name, fault_key}
 use Rattle.json_fields.specs.declared.key.Key.{Key}
 use Rattle.nsi_program.specs.declared.payload.PayloadFault.{PayloadFault}

@@ -2,6 +2,6 @@
 use Rattle.std.specs.Prelude.{◌≤◌}
 use Rattle.nsi_program.specs.Serving.{Serving}
 
--- each sync is an event, and there are no more than there may be
+-- each event beside the provider's entries counts, and there are no more than there may be
 abbrev pub IsServing : Serving → Type 0
-IsServing s = s.syncs ≤ s.most
+IsServing s = s.others ≤ s.most

@@ -25,5 +25,6 @@ pub record CountsFaults {A : Type 0} (result : Result A Fault) (old new : ℕ) :
 pub record TellsFaults (status : Status) (old new : ℕ) : Type 0 where
   pub write : status ≡ Status.WriteFault → old < new
   pub not_read : status ≡ Status.ReadFault → ⊥
+  pub not_disk : status ≡ Status.DiskFault → ⊥
   pub quiet : is_told status ≡ true → new ≡ old
   pub memory : status ≡ Status.NoMemory → new ≡ old

@@ -9,9 +9,9 @@ ghost use Rattle.nsi_program.specs.Outcome.{topology_fault};
 ghost use Rattle.nsi_program.specs.Promise.{is_told, read_fault_line, Writes, WritesFront};
 ghost use Rattle.nsi_program.specs.Writes.{WritesSome, WritesSomeFront, CountsFaults, TellsFaults};
 
+use crate::faults::topology_fault;
 use crate::output::{Fault, read_fault, write_text};
 use crate::paths::{answer, count_line};
-use crate::provide::topology_fault;
 use crate::status::Status;
 use line_reader::{ReadError, read_whole};
 use nsi_base::GREATEST_INPUT;
@@ -25,6 +25,7 @@ pub(crate) fn check<S: Source, K: Sink>(alloc: Global, input: &mut S, out: &mut 
     ensures ends { is_told result ≡ true → IfSome (S.left input.old)
         (λ bytes. WritesSome (Checks bytes result) (K.content out.old) (K.content out.new)) }
     ensures not_usage { result ≡ Status.Usage → ⊥ }
+    ensures not_disk { result ≡ Status.DiskFault → ⊥ }
     ensures read_fault { result ≡ Status.ReadFault → S.faults input.old < S.faults input.new }
     ensures alone { result ≡ Status.ReadFault →
         Writes (K.content out.old) (K.content out.new) read_fault_line }
@@ -62,6 +63,7 @@ fn fault_status(fault: Fault) -> Status
     ensures memory { result ≡ Status.NoMemory → fault ≡ Fault.NoMemory }
     ensures not_told { is_told result ≡ false }
     ensures not_read { result ≡ Status.ReadFault → ⊥ }
+    ensures not_disk { result ≡ Status.DiskFault → ⊥ }
 {
     match fault {
         Fault::Write => Status::WriteFault,

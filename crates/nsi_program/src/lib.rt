@@ -2,13 +2,18 @@
 #![tactic(auto)]
 
 mod asked;
+mod batch;
 mod check;
+mod declaring;
+mod faults;
 mod output;
 mod paths;
 pub mod payload;
 mod provide;
 mod receiving;
+mod replay;
 mod service;
+mod serving;
 pub mod status;
 mod top;
 mod words;

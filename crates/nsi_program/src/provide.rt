@@ -1,179 +1,354 @@
-//! The command `provide`: a topology, and then one line after another.
+//! The command `provide`: a topology, the journal of its first provider, and then one line after another.
 
-ghost use Rattle.std.specs.Prelude.{◌≡◌, ◌<◌, IfOk, Some, take, option_map};
-ghost use Rattle.nsi_program.specs.Lines.{as_line, serve, long_line};
-ghost use Rattle.stp_topology.specs.Network.{first_provider};
-ghost use Rattle.stp_topology.specs.Text.{of_line};
-ghost use Rattle.nsi_program.specs.Outcome.{topology_fault, move_of, end_of, declared, opened, goes_on};
+ghost use Rattle.std.specs.Prelude.{◌≡◌, ◌<◌, ◌≤◌, ◌+◌, ℕ, List, Option, None, Ok, false, All, IfOk, IfErr, OnOk, OnErr, IsErrOf, length};
+ghost use Rattle.line_reader.specs.Held.{budget, to_come, rest_of};
+ghost use Rattle.nsi_primitive.specs.Printable.{IsPrintableEntry};
+ghost use Rattle.nsi_program.specs.Declares.{IsOpening};
+ghost use Rattle.nsi_program.specs.Ends.{counted};
+ghost use Rattle.nsi_program.specs.Halts.{HasHaltCause, HasHaltCounts, CountsHalts, opened_step};
+ghost use Rattle.nsi_program.specs.Lines.{long_line};
+ghost use Rattle.nsi_program.specs.Outcome.{begins_behind, journal_fault};
+ghost use Rattle.nsi_program.specs.Phases.{Reading, in_service};
+ghost use Rattle.nsi_program.specs.Promise.{Writes, WritesFront, promised, promise_of, ended, IsSameEnd};
+ghost use Rattle.nsi_program.specs.UpTo.{IsUpToIf, HaltsAt, IsBegun};
+ghost use Rattle.nsi_program.specs.Provided.{IsUnread, HasFailed, refused_text, file_of, ServedTo, ConcludesFault, Concludes, HasProvided, CountsEnd};
+ghost use Rattle.nsi_program.specs.Words.{most_events};
+ghost use Rattle.nsi_program.specs.declared.status.Status.{Status as AStatus};
+ghost use Rattle.stp_topology.specs.Network.{name_of};
 
+use crate::declaring::{Begun, Declaration, declare_all};
+use crate::faults::journal_fault;
+use crate::output::{Fault, Halt, disk_fault, read_fault, write_text};
 use crate::service::Service;
-use crate::status::Ending;
+use crate::serving::{Desk, serve_all};
+use crate::status::{Ending, Status};
 use crate::words::EventLimit;
+use disk_journal::{DiskJournal, StartCause, StartFault};
+use journal_entry::Journal;
+use line_reader::LineReader;
+use nsi_base::{GREATEST_INPUT, Name};
+use nsi_disk::{Disk, Shelf, ShelfError};
+use nsi_outside::{Sink, Source};
+use nsi_primitive::Entry;
 use std::alloc::{AllocError, Global};
-use stp_topology::{LineRefusal, Taken, Topology, TopologyFault};
+use stp_topology::Topology;
 
-/// The topology that lines have declared so far, and how many events may follow it.
-#[derive(Drop)]
-pub struct Declaring {
-    pub topology: Topology,
-    pub most: EventLimit,
-}
-
-/// What the next line is taken as: one of the topology, or one that the provider answers.
-#[derive(Drop)]
-pub enum Phase {
-    Declaring(Declaring),
-    Serving(Service),
-}
-
-/// What comes after a line.
-#[derive(Drop)]
-pub enum Step {
-    More(Phase),
-    End(Ending),
-}
-
-/// What is written for a line, and what comes after it.
-#[derive(Drop)]
-pub(crate) struct Move {
-    pub(crate) text: Vec<u8>,
-    pub(crate) step: Step,
-}
-
-/// Bytes and the end of a line behind them.
-pub(crate) fn as_line(mut bytes: Vec<u8>) -> Result<Vec<u8>, AllocError>
-    ensures { IfOk result (λ line. line.items ≡ as_line bytes.items) }
-{
-    bytes.push(b'\n')?;
-    Ok(bytes)
-}
-
-/// `fault topology`, the number of the line and the fault.
-pub(crate) fn topology_fault(
+/// The provider behind the entries of its journal, or that they are more than there may be events.
+fn open<K: Sink>(
     alloc: Global,
+    out: &mut K,
+    begun: Begun,
+    entries: &[Entry],
+) -> Result<Option<Service>, Halt>
+    requires opening { IsOpening begun.topology begun.provider }
+    requires printable { All IsPrintableEntry entries.now }
+    ensures step { IfOk result
+        (λ o. opened_step o
+        ≡ (begins_behind begun.most begun.topology begun.provider (Ok entries.now)).step) }
+    ensures all { OnOk result
+        (Writes (K.content out.old) (K.content out.new)
+        (begins_behind begun.most begun.topology begun.provider (Ok entries.now)).text) }
+    ensures front { OnErr result
+        (WritesFront (K.content out.old) (K.content out.new)
+        (begins_behind begun.most begun.topology begun.provider (Ok entries.now)).text) }
+    ensures not_disk { IsErrOf result Halt.Disk → ⊥ }
+    ensures faults { CountsHalts result (K.faults out.old) (K.faults out.new) }
+{
+    let Begun {
+        topology,
+        provider,
+        most,
+        number: _,
+    } = begun;
+    if entries.len() as u64 > most.get() {
+        return too_long(out, topology);
+    }
+    match Service::open(alloc, topology, provider, most, entries) {
+        Ok(service) => Ok(Some(service)),
+        Err(_) => Err(Halt::Outside(Fault::NoMemory)),
+    }
+}
+
+/// Writes that the journal has more entries than there may be events.
+fn too_long<K: Sink>(out: &mut K, topology: Topology) -> Result<Option<Service>, Halt>
+    ensures ended { IfOk result (λ o. o ≡ None) }
+    ensures all { OnOk result (Writes (K.content out.old) (K.content out.new) long_line) }
+    ensures front { OnErr result (WritesFront (K.content out.old) (K.content out.new) long_line) }
+    ensures not_disk { IsErrOf result Halt.Disk → ⊥ }
+    ensures faults { CountsHalts result (K.faults out.old) (K.faults out.new) }
+{
+    drop(topology);
+    write_text(out, b"fault long\n")?;
+    Ok(None)
+}
+
+/// Serves lines from a number on, and hands the journal back.
+fn serve_from<S: Source, K: Sink, J: Journal>(
+    alloc: Global,
+    input: &mut S,
+    reader: &mut LineReader,
+    out: &mut K,
     number: u64,
-    fault: TopologyFault,
-) -> Result<Vec<u8>, AllocError>
-    ensures { IfOk result (λ text. text.items ≡ topology_fault number fault) }
+    desk: Desk<J>,
+) -> (Result<Ending, Halt>, J)
+    requires few { number + budget reader.old ≤ 67108866 }
+    requires ready { J.is_ready desk.journal }
+    requires none { J.waits desk.journal ≡ false }
+    ensures ends { (read : Reading) (promise : Option (AStatus × List ℕ)) →
+        IsSameEnd promise
+        (promised read number (in_service desk.service) (K.content out.old)
+        (to_come reader.old (S.left input.old)))
+        → IfOk result.0 (λ ending. IsSameEnd promise (ended ending (K.content out.new))) }
+    ensures halts { (read : Reading) (most : ℕ) (first start : Option (List ℕ)) →
+        IsUpToIf read most first start number (in_service desk.service) (K.content out.old)
+        (rest_of reader.old (S.left input.old)) (to_come reader.old (S.left input.old))
+        → IfErr result.0
+        (λ halt. HaltsAt read most first start halt reader.new (S.left input.new)
+        (K.content out.new)) }
+    ensures counts { HasHaltCounts result.0 (S.faults input.old) (S.faults input.new)
+        (K.faults out.old) (K.faults out.new) }
+    ensures cause { HasHaltCause result.0 (J.meter desk.journal) (J.meter result.1) }
+    ensures untold { J.history desk.journal ≡ None → J.history result.1 ≡ None }
 {
-    let mut text = Vec::new(alloc);
-    text.extend_from_slice(b"fault topology ")?;
-    let digits = number.to_string(alloc)?;
-    text.extend_from_slice(digits.as_bytes())?;
-    text.extend_from_slice(b" ")?;
-    text.extend_from_slice(fault.name().as_bytes())?;
-    as_line(text)
+    let mut desk = desk;
+    let end = serve_all(alloc, input, reader, out, number, &mut desk);
+    (end, close(desk))
 }
 
-impl Phase {
-    /// What a line does.
-    #[tactic(auto, unfolding(crate::specs::Outcome::move_of))]
-    pub(crate) fn take(self, alloc: Global, number: u64, line: &[u8]) -> Result<Move, AllocError>
-        ensures text { IfOk result (λ m. m.text.items ≡ (move_of number self line.now).text) }
-        ensures step { IfOk result (λ m. m.step ≡ (move_of number self line.now).step) }
-    {
-        match self {
-            Phase::Declaring(declaring) => declare(alloc, number, declaring, line),
-            Phase::Serving(mut service) => {
-                let text = service.serve(alloc, number, line)?;
-                go_on(alloc, text, service)
-            }
-        }
-    }
-
-    /// How the command ends where no line is left, and what is written then.
-    pub(crate) fn end(&self, alloc: Global, number: u64) -> Result<(Ending, Vec<u8>), AllocError>
-        ensures { IfOk result (λ e. (e.0, e.1.items) ≡ end_of number self.now) }
-    {
-        match self {
-            Phase::Declaring(_) => {
-                let text = topology_fault(alloc, number, TopologyFault::Word)?;
-                Ok((Ending::BadTopology, text))
-            }
-            Phase::Serving(_) => Ok((Ending::Done, Vec::new(alloc))),
-        }
-    }
-}
-
-/// The service goes on, where there aren't too many events.
-fn go_on(alloc: Global, text: Option<Vec<u8>>, service: Service) -> Result<Move, AllocError>
-    ensures text { IfOk result (λ m. m.text.items ≡ (goes_on (option_map (λ t. record { serving = service; text = t.items }) text)).text) }
-    ensures step { IfOk result (λ m. m.step ≡ (goes_on (option_map (λ t. record { serving = service; text = t.items }) text)).step) }
+/// Lets go of the service.
+fn close<J>(desk: Desk<J>) -> J
+    ensures { result ≡ desk.journal }
 {
-    match text {
-        Some(text) => Ok(Move {
-            text,
-            step: Step::More(Phase::Serving(service)),
-        }),
-        None => too_long(alloc, service),
-    }
-}
-
-/// There would be too many events.
-fn too_long(alloc: Global, service: Service) -> Result<Move, AllocError>
-    ensures text { IfOk result (λ m. m.text.items ≡ long_line) }
-    ensures step { IfOk result (λ m. m.step ≡ Step.End Ending.Long) }
-{
+    let Desk { service, journal } = desk;
     drop(service);
-    let mut text = Vec::new(alloc);
-    text.extend_from_slice(b"fault long\n")?;
-    Ok(Move {
-        text,
-        step: Step::End(Ending::Long),
-    })
+    journal
 }
 
-/// Takes a line of the topology.
-fn declare(
+/// Serves behind the entries of a journal, which is handed back.
+fn serve_journal<S: Source, K: Sink, J: Journal>(
     alloc: Global,
-    number: u64,
-    declaring: Declaring,
-    line: &[u8],
-) -> Result<Move, AllocError>
-    ensures text { IfOk result (λ m. m.text.items ≡ (declared declaring.most number (of_line declaring.topology line.now)).text) }
-    ensures step { IfOk result (λ m. m.step ≡ (declared declaring.most number (of_line declaring.topology line.now)).step) }
+    input: &mut S,
+    reader: &mut LineReader,
+    out: &mut K,
+    begun: Begun,
+    read: (J, Vec<Entry>),
+) -> (Result<Ending, Halt>, J)
+    requires opening { IsOpening begun.topology begun.provider }
+    requires few { begun.number + budget reader.old ≤ 67108865 }
+    requires ready { J.is_ready read.0 }
+    requires none { J.waits read.0 ≡ false }
+    requires printable { All IsPrintableEntry read.1.items }
+    ensures ends { (first start : Option (List ℕ)) →
+        IsBegun begun.most first start begun.number begun.topology begun.provider
+        (K.content out.old) (rest_of reader.old (S.left input.old))
+        (to_come reader.old (S.left input.old))
+        → IfOk result.0
+        (λ ending.
+        IsSameEnd (promise_of (Ok read.1.items) begun.most first start)
+        (ended ending (K.content out.new))) }
+    ensures halts { (first start : Option (List ℕ)) →
+        IsBegun begun.most first start begun.number begun.topology begun.provider
+        (K.content out.old) (rest_of reader.old (S.left input.old))
+        (to_come reader.old (S.left input.old))
+        → IfErr result.0
+        (λ halt. HaltsAt (Ok read.1.items) begun.most first start halt reader.new
+        (S.left input.new) (K.content out.new)) }
+    ensures counts { HasHaltCounts result.0 (S.faults input.old) (S.faults input.new)
+        (K.faults out.old) (K.faults out.new) }
+    ensures cause { HasHaltCause result.0 (J.meter read.0) (J.meter result.1) }
+    ensures untold { J.history read.0 ≡ None → J.history result.1 ≡ None }
 {
-    let Declaring { topology, most } = declaring;
-    match topology.take_line(line) {
-        Ok(Taken::More(topology)) => Ok(Move {
-            text: Vec::new(alloc),
-            step: Step::More(Phase::Declaring(Declaring { topology, most })),
-        }),
-        Ok(Taken::Whole(topology)) => open(alloc, number, topology, most),
-        Err(LineRefusal::Fault(fault)) => bad_topology(alloc, number, fault),
-        Err(LineRefusal::NoMemory) => Err(AllocError),
-    }
-}
-
-/// Begins to serve the first provider.
-fn open(
-    alloc: Global,
-    number: u64,
-    topology: Topology,
-    most: EventLimit,
-) -> Result<Move, AllocError>
-    ensures text { IfOk result (λ m. m.text.items ≡ (opened most number topology (first_provider topology)).text) }
-    ensures step { IfOk result (λ m. m.step ≡ (opened most number topology (first_provider topology)).step) }
-{
-    match topology.first_provider() {
-        Some(provider) => {
-            let service = Service::new(alloc, topology, provider, most)?;
-            Ok(Move {
-                text: Vec::new(alloc),
-                step: Step::More(Phase::Serving(service)),
-            })
+    let (journal, entries) = read;
+    let number = begun.number;
+    match open(alloc, out, begun, &entries) {
+        Ok(Some(service)) => {
+            let desk = Desk { service, journal };
+            serve_from(alloc, input, reader, out, number + 1, desk)
         }
-        None => bad_topology(alloc, number, TopologyFault::Empty),
+        Ok(None) => (Ok(Ending::Long), journal),
+        Err(halt) => (Err(halt), journal),
     }
 }
 
-fn bad_topology(alloc: Global, number: u64, fault: TopologyFault) -> Result<Move, AllocError>
-    ensures text { IfOk result (λ m. m.text.items ≡ topology_fault number fault) }
-    ensures step { IfOk result (λ m. m.step ≡ Step.End Ending.BadTopology) }
+/// Why a journal wasn't begun; where its bytes are none, that is written.
+fn refuse<K: Sink>(
+    alloc: Global,
+    out: &mut K,
+    begun: &Begun,
+    cause: StartCause,
+) -> Result<Ending, Halt>
+    requires opening { IsOpening begun.now.topology begun.now.provider }
+    ensures ending { IfOk result (λ e. (e ≡ Ending.NotAJournal) × IsUnread cause) }
+    ensures all { OnOk result
+        (Writes (K.content out.old) (K.content out.new)
+        (refused_text (name_of begun.now.topology begun.now.provider) cause)) }
+    ensures front { OnErr result
+        (WritesFront (K.content out.old) (K.content out.new)
+        (refused_text (name_of begun.now.topology begun.now.provider) cause)) }
+    ensures disk { IsErrOf result Halt.Disk → HasFailed cause }
+    ensures unwritten { IsErrOf result Halt.Disk → K.content out.new ≡ K.content out.old }
+    ensures faults { CountsHalts result (K.faults out.old) (K.faults out.new) }
 {
-    let text = topology_fault(alloc, number, fault)?;
-    Ok(Move {
-        text,
-        step: Step::End(Ending::BadTopology),
-    })
+    match cause {
+        StartCause::NotAJournal { place } => not_a_journal(alloc, out, begun, place),
+        StartCause::DiskFault | StartCause::Stopped => Err(Halt::Disk),
+        StartCause::NoMemory => Err(Halt::Outside(Fault::NoMemory)),
+    }
+}
+
+/// Writes that the bytes of the disk are no journal.
+fn not_a_journal<K: Sink>(
+    alloc: Global,
+    out: &mut K,
+    begun: &Begun,
+    place: u64,
+) -> Result<Ending, Halt>
+    requires opening { IsOpening begun.now.topology begun.now.provider }
+    ensures ending { IfOk result (λ e. e ≡ Ending.NotAJournal) }
+    ensures all { OnOk result
+        (Writes (K.content out.old) (K.content out.new)
+        (journal_fault (name_of begun.now.topology begun.now.provider) place)) }
+    ensures front { OnErr result
+        (WritesFront (K.content out.old) (K.content out.new)
+        (journal_fault (name_of begun.now.topology begun.now.provider) place)) }
+    ensures not_disk { IsErrOf result Halt.Disk → ⊥ }
+    ensures faults { CountsHalts result (K.faults out.old) (K.faults out.new) }
+{
+    let Ok(text) = journal_fault(alloc, begun.topology.name(begun.provider), place) else {
+        return Err(Halt::Outside(Fault::NoMemory));
+    };
+    write_text(out, &text)?;
+    Ok(Ending::NotAJournal)
+}
+
+/// Reads the journal of a disk, and serves behind it.
+fn serve_disk<S: Source, K: Sink, D: Disk>(
+    alloc: Global,
+    input: &mut S,
+    reader: &mut LineReader,
+    out: &mut K,
+    begun: Begun,
+    disk: D,
+) -> (Result<Ending, Halt>, D)
+    requires opening { IsOpening begun.topology begun.provider }
+    requires few { begun.number + budget reader.old ≤ 67108865 }
+    requires runs { (D.meter disk).stopped ≡ false }
+    ensures served { (first start : Option (List ℕ)) →
+        IsBegun begun.most first start begun.number begun.topology begun.provider
+        (K.content out.old) (rest_of reader.old (S.left input.old))
+        (to_come reader.old (S.left input.old))
+        → ServedTo (file_of (D.history disk)) begun.most first start result.0 reader.new
+        (S.left input.new) (K.content out.new) }
+    ensures counts { HasHaltCounts result.0 (S.faults input.old) (S.faults input.new)
+        (K.faults out.old) (K.faults out.new) }
+    ensures cause { HasHaltCause result.0 (D.meter disk) (D.meter result.1) }
+{
+    match DiskJournal::start(alloc, disk) {
+        Ok(read) => {
+            let (end, journal) = serve_journal(alloc, input, reader, out, begun, read);
+            (end, journal.into_disk())
+        }
+        Err(fault) => {
+            let StartFault { cause, disk } = fault;
+            (refuse(alloc, out, &begun, cause), disk)
+        }
+    }
+}
+
+/// The status of an end, or the line of a fault from outside.
+fn conclude<K: Sink>(alloc: Global, out: &mut K, name: &Name, end: Result<Ending, Halt>) -> Status
+    ensures { Concludes name.now end result (K.content out.old) (K.content out.new)
+        (K.faults out.old) (K.faults out.new) }
+{
+    match end {
+        Ok(ending) => ending.status(),
+        Err(Halt::Outside(fault)) => outside(out, fault),
+        Err(Halt::Disk) => disk_fault(alloc, out, name),
+    }
+}
+
+/// How the command ends at a fault from outside. A fault of reading is written.
+fn outside<K: Sink>(out: &mut K, fault: Fault) -> Status
+    ensures { ConcludesFault fault result (K.content out.old) (K.content out.new) (K.faults out.old)
+        (K.faults out.new) }
+{
+    match fault {
+        Fault::Read => read_fault(out),
+        Fault::Write => Status::WriteFault,
+        Fault::NoMemory => Status::NoMemory,
+    }
+}
+
+/// The name of the provider.
+fn own_name(begun: &Begun) -> Result<Name, AllocError>
+    requires { begun.now.provider < length begun.now.topology.agents }
+    ensures { IfOk result (λ name. name ≡ name_of begun.now.topology begun.now.provider) }
+{
+    begun.topology.name(begun.provider).copy()
+}
+
+/// Fetches the disk of the provider, and serves behind its journal.
+fn serve_shelf<S: Source, K: Sink, H: Shelf>(
+    alloc: Global,
+    input: &mut S,
+    reader: &mut LineReader,
+    out: &mut K,
+    begun: Begun,
+    shelf: &mut H,
+) -> Status
+    requires opening { IsOpening begun.topology begun.provider }
+    requires few { begun.number + budget reader.old ≤ 67108865 }
+    requires most { begun.most ≤ most_events }
+    ensures provided { (first start : Option (List ℕ)) →
+        IsBegun begun.most first start begun.number begun.topology begun.provider
+        (K.content out.old) (rest_of reader.old (S.left input.old))
+        (to_come reader.old (S.left input.old))
+        → HasProvided (H.holds shelf.old) begun.most first start (S.left input.new)
+        (counted (S.faults input.old) (H.faults shelf.old) (H.stops shelf.old))
+        (counted (S.faults input.new) (H.faults shelf.new) (H.stops shelf.new))
+        result (K.content out.new) }
+    ensures counts { CountsEnd
+        (counted (S.faults input.old) (H.faults shelf.old) (H.stops shelf.old))
+        (counted (S.faults input.new) (H.faults shelf.new) (H.stops shelf.new))
+        (K.faults out.old) (K.faults out.new) result }
+{
+    let Ok(name) = own_name(&begun) else {
+        return Status::NoMemory;
+    };
+    match shelf.fetch(alloc, &name, &[]) {
+        Ok(disk) => {
+            let (end, disk) = serve_disk(alloc, input, reader, out, begun, disk);
+            shelf.give_back(&name, disk);
+            conclude(alloc, out, &name, end)
+        }
+        Err(ShelfError::Failed) => disk_fault(alloc, out, &name),
+        Err(ShelfError::NoMemory) => Status::NoMemory,
+    }
+}
+
+/// The command `provide`.
+pub(crate) fn provide<S: Source, K: Sink, H: Shelf>(
+    alloc: Global,
+    most: EventLimit,
+    input: &mut S,
+    out: &mut K,
+    shelf: &mut H,
+) -> Status
+    requires { most ≤ most_events }
+    ensures provided { HasProvided (H.holds shelf.old) most (K.content out.old) (S.left input.old)
+        (S.left input.new)
+        (counted (S.faults input.old) (H.faults shelf.old) (H.stops shelf.old))
+        (counted (S.faults input.new) (H.faults shelf.new) (H.stops shelf.new))
+        result (K.content out.new) }
+    ensures counts { CountsEnd
+        (counted (S.faults input.old) (H.faults shelf.old) (H.stops shelf.old))
+        (counted (S.faults input.new) (H.faults shelf.new) (H.stops shelf.new))
+        (K.faults out.old) (K.faults out.new) result }
+{
+    let mut reader = LineReader::new(alloc, GREATEST_INPUT);
+    match declare_all(alloc, input, &mut reader, out, most) {
+        Ok(Declaration::Begun(begun)) => serve_shelf(alloc, input, &mut reader, out, begun, shelf),
+        Ok(Declaration::Ended(ending)) => ending.status(),
+        Err(fault) => outside(out, fault),
+    }
 }

@@ -13,7 +13,9 @@ pub enum Status {
     WriteFault = 3,
     Usage = 4,
     BadTopology = 5,
+    DiskFault = 7,
     Long = 8,
+    NotAJournal = 10,
 }
 
 impl Status {
@@ -25,12 +27,13 @@ impl Status {
     }
 }
 
-/// An end that the bytes of the input determine.
+/// An end that the bytes of the input and those of the journal determine.
 #[derive(Clone, Copy, Debug, PartialEq, Eq)]
 pub enum Ending {
     Done,
     BadTopology,
     Long,
+    NotAJournal,
 }
 
 impl Ending {
@@ -43,6 +46,7 @@ impl Ending {
             Ending::Done => Status::Done,
             Ending::BadTopology => Status::BadTopology,
             Ending::Long => Status::Long,
+            Ending::NotAJournal => Status::NotAJournal,
         }
     }
 }

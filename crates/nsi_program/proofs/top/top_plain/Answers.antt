@@ -2,9 +2,9 @@ use Rattle.std.proofs.Common.{◌≡◌, ℕ, List, Option, Some, map, sym, ◌�
 use Rattle.std.specs.Prelude.{string_bytes}
 use Rattle.nsi_program.specs.declared.words.Command.{Command}
 use Rattle.nsi_program.specs.Words.{command_of}
-use Rattle.nsi_program.specs.Promise.{IsComplete}
+use Rattle.nsi_program.specs.Promise.{promise_of, IsKept, IsComplete, IsSafe}
 use Rattle.nsi_program.proofs.Declared.{is_complete, is_safe, names_fault}
-use Rattle.nsi_program.proofs.Ended.{check_ended, usage_ended, provide_cut, provide_cut_short, check_cut, check_cut_short, usage_cut_short}
+use Rattle.nsi_program.proofs.Ended.{provide_ended, with_reading, check_ended, usage_ended, provide_cut, provide_broken, provide_cut_short, check_cut, check_cut_short, usage_cut_short}
 use Rattle.nsi_program.proofs.Limits.{limit_few, limit_is}
 use Rattle.nsi_program.proofs.top.top_plain.Goals as goal
 
@@ -15,53 +15,70 @@ named_by words result own command e is same = sym e ∙ (is ∙ ap (λ x. Some x
 pub provide-requires : goal.provide-requires
 provide-requires g c = let words = map string_bytes c.args.words.now in limit_few words c.in-Provide.most (named_by words c.command_of.result c.in-Some.command (Command.Provide c.in-Provide.most) c.command_of.ensures c.in-Some.is c.in-Provide.is)
 
+pub returns-in-Provide-clause-ends : goal.returns-in-Provide-clause-ends
+returns-in-Provide-clause-ends g c = λ told.
+    provide_ended _ c.in-Provide.most (g.H.Shelf.holds c.args.shelf.now) (g.K.Sink.content c.args.out.now) (g.S.Source.left c.args.input.now) (g.K.Sink.content c.provide.new.out) c.provide.result
+    (named_by (map string_bytes c.args.words.now) c.command_of.result c.in-Some.command (Command.Provide c.in-Provide.most) c.command_of.ensures c.in-Some.is c.in-Provide.is) (c.provide.ensures.provided.ends told)
+
 pub returns-in-Provide-clause-cut : goal.returns-in-Provide-clause-cut
 returns-in-Provide-clause-cut g c = λ failed.
-    let words = map string_bytes c.args.words.now in
-    provide_cut (command_of words) c.in-Provide.most (g.K.Sink.content c.args.out.now) (g.S.Source.left c.args.input.now) (g.S.Source.left c.provide.new.input) (g.K.Sink.content c.provide.new.out)
-    (named_by words c.command_of.result c.in-Some.command (Command.Provide c.in-Provide.most) c.command_of.ensures c.in-Some.is c.in-Provide.is) (c.provide.ensures.cut failed)
+    provide_cut _ c.in-Provide.most (g.H.Shelf.holds c.args.shelf.now) (g.K.Sink.content c.args.out.now) (g.S.Source.left c.args.input.now) (g.S.Source.left c.provide.new.input) (g.K.Sink.content c.provide.new.out)
+    (named_by (map string_bytes c.args.words.now) c.command_of.result c.in-Some.command (Command.Provide c.in-Provide.most) c.command_of.ensures c.in-Some.is c.in-Provide.is) (c.provide.ensures.provided.cut failed)
+
+pub returns-in-Provide-clause-broken : goal.returns-in-Provide-clause-broken
+returns-in-Provide-clause-broken g c = λ failed.
+    provide_broken _ c.in-Provide.most (g.H.Shelf.holds c.args.shelf.now) (g.K.Sink.content c.args.out.now) (g.S.Source.left c.args.input.now) (g.K.Sink.content c.provide.new.out)
+    (named_by (map string_bytes c.args.words.now) c.command_of.result c.in-Some.command (Command.Provide c.in-Provide.most) c.command_of.ensures c.in-Some.is c.in-Provide.is) (c.provide.ensures.provided.broken failed)
 
 pub returns-in-Provide-clause-unfinished : goal.returns-in-Provide-clause-unfinished
 returns-in-Provide-clause-unfinished g c = λ failed.
-    let words = map string_bytes c.args.words.now in
-    provide_cut_short (command_of words) c.in-Provide.most (g.K.Sink.content c.args.out.now) (g.S.Source.left c.args.input.now) (g.S.Source.left c.provide.new.input) (g.S.Source.faults c.args.input.now) (g.S.Source.faults c.provide.new.input)
-    (g.K.Sink.content c.provide.new.out) (named_by words c.command_of.result c.in-Some.command (Command.Provide c.in-Provide.most) c.command_of.ensures c.in-Some.is c.in-Provide.is) (c.provide.ensures.unfinished failed)
+    provide_cut_short _ c.in-Provide.most (g.H.Shelf.holds c.args.shelf.now) (g.K.Sink.content c.args.out.now) (g.S.Source.left c.args.input.now) (g.S.Source.left c.provide.new.input) _ _ (g.K.Sink.content c.provide.new.out)
+    (named_by (map string_bytes c.args.words.now) c.command_of.result c.in-Some.command (Command.Provide c.in-Provide.most) c.command_of.ensures c.in-Some.is c.in-Provide.is) (c.provide.ensures.provided.unfinished failed)
 
 pub returns-in-Provide-clause-complete : goal.returns-in-Provide-clause-complete
 returns-in-Provide-clause-complete g c = λ most named told.
     let words = map string_bytes c.args.words.now in
+    let content = g.K.Sink.content c.args.out.now in
+    let left = g.S.Source.left c.args.input.now in
     let own = named_by words c.command_of.result c.in-Some.command (Command.Provide c.in-Provide.most) c.command_of.ensures c.in-Some.is c.in-Provide.is in
-    subst (λ k. IsComplete k (g.K.Sink.content c.args.out.now) (g.S.Source.left c.args.input.now) c.provide.result) (limit_is words c.in-Provide.most most own named)
-    (is_complete c.in-Provide.most _ _ _ _ (limit_few words c.in-Provide.most own) (c.provide.ensures.ends told))
+    with_reading (g.H.Shelf.holds c.args.shelf.now) left (λ read. IsKept (promise_of read c.in-Provide.most content left) c.provide.result (g.K.Sink.content c.provide.new.out)) (λ read. IsComplete read most content left c.provide.result)
+    (λ read kept. subst (λ k. IsComplete read k content left c.provide.result) (limit_is words c.in-Provide.most most own named)
+    (is_complete read c.in-Provide.most content left (g.K.Sink.content c.provide.new.out) c.provide.result (limit_few words c.in-Provide.most own) kept))
+    (c.provide.ensures.provided.ends told)
 
 pub returns-in-Provide-clause-safe : goal.returns-in-Provide-clause-safe
 returns-in-Provide-clause-safe g c = λ most named told.
     let words = map string_bytes c.args.words.now in
+    let content = g.K.Sink.content c.args.out.now in
+    let left = g.S.Source.left c.args.input.now in
+    let new = g.K.Sink.content c.provide.new.out in
     let own = named_by words c.command_of.result c.in-Some.command (Command.Provide c.in-Provide.most) c.command_of.ensures c.in-Some.is c.in-Provide.is in
-    is_safe c.in-Provide.most _ _ _ _ (limit_few words c.in-Provide.most own) (c.provide.ensures.ends told)
+    with_reading (g.H.Shelf.holds c.args.shelf.now) left (λ read. IsKept (promise_of read c.in-Provide.most content left) c.provide.result new) (λ read. IsSafe read content left c.provide.result new)
+    (λ read kept. is_safe read c.in-Provide.most content left new c.provide.result (limit_few words c.in-Provide.most own) kept) (c.provide.ensures.provided.ends told)
 
 pub returns-in-Provide-clause-bad_topology : goal.returns-in-Provide-clause-bad_topology
-returns-in-Provide-clause-bad_topology g c = λ _ told. names_fault _ _ _ _ _ (c.provide.ensures.ends told)
+returns-in-Provide-clause-bad_topology g c = λ _ told. let w = c.provide.ensures.provided.ends told in names_fault w.0 c.in-Provide.most _ _ _ _ w.2
 
 pub returns-in-Check-clause-ends : goal.returns-in-Check-clause-ends
 returns-in-Check-clause-ends g c = λ told.
-    check_ended _ (g.K.Sink.content c.args.out.now) (g.S.Source.left c.args.input.now) (g.K.Sink.content c.check.new.out) c.check.result (named_by (map string_bytes c.args.words.now) c.command_of.result c.in-Some.command Command.Check c.command_of.ensures c.in-Some.is c.in-Check.is) (c.check.ensures.ends told)
+    check_ended _ (g.H.Shelf.holds c.args.shelf.now) (g.K.Sink.content c.args.out.now) (g.S.Source.left c.args.input.now) (g.K.Sink.content c.check.new.out) c.check.result
+    (named_by (map string_bytes c.args.words.now) c.command_of.result c.in-Some.command Command.Check c.command_of.ensures c.in-Some.is c.in-Check.is) (c.check.ensures.ends told)
 
 pub returns-in_default-clause-ends : goal.returns-in_default-clause-ends
 returns-in_default-clause-ends g c = λ told.
-    usage_ended _ (g.K.Sink.content c.args.out.now) (g.S.Source.left c.args.input.now) (g.K.Sink.content c.usage.new.out) c.usage.result (sym c.command_of.ensures ∙ c.in_default.is) (c.usage.ensures.told told)
+    usage_ended _ (g.H.Shelf.holds c.args.shelf.now) (g.K.Sink.content c.args.out.now) (g.S.Source.left c.args.input.now) (g.K.Sink.content c.usage.new.out) c.usage.result (sym c.command_of.ensures ∙ c.in_default.is) (c.usage.ensures.told told)
 
 pub returns-in-Check-clause-cut : goal.returns-in-Check-clause-cut
 returns-in-Check-clause-cut g c = λ failed.
-    check_cut _ (g.K.Sink.content c.args.out.now) (g.S.Source.left c.args.input.now) (g.S.Source.left c.check.new.input) (g.K.Sink.content c.check.new.out)
+    check_cut _ (g.H.Shelf.holds c.args.shelf.now) (g.K.Sink.content c.args.out.now) (g.S.Source.left c.args.input.now) (g.S.Source.left c.check.new.input) (g.K.Sink.content c.check.new.out)
     (named_by (map string_bytes c.args.words.now) c.command_of.result c.in-Some.command Command.Check c.command_of.ensures c.in-Some.is c.in-Check.is) (c.check.ensures.alone failed)
 
 pub returns-in-Check-clause-unfinished : goal.returns-in-Check-clause-unfinished
 returns-in-Check-clause-unfinished g c = λ failed.
-    check_cut_short _ (g.K.Sink.content c.args.out.now) (g.S.Source.left c.args.input.now) (g.S.Source.left c.check.new.input) (g.S.Source.faults c.args.input.now) (g.S.Source.faults c.check.new.input) (g.K.Sink.content c.check.new.out)
+    check_cut_short _ (g.H.Shelf.holds c.args.shelf.now) (g.K.Sink.content c.args.out.now) (g.S.Source.left c.args.input.now) (g.S.Source.left c.check.new.input) _ _ (g.K.Sink.content c.check.new.out)
     (named_by (map string_bytes c.args.words.now) c.command_of.result c.in-Some.command Command.Check c.command_of.ensures c.in-Some.is c.in-Check.is) (c.check.ensures.unfinished failed)
 
 pub returns-in_default-clause-unfinished : goal.returns-in_default-clause-unfinished
 returns-in_default-clause-unfinished g c = λ failed.
-    usage_cut_short _ (g.K.Sink.content c.args.out.now) (g.S.Source.left c.args.input.now) (g.S.Source.left c.args.input.now) (g.S.Source.faults c.args.input.now) (g.K.Sink.content c.usage.new.out) c.usage.result
+    usage_cut_short _ (g.H.Shelf.holds c.args.shelf.now) (g.K.Sink.content c.args.out.now) (g.S.Source.left c.args.input.now) (g.S.Source.left c.args.input.now) _ (g.K.Sink.content c.usage.new.out) c.usage.result
     (sym c.command_of.ensures ∙ c.in_default.is) c.usage.ensures.front failed

@@ -6,5 +6,8 @@ use Rattle.nsi_program.proofs.service.Service.take.Goals as goal
 pub returns-then-taken-most : goal.returns-then-taken-most
 returns-then-taken-most c =
     let v = c.self.view_is in
-    too_many c.args.self.now c.args.entry.now
-    (omega (arith, c.if-taken-most.true, c.taken.ensures, c.get-most.ensures.value, ap (λ (s : Serving). s.standing.state.taken) v, ap (λ (s : Serving). s.syncs) v, ap (λ (s : Serving). s.most) v))
+    record {
+      entered = too_many c.args.self.now c.args.entry.now
+          (omega (arith, c.if-taken-most.true, c.taken.ensures, c.get-most.ensures.value, ap (λ (s : Serving). s.standing.state.taken) v, ap (λ (s : Serving). s.others) v, ap (λ (s : Serving). s.most) v));
+      printable = tt;
+    }

@@ -1,0 +1,54 @@
+-- The entries of a batch, and those of a journal that are taken again.
+use Rattle.std.proofs.Common.{◌≡◌, ◌<◌, ◌+◌, ◌∙◌, ℕ, zero, suc, drop, get_or, length, List, [], ◌∷◌, ◌++◌, Option, Some, None, arith, sym, ap, append_assoc, append-nil}
+use Rattle.nsi_primitive.specs.declared.entry.Entry.{Entry}
+use Rattle.nsi_primitive.specs.declared.entry.Input.{Input}
+use Rattle.nsi_primitive.specs.declared.state.Machine.{Machine}
+use Rattle.provider_agent.specs.Setting.{Setting}
+use Rattle.provider_agent.specs.State.{State, Standing}
+use Rattle.provider_agent.specs.Steps.{after, waiting_work}
+use Rattle.provider_agent.specs.Runs.{after_all}
+use Rattle.provider_agent.specs.Good.{works_among, IsGood}
+use Rattle.provider_run.specs.Works.{now_at, all_works}
+use Rattle.provider_run.proofs.Idle.{works_first}
+use Rattle.provider_run.proofs.Working.{works_none, first_state}
+
+-- where nothing waits, the entries are whole
+pub entries_done : (setting : Setting) (stp_of : List ℕ → Option ℕ) (now : State) (entries whole : List Entry) → waiting_work now ≡ None → entries ++ all_works setting stp_of now ≡ whole → entries ≡ whole
+entries_done setting stp_of now entries whole e all =
+    sym (ap (λ (es : List Entry). entries ++ es) (works_none (works_among now.records) setting stp_of now e) ∙ append-nil entries) ∙ all
+
+-- one work more
+pub entries_more : (setting : Setting) (points : ℕ → List ℕ → Option ℕ) (old : Standing) (now : State) (entries new whole : List Entry) (n : ℕ) (machine : Machine) → old.setting ≡ setting → IsGood setting old.state → old.state.taken < 4194304
+    → waiting_work old.state ≡ Some (n, machine) → now ≡ (after old.setting (points old.setting.number) old.state (now_at old.state (Input.Work n machine))).state → new ≡ entries ++ now_at old.state (Input.Work n machine) ∷ []
+    → entries ++ all_works setting (points setting.number) old.state ≡ whole → new ++ all_works setting (points setting.number) now ≡ whole
+entries_more setting points old now entries new whole n machine at_home good few found state_is new_is all =
+    let stp_of : List ℕ → Option ℕ = points setting.number in
+    let work : Entry = now_at old.state (Input.Work n machine) in
+    let next : State = (after setting stp_of old.state work).state in
+    let here : now ≡ next = state_is ∙ ap (λ (h : Setting). (after h (points h.number) old.state work).state) at_home in
+    ap (λ (es : List Entry). es ++ all_works setting stp_of now) new_is
+    ∙ (append_assoc entries (work ∷ []) (all_works setting stp_of now)
+    ∙ (ap (λ s. entries ++ work ∷ all_works setting stp_of s) here
+    ∙ (ap (λ (es : List Entry). entries ++ es) (sym (works_first setting stp_of old.state n machine good few found)) ∙ all)))
+
+---- The entries of a journal, one after another
+
+pub drop_is : (xs : List Entry) (i : ℕ) (e : Entry) → i < length xs → e ≡ get_or xs i e → drop i xs ≡ e ∷ drop (i + 1) xs
+drop_is [] i e lt is = absurd (omega (arith, lt))
+drop_is (x ∷ xs) zero e lt is = ap (λ (y : Entry). y ∷ xs) (sym is)
+drop_is (x ∷ xs) (suc i) e lt is =
+    let next : suc i + 1 ≡ suc (i + 1) = omega arith in
+    drop_is xs i e (omega (arith, lt)) is ∙ ap (λ k. e ∷ drop k (x ∷ xs)) (sym next)
+
+-- one more
+pub replayed_more : (setting : Setting) (points : ℕ → List ℕ → Option ℕ) (old new : Standing) (e : Entry) (es rest : List Entry) (whole : State) → old.setting ≡ setting
+    → new ≡ record old { state = (after old.setting (points old.setting.number) old.state e).state } → es ≡ e ∷ rest → (after_all setting (points setting.number) old.state es).state ≡ whole → (after_all setting (points setting.number) new.state rest).state ≡ whole
+replayed_more setting points old new e es rest whole at_home is cut all =
+    let stp_of : List ℕ → Option ℕ = points setting.number in
+    let here : new.state ≡ (after setting stp_of old.state e).state = ap (λ (x : Standing). x.state) is ∙ ap (λ (h : Setting). (after h (points h.number) old.state e).state) at_home in
+    ap (λ s. (after_all setting stp_of s rest).state) here ∙ (sym (first_state setting stp_of old.state e rest) ∙ (sym (ap (λ (xs : List Entry). (after_all setting stp_of old.state xs).state) cut) ∙ all))
+
+-- none is left
+pub none_left : (setting : Setting) (stp_of : List ℕ → Option ℕ) (s : State) (es : List Entry) (whole : State) → es ≡ [] → (after_all setting stp_of s es).state ≡ whole → s ≡ whole
+unfolding after_all
+none_left setting stp_of s es whole e all = sym (ap (λ (xs : List Entry). (after_all setting stp_of s xs).state) e) ∙ all
