@@ -85,7 +85,7 @@ nothing_front (Some c) new text e = (0, e ∙ nothing_stops_some c)
 
 ---- The topology that is served is the one that the lines begin with
 
-abbrev begins_if : Bool → ℕ → Network → ℕ → List Entry → Move
+abbrev pub begins_if : Bool → ℕ → Network → ℕ → List Entry → Move
 begins_if b most t p es = cond b (record { text = []; step = goes_to (in_service (serving_of t p es most)) }) (record { text = long_line; step = ends_as Ending.Long })
 
 -- a service never goes back to a topology
@@ -108,7 +108,7 @@ service_stays read number s (line ∷ lines) t most text g = by_served (serve s 
         same h = cc
 
 -- lines that go on within a topology declare it, and the line behind them makes it whole
-reads_through : (read : Reading) (number before : ℕ) (t next whole : Network) (most : ℕ) (lines : List (List ℕ)) (text line : List ℕ) (rest : List (List ℕ)) → GoesOn read number (declaring t most) lines (declaring next most) text
+pub reads_through : (read : Reading) (number before : ℕ) (t next whole : Network) (most : ℕ) (lines : List (List ℕ)) (text line : List ℕ) (rest : List (List ℕ)) → GoesOn read number (declaring t most) lines (declaring next most) text
     → of_line next line ≡ Ok (Taken.Whole whole) → (n : ℕ) × (read_lines t before (lines ++ line ∷ rest) ≡ Ok (whole, n))
 unfolding move_of read_lines
 reads_through read number before t next whole most [] text line rest g is =
@@ -180,7 +180,7 @@ abbrev faulty : ℕ × TopologyFault → Read
 faulty e = Err e
 
 -- lines begin with one topology at most
-same_topology : (lines : List (List ℕ)) (t u : Network) (p q : ℕ) → Serves lines t p → Serves lines u q → (t ≡ u) × (p ≡ q)
+pub same_topology : (lines : List (List ℕ)) (t u : Network) (p q : ℕ) → Serves lines t p → Serves lines u q → (t ≡ u) × (p ≡ q)
 same_topology lines t u p q s r =
     let e = same (t, s.0) (u, r.0) (sym s.1 ∙ r.1) in
     let network : t ≡ u = ap (λ (x : Network × ℕ). x.0) e in

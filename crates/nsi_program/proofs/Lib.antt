@@ -14,4 +14,6 @@ pub mod Batches
 pub mod Started
 pub mod Stepping
 pub mod TopologyLines
+pub mod Kept
+pub mod Backing
 mod CheckRows

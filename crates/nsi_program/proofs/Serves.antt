@@ -161,7 +161,7 @@ module _ (s : Serving) (e : Entry) (well : IsServingWell s) (timely : IsTimelyEn
   few_taken : s.standing.state.taken ≤ 2000000
   few_taken = omega (arith, well.few, well.most)
 
-  text_with : IsTextOf s.standing.setting (points_at s) s.standing.state (with_works s.standing.setting (points_at s) s.standing.state e) (lines_of_messages (run_with s e).out)
+  pub text_with : IsTextOf s.standing.setting (points_at s) s.standing.state (with_works s.standing.setting (points_at s) s.standing.state e) (lines_of_messages (run_with s e).out)
   text_with = entry_text s.standing.setting (points_at s) s.standing.state e well.good few_taken timely
 
   -- each entry counts
@@ -169,7 +169,7 @@ module _ (s : Serving) (e : Entry) (well : IsServingWell s) (timely : IsTimelyEn
   taken_with = taken_all s.standing.setting (points_at s) s.standing.state (with_works s.standing.setting (points_at s) s.standing.state e) text_with.run
 
   -- where the events suffice, it goes on as well
-  well_with : leb ((run_with s e).state.taken + s.others + 1) s.most ≡ true → IsServingWell (go_with s e)
+  pub well_with : leb ((run_with s e).state.taken + s.others + 1) s.most ≡ true → IsServingWell (go_with s e)
   well_with fits = record {
     few = fits_few ((run_with s e).state.taken) s.others s.most fits;
     most = well.most;

@@ -17,3 +17,5 @@ pub mod Check
 pub mod Writes
 pub mod Ends
 pub mod Provided
+pub mod Backed
+pub mod Keeping

@@ -1,11 +1,15 @@
 //! The command `provide`: a topology, the journal of its first provider, and then one line after another.
 
-ghost use Rattle.std.specs.Prelude.{◌≡◌, ◌<◌, ◌≤◌, ◌+◌, ℕ, List, Option, None, Ok, false, All, IfOk, IfErr, OnOk, OnErr, IsErrOf, length};
+ghost use Rattle.std.specs.Prelude.{◌≡◌, ◌<◌, ◌≤◌, ◌+◌, ℕ, List, Option, Some, Ok, false, is_some, All, IfOk, IfErr, OnOk, OnErr, IsErrOf, length};
 ghost use Rattle.line_reader.specs.Held.{budget, to_come, rest_of};
 ghost use Rattle.nsi_primitive.specs.Printable.{IsPrintableEntry};
 ghost use Rattle.nsi_program.specs.Declares.{IsOpening};
 ghost use Rattle.nsi_program.specs.Ends.{counted};
 ghost use Rattle.nsi_program.specs.Halts.{HasHaltCause, HasHaltCounts, CountsHalts, opened_step};
+ghost use Rattle.nsi_program.specs.Backed.{BacksProvider, Backs};
+ghost use Rattle.nsi_program.specs.Keeping.{KeepsLines, KeepsStated, LeavesBacked, LeavesTold, ends_whole};
+ghost use Rattle.provider_agent.specs.Setting.{setting_of, own_stp};
+ghost use Rattle.nsi_disk.specs.Disk.{Fresh};
 ghost use Rattle.nsi_program.specs.Lines.{long_line};
 ghost use Rattle.nsi_program.specs.Outcome.{begins_behind, journal_fault};
 ghost use Rattle.nsi_program.specs.Phases.{Reading, in_service};
@@ -108,7 +112,9 @@ fn serve_from<S: Source, K: Sink, J: Journal>(
     ensures counts { HasHaltCounts result.0 (S.faults input.old) (S.faults input.new)
         (K.faults out.old) (K.faults out.new) }
     ensures cause { HasHaltCause result.0 (J.meter desk.journal) (J.meter result.1) }
-    ensures untold { J.history desk.journal ≡ None → J.history result.1 ≡ None }
+    ensures kept { KeepsLines J.reading desk.service (J.kept desk.journal) (K.content out.old)
+        result.0 (J.history result.1) (K.content out.new) }
+    ensures tells { is_some (J.history result.1) ≡ is_some (J.history desk.journal) }
 {
     let mut desk = desk;
     let end = serve_all(alloc, input, reader, out, number, &mut desk);
@@ -138,6 +144,8 @@ fn serve_journal<S: Source, K: Sink, J: Journal>(
     requires ready { J.is_ready read.0 }
     requires none { J.waits read.0 ≡ false }
     requires printable { All IsPrintableEntry read.1.items }
+    requires most { begun.most ≤ most_events }
+    requires stated { KeepsStated read.1.items (J.history read.0) (J.kept read.0) }
     ensures ends { (first start : Option (List ℕ)) →
         IsBegun begun.most first start begun.number begun.topology begun.provider
         (K.content out.old) (rest_of reader.old (S.left input.old))
@@ -156,7 +164,10 @@ fn serve_journal<S: Source, K: Sink, J: Journal>(
     ensures counts { HasHaltCounts result.0 (S.faults input.old) (S.faults input.new)
         (K.faults out.old) (K.faults out.new) }
     ensures cause { HasHaltCause result.0 (J.meter read.0) (J.meter result.1) }
-    ensures untold { J.history read.0 ≡ None → J.history result.1 ≡ None }
+    ensures left { LeavesTold (ends_whole result.0) (setting_of begun.topology begun.provider)
+        (own_stp begun.topology begun.provider) J.reading read.1.items (J.history result.1)
+        (K.content out.old) (K.content out.new) }
+    ensures tells { is_some (J.history result.1) ≡ is_some (J.history read.0) }
 {
     let (journal, entries) = read;
     let number = begun.number;
@@ -233,6 +244,7 @@ fn serve_disk<S: Source, K: Sink, D: Disk>(
     requires opening { IsOpening begun.topology begun.provider }
     requires few { begun.number + budget reader.old ≤ 67108865 }
     requires runs { (D.meter disk).stopped ≡ false }
+    requires most { begun.most ≤ most_events }
     ensures served { (first start : Option (List ℕ)) →
         IsBegun begun.most first start begun.number begun.topology begun.provider
         (K.content out.old) (rest_of reader.old (S.left input.old))
@@ -242,6 +254,9 @@ fn serve_disk<S: Source, K: Sink, D: Disk>(
     ensures counts { HasHaltCounts result.0 (S.faults input.old) (S.faults input.new)
         (K.faults out.old) (K.faults out.new) }
     ensures cause { HasHaltCause result.0 (D.meter disk) (D.meter result.1) }
+    ensures left { (file : List ℕ) → D.history disk ≡ Some (Fresh file) →
+        LeavesBacked (ends_whole result.0) file begun.topology begun.provider (D.history result.1)
+        (K.content out.old) (K.content out.new) }
 {
     match DiskJournal::start(alloc, disk) {
         Ok(read) => {
@@ -311,6 +326,8 @@ fn serve_shelf<S: Source, K: Sink, H: Shelf>(
         (counted (S.faults input.old) (H.faults shelf.old) (H.stops shelf.old))
         (counted (S.faults input.new) (H.faults shelf.new) (H.stops shelf.new))
         (K.faults out.old) (K.faults out.new) result }
+    ensures backed { BacksProvider (H.holds shelf.old) (H.holds shelf.new) begun.topology
+        begun.provider (K.content out.old) (K.content out.new) }
 {
     let Ok(name) = own_name(&begun) else {
         return Status::NoMemory;
@@ -344,6 +361,8 @@ pub(crate) fn provide<S: Source, K: Sink, H: Shelf>(
         (counted (S.faults input.old) (H.faults shelf.old) (H.stops shelf.old))
         (counted (S.faults input.new) (H.faults shelf.new) (H.stops shelf.new))
         (K.faults out.old) (K.faults out.new) result }
+    ensures backed { Backs (H.holds shelf.old) (H.holds shelf.new) (K.content out.old)
+        (S.left input.old) (K.content out.new) }
 {
     let mut reader = LineReader::new(alloc, GREATEST_INPUT);
     match declare_all(alloc, input, &mut reader, out, most) {

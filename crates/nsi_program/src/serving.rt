@@ -1,8 +1,9 @@
 //! The lines behind a topology are served, each behind the sync of its entries.
 
-ghost use Rattle.std.specs.Prelude.{◌≡◌, ◌≤◌, ◌<◌, ◌⊎◌, ◌+◌, ℕ, List, Option, None, Some, false, All, IfOk, IfErr, IfSome, OnOk, OnErr, IsErrOf};
+ghost use Rattle.std.specs.Prelude.{◌≡◌, ◌≤◌, ◌<◌, ◌+◌, ℕ, List, Option, None, Some, false, All, IfOk, IfErr, OnOk, OnErr, IsErrOf, is_some};
 ghost use Rattle.nsi_primitive.specs.Printable.{IsPrintableEntry};
 ghost use Rattle.journal_entry.specs.Journal.{Adds, MayLeaveWith};
+ghost use Rattle.nsi_program.specs.Keeping.{KeepsAnswer, KeepsLine, KeepsLines, is_whole};
 ghost use Rattle.nsi_program.specs.Lines.{serve, long_line};
 ghost use Rattle.nsi_program.specs.Outcome.{goes_on};
 ghost use Rattle.line_reader.specs.Held.{budget, to_come, rest_of};
@@ -40,7 +41,7 @@ fn keep_all<J: Journal>(alloc: Global, journal: &mut J, entries: &[Entry]) -> Re
     ensures left { MayLeaveWith J.reading entries.now (J.kept journal.old) (J.history journal.new) }
     ensures cause { HasHaltCause result (J.meter journal.old) (J.meter journal.new) }
     ensures halts { IfErr result IsKeepHalt }
-    ensures untold { J.history journal.old ≡ None → J.history journal.new ≡ None }
+    ensures tells { is_some (J.history journal.new) ≡ is_some (J.history journal.old) }
 {
     let count = entries.len();
     if count == 0 {
@@ -72,18 +73,59 @@ fn tell<K: Sink, J: Journal>(
     ensures ready { OnOk result (J.is_ready journal.new) }
     ensures none { OnOk result (J.waits journal.new ≡ false) }
     ensures cause { HasHaltCause result (J.meter journal.old) (J.meter journal.new) }
-    ensures untold { J.history journal.old ≡ None → J.history journal.new ≡ None }
+    ensures kept { KeepsAnswer J.reading answer result (J.kept journal.old) (J.kept journal.new)
+        (J.history journal.new) (K.content out.old) (K.content out.new) }
+    ensures tells { is_some (J.history journal.new) ≡ is_some (J.history journal.old) }
 {
     match answer {
-        Some(answer) => {
-            keep_all(alloc, journal, &answer.entries)?;
-            write_text(out, &answer.text)?;
-            Ok(None)
-        }
-        None => {
-            write_text(out, b"fault long\n")?;
-            Ok(Some(Ending::Long))
-        }
+        Some(answer) => tell_answer(alloc, out, journal, &answer),
+        None => long(out),
+    }
+}
+
+/// Keeps the entries of an answer, and then writes its text.
+fn tell_answer<K: Sink, J: Journal>(
+    alloc: Global,
+    out: &mut K,
+    journal: &mut J,
+    answer: &Answer,
+) -> Result<Option<Ending>, Halt>
+    requires ready { J.is_ready journal.old }
+    requires none { J.waits journal.old ≡ false }
+    requires printable { All IsPrintableEntry answer.now.entries.items }
+    ensures ending { IfOk result (λ ending. ending ≡ None) }
+    ensures all { OnOk result
+        (Writes (K.content out.old) (K.content out.new) answer.now.text.items) }
+    ensures front { OnErr result
+        (WritesFront (K.content out.old) (K.content out.new) answer.now.text.items) }
+    ensures faults { CountsHalts result (K.faults out.old) (K.faults out.new) }
+    ensures unwritten { IsErrOf result Halt.Disk → K.content out.new ≡ K.content out.old }
+    ensures ready { OnOk result (J.is_ready journal.new) }
+    ensures none { OnOk result (J.waits journal.new ≡ false) }
+    ensures cause { HasHaltCause result (J.meter journal.old) (J.meter journal.new) }
+    ensures kept { KeepsAnswer J.reading (Some answer.now) result (J.kept journal.old)
+        (J.kept journal.new) (J.history journal.new) (K.content out.old) (K.content out.new) }
+    ensures tells { is_some (J.history journal.new) ≡ is_some (J.history journal.old) }
+{
+    match keep_all(alloc, journal, &answer.entries) {
+        Ok(()) => say(out, &answer.text),
+        Err(halt) => Err(halt),
+    }
+}
+
+/// Writes an answer.
+fn say<K: Sink>(out: &mut K, text: &[u8]) -> Result<Option<Ending>, Halt>
+    ensures ending { IfOk result (λ ending. ending ≡ None) }
+    ensures all { OnOk result (Writes (K.content out.old) (K.content out.new) text.now) }
+    ensures front { OnErr result (WritesFront (K.content out.old) (K.content out.new) text.now) }
+    ensures faults { CountsHalts result (K.faults out.old) (K.faults out.new) }
+    ensures not_disk { IsErrOf result Halt.Disk → ⊥ }
+    ensures cut { IfErr result (λ halt. is_whole halt ≡ false) }
+{
+    match write_text(out, text) {
+        Ok(()) => Ok(None),
+        Err(Fault::Write) => Err(Halt::Outside(Fault::Write)),
+        Err(_) => Err(Halt::Outside(Fault::NoMemory)),
     }
 }
 
@@ -111,7 +153,10 @@ fn serve_line<K: Sink, J: Journal>(
     ensures ready { OnOk result (J.is_ready desk.new.journal) }
     ensures none { OnOk result (J.waits desk.new.journal ≡ false) }
     ensures cause { HasHaltCause result (J.meter desk.old.journal) (J.meter desk.new.journal) }
-    ensures untold { J.history desk.old.journal ≡ None → J.history desk.new.journal ≡ None }
+    ensures kept { KeepsLine J.reading desk.old.service (J.kept desk.old.journal)
+        (K.content out.old) result desk.new.service (J.kept desk.new.journal)
+        (J.history desk.new.journal) (K.content out.new) }
+    ensures tells { is_some (J.history desk.new.journal) ≡ is_some (J.history desk.old.journal) }
 {
     let Ok(answer) = desk.service.serve(alloc, number, line) else {
         return Err(Halt::Outside(Fault::NoMemory));
@@ -152,7 +197,10 @@ fn serve_next<S: Source, K: Sink, J: Journal>(
     ensures ready { OnOk result (J.is_ready desk.new.journal) }
     ensures none { OnOk result (J.waits desk.new.journal ≡ false) }
     ensures cause { HasHaltCause result (J.meter desk.old.journal) (J.meter desk.new.journal) }
-    ensures untold { J.history desk.old.journal ≡ None → J.history desk.new.journal ≡ None }
+    ensures kept { KeepsLine J.reading desk.old.service (J.kept desk.old.journal)
+        (K.content out.old) result desk.new.service (J.kept desk.new.journal)
+        (J.history desk.new.journal) (K.content out.new) }
+    ensures tells { is_some (J.history desk.new.journal) ≡ is_some (J.history desk.old.journal) }
 {
     match reader.next(alloc, input) {
         Err(ReadError::Failed) => Err(Halt::Outside(Fault::Read)),
@@ -169,10 +217,14 @@ fn long<K: Sink>(out: &mut K) -> Result<Option<Ending>, Halt>
     ensures all { OnOk result (Writes (K.content out.old) (K.content out.new) long_line) }
     ensures front { OnErr result (WritesFront (K.content out.old) (K.content out.new) long_line) }
     ensures not_disk { IsErrOf result Halt.Disk → ⊥ }
+    ensures cut { IfErr result (λ halt. is_whole halt ≡ false) }
     ensures faults { CountsHalts result (K.faults out.old) (K.faults out.new) }
 {
-    write_text(out, b"fault long\n")?;
-    Ok(Some(Ending::Long))
+    match write_text(out, b"fault long\n") {
+        Ok(()) => Ok(Some(Ending::Long)),
+        Err(Fault::Write) => Err(Halt::Outside(Fault::Write)),
+        Err(_) => Err(Halt::Outside(Fault::NoMemory)),
+    }
 }
 
 /// Serves all lines from a number on.
@@ -201,7 +253,9 @@ pub(crate) fn serve_all<S: Source, K: Sink, J: Journal>(
     ensures counts { HasHaltCounts result (S.faults input.old) (S.faults input.new)
         (K.faults out.old) (K.faults out.new) }
     ensures cause { HasHaltCause result (J.meter desk.old.journal) (J.meter desk.new.journal) }
-    ensures untold { J.history desk.old.journal ≡ None → J.history desk.new.journal ≡ None }
+    ensures kept { KeepsLines J.reading desk.old.service (J.kept desk.old.journal)
+        (K.content out.old) result (J.history desk.new.journal) (K.content out.new) }
+    ensures tells { is_some (J.history desk.new.journal) ≡ is_some (J.history desk.old.journal) }
 {
     let mut number = number;
     'lines: loop {

@@ -2,6 +2,7 @@
 
 ghost use Rattle.std.specs.Prelude.{◌≡◌, ℕ, ◌<◌, ◌↔◌, ◌⊎◌, IsSome, codes, map, string_bytes, true, false, None, Some};
 ghost use Rattle.nsi_disk.specs.ShelfCounts.{Raised};
+ghost use Rattle.nsi_program.specs.Backed.{Backs};
 ghost use Rattle.nsi_program.specs.Lines.{as_line};
 ghost use Rattle.nsi_program.specs.Promise.{is_told, read_fault_line, Writes, WritesFront, IsComplete, IsSafe, NamesFault};
 ghost use Rattle.nsi_program.specs.Words.{command_of};
@@ -71,6 +72,11 @@ pub fn top_plain<S: Source, K: Sink, H: Shelf>(
     ensures broken { result ≡ Status.DiskFault →
         IsBroken (command_of (map string_bytes words.now)) (H.holds shelf.old) (K.content out.old)
         (S.left input.old) (K.content out.new) }
+
+    // With every status, each whole line of a message is caused by entries that the disk given back recovers to.
+    ensures backed { (most : ℕ) → command_of (map string_bytes words.now) ≡ Some (ProvideValue most)
+        → Backs (H.holds shelf.old) (H.holds shelf.new) (K.content out.old) (S.left input.old)
+        (K.content out.new) }
 
     // No fault is swallowed, and none is told as want of memory; but a failed read is, or a failed disk, where there is no memory for its line.
     ensures quiet_in { is_told result ≡ true → S.faults input.new ≡ S.faults input.old }

@@ -1,5 +1,9 @@
-use Rattle.std.proofs.Common.{◌≡◌, Err, refl}
+use Rattle.std.proofs.Common.{◌≡◌, Err, refl, ap}
+use Rattle.nsi_program.specs.Backed.IsLast.{last_disk}
+use Rattle.nsi_program.specs.Outcome.{disk_fault_line}
 use Rattle.nsi_program.specs.declared.output.Halt.{Halt}
+use Rattle.nsi_program.specs.declared.status.Status.{Status}
+use Rattle.nsi_program.proofs.Backing.{shelf_backed, unshelved, unshelved_silent, line_front}
 use Rattle.nsi_program.proofs.Provided.{served_along, provided_by, shelf_provided, memory_provided, counts_end, disk_raises, none_raised, shelf_raises, at_ok}
 use Rattle.nsi_program.proofs.Started.{counts_none}
 use Rattle.nsi_program.proofs.provide.serve_shelf.Goals as goal
@@ -45,3 +49,25 @@ pub returns-clause-provided : goal.returns-clause-provided
 returns-clause-provided g c = λ first start b.
     memory_provided (g.H.Shelf.holds c.args.shelf.now) c.args.begun.most c.requires.most first start c.args.begun.number c.args.begun.topology c.args.begun.provider _ _ _ b c.args.reader.now (g.S.Source.left c.args.input.now) (g.K.Sink.content c.args.out.now)
     (g.K.Sink.content c.args.out.now) _ _ _ refl refl refl refl
+
+pub returns-in_default-clause-backed : goal.returns-in_default-clause-backed
+returns-in_default-clause-backed g c =
+    unshelved_silent (g.H.Shelf.holds c.args.shelf.now) (g.H.Shelf.holds c.args.shelf.now) c.args.begun.topology c.args.begun.provider (g.K.Sink.content c.args.out.now) (g.K.Sink.content c.args.out.now) (λ n. refl) refl
+
+pub returns-in-Ok-fetch-clause-backed : goal.returns-in-Ok-fetch-clause-backed
+returns-in-Ok-fetch-clause-backed g c =
+    shelf_backed (g.H.Shelf.holds c.args.shelf.now) (g.H.Shelf.holds c.fetch.new.self) (g.H.Shelf.holds c.give_back.new.self) c.args.begun.topology c.args.begun.provider c.in-Ok.name (g.H.Disk.Disk.history c.in-Ok-fetch.disk)
+    (g.H.Disk.Disk.history c.serve_disk-end.result.1) (g.H.Disk.Disk.meter c.serve_disk-end.result.1).stopped c.serve_disk-end.result.0 c.conclude.result (g.K.Sink.content c.serve_disk-end.new.out) (g.K.Sink.content c.conclude.new.out)
+    (g.K.Sink.faults c.serve_disk-end.new.out) (g.K.Sink.faults c.conclude.new.out) (g.K.Sink.content c.args.out.now) c.in-Ok.ensures c.in-Ok-fetch.ensures.content c.serve_disk-end.ensures.left c.give_back.ensures.held c.conclude.ensures
+
+pub returns-in-Err-Failed-clause-backed : goal.returns-in-Err-Failed-clause-backed
+returns-in-Err-Failed-clause-backed g c =
+    let content = g.K.Sink.content c.args.out.now in
+    let new = g.K.Sink.content c.disk_fault.new.out in
+    unshelved (g.H.Shelf.holds c.args.shelf.now) (g.H.Shelf.holds c.fetch.new.self) c.args.begun.topology c.args.begun.provider content new (disk_fault_line c.in-Ok.name) c.fetch.ensures.same (last_disk (ap disk_fault_line c.in-Ok.ensures))
+    (line_front (disk_fault_line c.in-Ok.name) Status.DiskFault c.disk_fault.result content new (g.K.Sink.faults c.args.out.now) (g.K.Sink.faults c.disk_fault.new.out) refl refl
+    (record { kind = c.disk_fault.ensures.kind; told = c.disk_fault.ensures.told; front = c.disk_fault.ensures.front; write = c.disk_fault.ensures.write; quiet = c.disk_fault.ensures.quiet; memory = c.disk_fault.ensures.memory }))
+
+pub returns-clause-backed : goal.returns-clause-backed
+returns-clause-backed g c =
+    unshelved_silent (g.H.Shelf.holds c.args.shelf.now) (g.H.Shelf.holds c.fetch.new.self) c.args.begun.topology c.args.begun.provider (g.K.Sink.content c.args.out.now) (g.K.Sink.content c.args.out.now) c.fetch.ensures.same refl

@@ -14,5 +14,12 @@ lines-preserved g c = record {
   none = c.in-Ok-None.ensures.none;
   faults = c.in-Ok-None.ensures.cause.quiet ∙ c.lines.invariant.faults;
   stops = c.in-Ok-None.ensures.cause.calm ∙ c.lines.invariant.stops;
-  untold = λ h. c.serve_next.ensures.untold (c.lines.invariant.untold h);
+  kept = λ setting stp_of stated first k. (rw c.in-Ok-None.field-0-is at c.in-Ok-None.ensures.kept) setting stp_of stated first (c.lines.invariant.kept setting stp_of stated first k);
+  tells = c.serve_next.ensures.tells ∙ c.lines.invariant.tells;
 }
+
+pub returns-in-Ok-Some-clause-kept : goal.returns-in-Ok-Some-clause-kept
+returns-in-Ok-Some-clause-kept g c = λ setting stp_of stated first k. (rw c.in-Ok-Some.field-0-is at c.in-Ok-Some.ensures.kept) setting stp_of stated first (c.lines.invariant.kept setting stp_of stated first k)
+
+pub returns-in-Err-clause-kept : goal.returns-in-Err-clause-kept
+returns-in-Err-clause-kept g c = λ setting stp_of stated first k. c.in-Err.ensures.kept setting stp_of stated first (c.lines.invariant.kept setting stp_of stated first k)

@@ -1,5 +1,8 @@
-use Rattle.std.proofs.Common.{◌≡◌, ◌≤◌, ◌+◌, ℕ, false, List, Option, None}
+use Rattle.std.proofs.Common.{◌≡◌, ◌≤◌, ◌+◌, ℕ, false, List, Option, is_some}
 use Rattle.line_reader.specs.Held.{budget, rest_of, to_come}
+use Rattle.nsi_primitive.specs.declared.entry.Entry.{Entry}
+use Rattle.provider_agent.specs.Setting.{Setting}
+use Rattle.nsi_program.specs.Keeping.{KeepsAt}
 use Rattle.nsi_program.specs.Phases.{Reading, in_service}
 use Rattle.nsi_program.specs.Promise.{promised, IsSameEnd}
 use Rattle.nsi_program.specs.UpTo.{IsUpToIf}
@@ -25,5 +28,7 @@ invariant-lines g l = record {
   none : g.J.Journal.waits l.desk.journal ≡ false;
   faults : (g.J.Journal.meter l.desk.journal).faults ≡ (g.J.Journal.meter l.fn.desk.journal).faults;
   stops : (g.J.Journal.meter l.desk.journal).stops ≡ (g.J.Journal.meter l.fn.desk.journal).stops;
-  untold : g.J.Journal.history l.fn.desk.journal ≡ None → g.J.Journal.history l.desk.journal ≡ None;
+  kept : (setting : Setting) (stp_of : List ℕ → Option ℕ) (stated : List Entry) (first : Option (List ℕ)) → KeepsAt setting stp_of stated l.fn.desk.service (g.J.Journal.kept l.fn.desk.journal) first (g.K.Sink.content l.fn.out)
+      → KeepsAt setting stp_of stated l.desk.service (g.J.Journal.kept l.desk.journal) first (g.K.Sink.content l.out);
+  tells : is_some (g.J.Journal.history l.desk.journal) ≡ is_some (g.J.Journal.history l.fn.desk.journal);
 }

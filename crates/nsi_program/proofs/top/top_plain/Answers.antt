@@ -82,3 +82,6 @@ pub returns-in_default-clause-unfinished : goal.returns-in_default-clause-unfini
 returns-in_default-clause-unfinished g c = λ failed.
     usage_cut_short _ (g.H.Shelf.holds c.args.shelf.now) (g.K.Sink.content c.args.out.now) (g.S.Source.left c.args.input.now) (g.S.Source.left c.args.input.now) _ (g.K.Sink.content c.usage.new.out) c.usage.result
     (sym c.command_of.ensures ∙ c.in_default.is) c.usage.ensures.front failed
+
+pub returns-in-Provide-clause-backed : goal.returns-in-Provide-clause-backed
+returns-in-Provide-clause-backed g c = λ most named. c.provide.ensures.backed
