@@ -1,0 +1,44 @@
+-- All that the ends of a link do, one call after another.
+use Rattle.std.specs.Prelude.{Bool, true, false, List, [], ◌∷◌, ◌++◌, option_to_list}
+use Rattle.nsi_primitive.specs.declared.message.Parcel.{Parcel}
+use Rattle.agent_link.specs.Link.{Ends, pushed, is_full, next_of, taken, met}
+
+-- all that was put, what both ends know, and what was given or let go of
+pub record Line : Type 0 where
+  pub put : List Parcel
+  pub ends : Ends
+  pub gone : List Parcel
+
+-- a call at one of the ends, or a meeting
+pub data Step : Type 0 where
+  Push : Parcel → Step
+  Take : Step
+  Clear : Step
+  Meet : Step
+
+abbrev pub unused : Line
+unused = record { put = []; ends = record { out = []; known = [] }; gone = [] }
+
+-- a parcel is put where the link isn't full
+abbrev pub pushed_if : (is_full : Bool) → Parcel → Line → Line
+pushed_if true p l = l
+pushed_if false p l = record l { put = l.put ++ p ∷ []; ends = record l.ends { out = pushed p l.ends.out } }
+
+-- the ends meet where all that was known is gone
+abbrev pub met_if : (known : List Parcel) → Line → Line
+met_if [] l = record l { ends = met l.ends }
+met_if (p ∷ ps) l = l
+
+abbrev pub after : Step → Line → Line
+after (Push p) l = pushed_if (is_full l.ends.out) p l
+after Take l =
+    record l {
+      ends = record l.ends { known = taken l.ends.known };
+      gone = l.gone ++ option_to_list (next_of l.ends.known);
+    }
+after Clear l = record l { ends = record l.ends { known = [] }; gone = l.gone ++ l.ends.known }
+after Meet l = met_if l.ends.known l
+
+abbrev pub after_all : List Step → Line → Line
+after_all [] l = l
+after_all (x ∷ xs) l = after_all xs (after x l)

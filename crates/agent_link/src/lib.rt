@@ -1,0 +1,9 @@
+//! Links: what one agent sends to another is known there after a meeting.
+#![tactic(auto)]
+
+pub mod ends;
+pub mod laws;
+pub mod plan;
+
+pub use ends::{Incoming, Outgoing, PushFault, Pushed, link, meet};
+pub use plan::{How, LinkFault, ParcelKind};

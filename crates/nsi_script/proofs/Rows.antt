@@ -1,0 +1,164 @@
+-- Scripts and what they say, computed by the definitions.
+use Rattle.std.proofs.Common.{◌≡◌, [], ◌∷◌, None, Some, Ok, Err, true, false, refl, codes}
+use Rattle.nsi_base.specs.Lines.{lines_to}
+use Rattle.nsi_base.specs.Digits.{value_from, number_of}
+use Rattle.nsi_base.specs.Words.{words_of}
+use Rattle.nsi_primitive.specs.Kinds.{kind_name, kind_named, kind_number, first_named}
+use Rattle.agent_link.specs.declared.plan.How.TheVariants.{Lose}
+use Rattle.agent_link.specs.declared.plan.ParcelKind.TheVariants.{Message}
+use Rattle.nsi_disk.specs.declared.plan.Image.TheVariants.{Old}
+use Rattle.nsi_primitive.specs.declared.kind.Kind.TheVariants.{Reserve}
+use Rattle.nsi_primitive.specs.declared.ask.Ask.{Ask}
+use Rattle.nsi_primitive.specs.declared.ask.What.{What}
+use Rattle.stp_topology.specs.declared.network.Network.{Network}
+use Rattle.stp_topology.specs.declared.network.AgentKind.TheVariants.{Provider, Aggregator, Requester}
+use Rattle.ask_text.specs.Reading.{labelled_in, summary_in, numbers_in, version_in, reserve_in, plain_named, by_verb as ask_by_verb}
+use Rattle.nsi_script.specs.declared.fault.ScriptFault.TheVariants.{Word, Unbuilt, Agent, Time, Label}
+use Rattle.nsi_script.specs.declared.script.Act.{Act}
+use Rattle.nsi_script.specs.declared.script.Script.{Script}
+use Rattle.nsi_script.specs.Load.{stepped, after, drawn_request}
+use Rattle.nsi_script.specs.Scripts.{nothing}
+use Rattle.nsi_script.specs.Lines.{known_agent, add_at, put_act, put_ask, ask_of, add_force, add_restart, add_plan, add_stop, by_verb, is_linked}
+use Rattle.nsi_script.specs.Text.{of_line, read_lines, script_of}
+
+-- a provider and its requester
+abbrev pair : Network
+pair = record {
+  agents = codes "p1" ∷ codes "r1" ∷ [];
+  kinds = Provider 60 ∷ Requester 0 ∷ [];
+  stps = codes "A" ∷ codes "B" ∷ [];
+  owners = 0 ∷ 0 ∷ [];
+  capacities = 1000 ∷ 1000 ∷ [];
+  partners = None ∷ None ∷ [];
+  children = [];
+}
+
+abbrev reserve_ask : Ask
+reserve_ask = record {
+  label = Some (codes "c1");
+  what = What.Reserve (record { source = codes "A"; dest = codes "B"; capacity = 600; start = 100; end = 200; version = None });
+}
+
+abbrev commit_ask : Ask
+commit_ask = record { label = Some (codes "c1"); what = What.Commit }
+
+-- comments and empty lines are skipped, words may be parted by tabs, and a carriage return belongs to a line's end
+whole : script_of pair 6 (codes "# first\r\n\r\nat 000\r\nask\tr1 reserve c1 A B 0600 100 200\r\nask r1 commit c1\nat 0\nforce p1 4194303")
+    ≡ Ok (record nothing {
+      groups =
+          record { at = 0; acts = Act.Ask 1 reserve_ask ∷ (Act.Ask 1 commit_ask ∷ []) }
+          ∷ (record { at = 0; acts = Act.Force 0 4194303 ∷ [] } ∷ []);
+    })
+unfolding lines_to value_from number_of words_of kind_name kind_named first_named labelled_in summary_in numbers_in version_in reserve_in plain_named ask_by_verb known_agent add_at put_act put_ask ask_of add_force add_restart add_plan add_stop by_verb of_line read_lines
+whole = refl
+
+-- a script that says nothing, and one whose seconds fall
+small :
+    (script_of pair 6 [] ≡ Ok nothing)
+    × (script_of pair 6 (codes "at 5\nat 4\n") ≡ Err (7, Time))
+unfolding lines_to value_from number_of words_of kind_name kind_named first_named labelled_in summary_in numbers_in version_in reserve_in plain_named ask_by_verb known_agent add_at put_act put_ask ask_of add_force add_restart add_plan add_stop by_verb of_line read_lines
+small = (refl, refl)
+
+-- lines without a form, numbers out of range, and plans in the wrong place
+words :
+    (script_of pair 6 (codes " ") ≡ Err (6, Word))
+    × (script_of pair 6 (codes "at") ≡ Err (6, Word))
+    × (script_of pair 6 (codes "at  5") ≡ Err (6, Word))
+    × (script_of pair 6 (codes "at 5 ") ≡ Err (6, Word))
+    × (script_of pair 6 (codes "AT 5") ≡ Err (6, Word))
+    × (script_of pair 6 (codes "at 253370764800") ≡ Err (6, Word))
+    × (script_of pair 6 (codes "ask") ≡ Err (6, Word))
+    × (script_of pair 6 (codes "ask r1") ≡ Err (6, Word))
+    × (script_of pair 6 (codes "ask r1 commit") ≡ Err (6, Word))
+    × (script_of pair 6 (codes "ask r1 reserve c1 A A 1 0 1") ≡ Err (6, Word))
+    × (script_of pair 6 (codes "force p1 4194304") ≡ Err (6, Word))
+    × (script_of pair 6 (codes "restart") ≡ Err (6, Word))
+    × (script_of pair 6 (codes "lose r1 p1 reserve 0") ≡ Err (6, Word))
+    × (script_of pair 6 (codes "lose r1 p1 none 1") ≡ Err (6, Word))
+    × (script_of pair 6 (codes "repeat r1 p1 ack 18446744073709551616") ≡ Err (6, Word))
+    × (script_of pair 6 (codes "stop p1 0 old") ≡ Err (6, Word))
+    × (script_of pair 6 (codes "stop p1 1 worn") ≡ Err (6, Word))
+    × (script_of pair 6 (codes "at 0\nlose r1 p1 reserve 1") ≡ Err (7, Word))
+    × (script_of pair 6 (codes "at 0\nstop p1 1 old") ≡ Err (7, Word))
+unfolding lines_to value_from number_of words_of kind_name kind_named first_named labelled_in summary_in numbers_in version_in reserve_in plain_named ask_by_verb known_agent add_at put_act put_ask ask_of add_force add_restart add_plan add_stop by_verb of_line read_lines
+words = (refl, refl, refl, refl, refl, refl, refl, refl, refl, refl, refl, refl, refl, refl, refl, refl, refl, refl, refl)
+
+-- lines that aren't served, whatever comes behind that
+unbuilt :
+    (script_of pair 6 (codes "lose r1 p1 reserve 1") ≡ Err (6, Unbuilt))
+    × (script_of pair 6 (codes "repeat r9 p9 ack 1") ≡ Err (6, Unbuilt))
+    × (script_of pair 6 (codes "stop p9 1 torn") ≡ Err (6, Unbuilt))
+    × (script_of pair 6 (codes "restart p9") ≡ Err (6, Unbuilt))
+    × (script_of pair 6 (codes "ask r9 summary") ≡ Err (6, Unbuilt))
+    × (script_of pair 6 (codes "ask r1 summary c1") ≡ Err (6, Unbuilt))
+    × (script_of pair 6 (codes "ask r1 notifications c1") ≡ Err (6, Unbuilt))
+    × (script_of pair 6 (codes "ask r1 results c1 1 2") ≡ Err (6, Unbuilt))
+    × (script_of pair 6 (codes "ask r1 recursive c1") ≡ Err (6, Unbuilt))
+    × (script_of pair 6 (codes "ask r1 results c1 1") ≡ Err (6, Word))
+unfolding lines_to value_from number_of words_of kind_name kind_named first_named labelled_in summary_in numbers_in version_in reserve_in plain_named ask_by_verb known_agent add_at put_act put_ask ask_of add_force add_restart add_plan add_stop by_verb of_line read_lines
+unbuilt = (refl, refl, refl, refl, refl, refl, refl, refl, refl, refl)
+
+-- the agent first, then the time, then the label
+agents_and_times :
+    (script_of pair 6 (codes "ask p1 commit c1") ≡ Err (6, Agent))
+    × (script_of pair 6 (codes "ask r9 commit c1") ≡ Err (6, Agent))
+    × (script_of pair 6 (codes "force r1 0") ≡ Err (6, Agent))
+    × (script_of pair 6 (codes "force p9 0") ≡ Err (6, Agent))
+    × (script_of pair 6 (codes "ask r1 commit c1") ≡ Err (6, Time))
+    × (script_of pair 6 (codes "force p1 0") ≡ Err (6, Time))
+    × (script_of pair 6 (codes "at 0\n# more\nask r1 commit c1") ≡ Err (8, Label))
+    × (script_of pair 6 (codes "at 0\nask r1 reserve c1 A B 1 0 1\nask r1 commit c2") ≡ Err (8, Label))
+unfolding lines_to value_from number_of words_of kind_name kind_named first_named labelled_in summary_in numbers_in version_in reserve_in plain_named ask_by_verb known_agent add_at put_act put_ask ask_of add_force add_restart add_plan add_stop by_verb of_line read_lines
+agents_and_times = (refl, refl, refl, refl, refl, refl, refl, refl)
+
+-- an aggregator with its requester and its child
+abbrev tree : Network
+tree = record {
+  agents = codes "p1" ∷ codes "a1" ∷ codes "r1" ∷ codes "r2" ∷ [];
+  kinds = Provider 60 ∷ Aggregator ∷ Requester 1 ∷ Requester 0 ∷ [];
+  stps = [];
+  owners = [];
+  capacities = [];
+  partners = [];
+  children = (1, 0) ∷ [];
+}
+
+-- a label is the requester's own
+labels :
+    (script_of tree 9 (codes "at 0\nask r1 reserve c A B 1 0 1\nask r2 commit c") ≡ Err (11, Label))
+    × (script_of tree 9 (codes "at 0\nask r2 reserve c A B 1 0 1\nat 1\nask r2 abort c\nask r1 abort c") ≡ Err (13, Label))
+unfolding lines_to value_from number_of words_of kind_name kind_named first_named labelled_in summary_in numbers_in version_in reserve_in plain_named ask_by_verb known_agent add_at put_act put_ask ask_of add_force add_restart add_plan add_stop by_verb of_line read_lines
+labels = (refl, refl)
+
+-- who has a link
+links :
+    (is_linked tree 2 1 ≡ true) × (is_linked tree 1 2 ≡ true) × (is_linked tree 1 0 ≡ true) × (is_linked tree 0 1 ≡ true)
+    × (is_linked tree 3 0 ≡ true) × (is_linked tree 2 0 ≡ false) × (is_linked tree 3 1 ≡ false) × (is_linked tree 0 0 ≡ false)
+links = (refl, refl, refl, refl, refl, refl, refl, refl)
+
+-- the first push of a reserve from r2 to p1, and the third call of p1's disk
+abbrev planned : Script
+planned = record {
+  lose = record { from = 3; to = 0; fault = record { of = Message Reserve; nth = 1; how = Lose } } ∷ [];
+  stops = record { agent = 0; stop = record { call = 3; image = Old } } ∷ [];
+  groups = [];
+}
+
+-- a line may not plan what an earlier one plans
+repeated :
+    (of_line tree planned (codes "repeat r2 p1 reserve 1") ≡ Err Word)
+    × (of_line tree planned (codes "repeat r2 p1 reserve 2") ≡ Err Unbuilt)
+    × (of_line tree planned (codes "repeat p1 r2 reserve 1") ≡ Err Unbuilt)
+    × (of_line tree planned (codes "repeat r2 p1 ack 1") ≡ Err Unbuilt)
+    × (of_line tree planned (codes "stop p1 3 new") ≡ Err Word)
+    × (of_line tree planned (codes "stop p1 4 new") ≡ Err Unbuilt)
+    × (of_line tree planned (codes "stop a1 3 new") ≡ Err Unbuilt)
+unfolding lines_to value_from number_of words_of kind_name kind_named first_named labelled_in summary_in numbers_in version_in reserve_in plain_named ask_by_verb known_agent add_at put_act put_ask ask_of add_force add_restart add_plan add_stop by_verb of_line read_lines kind_number
+repeated = (refl, refl, refl, refl, refl, refl, refl)
+
+-- the first pair of the load of number 0
+first_pair :
+    (after 5 0 ≡ 7076646890315895283)
+    × (drawn_request 0 ≡ record { source = 3; dest = 0; capacity = 438; start = 1000360; end = 1000420 })
+unfolding stepped
+first_pair = (refl, refl)

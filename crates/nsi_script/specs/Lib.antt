@@ -1,0 +1,11 @@
+pub mod Faults
+pub mod Words
+pub mod Scripts
+pub mod Plans
+pub mod PlanKeys
+pub mod Lines
+pub mod Labels
+pub mod Fits
+pub mod Text
+pub mod Drafts
+pub mod Load
