@@ -14,6 +14,7 @@ use Rattle.aggregator_agent.specs.Setting.{Setting, IsRoute, setting_of}
 use Rattle.aggregator_agent.specs.Steps.{may_take, step, after}
 use Rattle.aggregator_agent.specs.Good.{IsGood}
 use Rattle.aggregator_agent.specs.Step.{Answer, IsCounted, IsTakenBy}
+use Rattle.aggregator_agent.specs.Entering.{IsStepBySome}
 use Rattle.aggregator_agent.specs.Laws.{EntriesKeepGood, CausedIsPrintable}
 use Rattle.aggregator_agent.proofs.Entries.{after_is}
 
@@ -49,6 +50,18 @@ pub out_taken : (t : Network) (old new : Core) (r : Answer) (e : Entry) → may_
     → (route : ℕ → ℕ → List Leg) → IsRoute t old.agent.number route → IfOk r (λ out. out.items ≡ (after (setting_of t old.agent route) (state_at old) e).out)
 out_taken t old new (Ok v) e may k route h = counted_out (setting_of t old.agent route) (state_at old) (state_at new) v.items e may (k.by route h)
 out_taken t old new (Err x) e may k route h = tt
+
+-- by some route it is so in any case
+pub some_taken : (t : Network) (old new : Core) (r : Answer) (e : Entry) → may_take (state_at old) e ≡ true → IsTakenBy t old new r (λ setting s. step e.input e.second setting s)
+    → IfOk r (λ out. IsStepBySome t (standing_at old) (standing_at new) out.items e)
+some_taken t old new (Ok v) e may k =
+    let setting = setting_of t old.agent k.some.0 in
+    record {
+      route = k.some.0;
+      state = ap (λ a. record { agent = a; state = state_at new }) k.agent ∙ ap (λ s. record { agent = old.agent; state = s }) (counted_state setting (state_at old) (state_at new) v.items e may k.some.1);
+      said = counted_out setting (state_at old) (state_at new) v.items e may k.some.1;
+    }
+some_taken t old new (Err x) e may k = tt
 
 pub err_taken : (t : Network) (old new : Core) (r : Answer) (makes : Setting → AgentState → AgentStepped) → IsTakenBy t old new r makes → OnErr r (standing_at new ≡ standing_at old)
 err_taken t old new (Ok v) makes k = tt

@@ -4,6 +4,7 @@ pub mod Settling
 pub mod Turns
 pub mod Clock
 pub mod Steps
+pub mod Entering
 pub mod Connections
 pub mod Bonds
 pub mod Undo

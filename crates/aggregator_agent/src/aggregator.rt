@@ -12,6 +12,7 @@ ghost use Rattle.agent_state.specs.State.{blank_agent};
 ghost use Rattle.agent_state.specs.Entries.{retry_of};
 ghost use Rattle.aggregator_agent.specs.Setting.{agent_in, setting_of, IsRoute};
 ghost use Rattle.aggregator_agent.specs.Steps.{after, may_take};
+ghost use Rattle.aggregator_agent.specs.Entering.{IsStepBySome};
 ghost use Rattle.aggregator_agent.specs.Bonds.{bonds, records_of, children_of};
 ghost use Rattle.aggregator_agent.specs.Good.{IsGood};
 
@@ -80,6 +81,10 @@ impl Aggregator {
         ensures answer { (route : ℕ → ℕ → Sequence LegValue) →
             let setting = setting_of topology.now self.old.agent route in
             (after setting self.old.state entry.now).answer ≡ None }
+
+        // By some legs it is so in any case.
+        ensures some { IfOk result
+            (λ out. IsStepBySome topology.now self.old self.new out.items entry.now) }
         ensures err { OnErr result (self.new ≡ self.old) }
         ensures printable { IfOk result (λ out. All IsPrintable out.items) }
     {

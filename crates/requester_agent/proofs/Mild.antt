@@ -55,7 +55,7 @@ moved-apart x y p e = rw (p.source, p.dest) e
 
 ---- The view that is found
 
-found-there : (label : List ℕ) (vs : List View) (found : ℕ × View) → find_view label vs ≡ Some found → slice_get vs found.0 ≡ Some found.1
+pub found-there : (label : List ℕ) (vs : List View) (found : ℕ × View) → find_view label vs ≡ Some found → slice_get vs found.0 ≡ Some found.1
 unfolding find_view
 found-there label vs found = by-place (position (λ v. bytes_eq label v.label) vs)
   where

@@ -3,7 +3,7 @@ use Rattle.aggregator_agent.specs.Core.{state_at}
 use Rattle.aggregator_agent.specs.Good.{IsGood}
 use Rattle.aggregator_agent.specs.Setting.{Standing, setting_of}
 use Rattle.aggregator_agent.specs.Steps.{may_take}
-use Rattle.aggregator_agent.proofs.Steady.{good_taken, prints_taken, state_taken, out_taken, err_taken}
+use Rattle.aggregator_agent.proofs.Steady.{good_taken, prints_taken, state_taken, out_taken, some_taken, err_taken}
 use Rattle.aggregator_agent.proofs.aggregator.Aggregator.next.Goals as goal
 
 pub invariant_of-self : goal.invariant_of-self
@@ -33,6 +33,13 @@ returns-clause-out c =
     let e = c.args.entry.now in
     let may : may_take (state_at d) e ≡ true = ap (λ (x : Standing). may_take x.state e) c.self.view_is ∙ c.requires.may_take in
     rw (← c.self.view_is) (out_taken c.args.topology.now d c.take.new.self c.take.result e may c.take.ensures)
+
+pub returns-clause-some : goal.returns-clause-some
+returns-clause-some c =
+    let d = c.self.inside.core in
+    let e = c.args.entry.now in
+    let may : may_take (state_at d) e ≡ true = ap (λ (x : Standing). may_take x.state e) c.self.view_is ∙ c.requires.may_take in
+    rw (← c.self.view_is) (some_taken c.args.topology.now d c.take.new.self c.take.result e may c.take.ensures)
 
 pub returns-clause-answer : goal.returns-clause-answer
 returns-clause-answer c route =

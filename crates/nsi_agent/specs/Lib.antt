@@ -1,0 +1,6 @@
+pub mod Homes
+pub mod Steps
+pub mod Kinds
+pub mod Standing
+pub mod Told
+pub mod Laws

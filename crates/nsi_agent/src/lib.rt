@@ -1,0 +1,13 @@
+//! An agent of a topology, of whichever kind.
+#![tactic(auto)]
+
+pub mod agent;
+pub mod kind;
+pub mod laws;
+mod waiting;
+
+pub use agent::Agent;
+pub use kind::Kind;
+
+#[cfg(test)]
+mod tests;
