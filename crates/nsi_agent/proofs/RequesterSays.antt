@@ -1,10 +1,8 @@
 -- What a requester says is a request in its own name to its provider, under the next id.
-use Rattle.std.proofs.Common.{◌≡◌, ◌+◌, inr, ◌∙◌, ℕ, Bool, true, false, List, [], ◌∷◌, length, map, slice_get, position, Option, Some, None, refl, sym, ap, subst, arith}
-use Rattle.std.specs.Option.{option_map, option_and_then}
+use Rattle.std.proofs.Common.{◌≡◌, ◌+◌, inr, ◌∙◌, ℕ, Bool, true, false, List, [], ◌∷◌, length, map, slice_get, Option, Some, None, refl, sym, ap, subst, arith}
 use Rattle.std.specs.List.{All}
-use Rattle.std.specs.Str.{bytes_eq}
 use Rattle.std.proofs.lemmas.List.Elements.{All-nil, All-cons, All-append, All-head, All-tail, All-set, All-get_or}
-use Rattle.std.proofs.lemmas.Option.{none-some, slice_get_within, get_or_from_slice_get}
+use Rattle.std.proofs.lemmas.Option.{slice_get_within, get_or_from_slice_get}
 use Rattle.nsi_primitive.specs.Ids.{id_of}
 use Rattle.nsi_primitive.specs.Messages.{is_request}
 use Rattle.nsi_primitive.specs.declared.ask.ReserveAsk.{ReserveAsk}
@@ -25,7 +23,7 @@ use Rattle.aggregator_agent.specs.Laws.{AreDrawn}
 use Rattle.requester_agent.proofs.Mild.{found-there}
 use Rattle.requester_agent.specs.Setting.{Setting}
 use Rattle.requester_agent.specs.Views.{Asked, asks_if_free, asks_if_known, asks_about, asks_reserve, reserve_of}
-use Rattle.requester_agent.specs.Steps.{find_view, view_at, next_id, answers, refuses, asks_at, asks_new, asks_found, reserves, asked_of, asked, view_hears, hears_if, acked, ticks, step}
+use Rattle.requester_agent.specs.Steps.{find_view, next_id, answers, refuses, asks_at, asks_new, asks_found, reserves, asked_of, asked, view_hears, hears_if, acked, ticks, step}
 
 -- the laws of views that it rests on
 pub record AreLaws : Type 0 where

@@ -2,7 +2,7 @@
 use Rattle.std.proofs.Common.{◌≡◌, ◌≤◌, ◌<◌, ◌+◌, ◌↔◌, ℕ, Bool, true, false, nat_lt, List, [], ◌∷◌, Option, Some, None, arith, refl, length, option_map}
 use Rattle.std.proofs.lemmas.Bool.Decides.{nat_tests}
 use Rattle.std.proofs.lemmas.Option.{none-some}
-use Rattle.std.proofs.lemmas.List.Sums.{sum_by-cons, get_or-le-sum_by, passes_at_first}
+use Rattle.std.proofs.lemmas.List.Sums.{sum_by-cons, passes_at_first}
 use Rattle.std.specs.List.{position_or_len}
 use Rattle.nsi_primitive.specs.declared.state.Machine.{Machine}
 use Rattle.connection_record.specs.declared.record.Record.{Record}

@@ -100,33 +100,75 @@ fn are_sent(messages: &[Message], sent: &[(Kind, u16, u32)]) -> Result<bool, Fai
     Ok(true)
 }
 
-/// Whether all that was caused waits.
+fn let_go(agent: Agent<'_>) {
+    drop(agent);
+}
+
+fn waits_for(agent: &Agent<'_>, message: &Message) -> Result<bool, AllocError> {
+    let identity = message.identity()?;
+    Ok(agent.waits(&identity))
+}
+
+/// Whether just these messages wait.
 fn wait(agent: &Agent<'_>, messages: &[Message]) -> Result<bool, AllocError> {
     for message in messages {
-        let identity = message.identity()?;
-        if !agent.waits(&identity) {
+        if !waits_for(agent, message)? {
             return Ok(false);
         }
     }
     Ok(agent.waiting().count() == messages.len())
 }
 
-fn is_as(agent: &Agent<'_>, caused: Caused, row: &Row) -> Result<bool, Fail> {
-    let (answer, out) = caused;
-    let is_answered = matches!(answer, Some(AskAnswer::Sent)) == row.1;
-    let are_sent = are_sent(&out, row.2)?;
-    let wait = wait(agent, &out)?;
+/// Whether the agent stands as the row says, once it has caused these messages.
+fn is_as(agent: &Agent<'_>, out: &[Message], row: &Row) -> Result<bool, Fail> {
+    let are_sent = are_sent(out, row.2)?;
+    let wait = wait(agent, out)?;
     let has_work = matches!(agent.first_work(), Some((_, Machine::Reserve)));
-    Ok(is_answered && are_sent && wait && has_work == row.3 && agent.taken() == 1)
+    Ok(are_sent && wait && has_work == row.3 && agent.taken() == 1)
+}
+
+fn does_with(
+    alloc: Global,
+    topology: &Topology,
+    number: AgentNo,
+    agent: &mut Agent<'_>,
+    row: &Row,
+) -> Result<bool, Fail>
+    requires within { number < length topology.now.agents }
+    requires blank { agent.old
+        ≡ record { network = topology.now; number = number; state = blank_agent } }
+{
+    let (answer, out) = first(alloc, topology, number, agent)?;
+    let is_answered = matches!(answer, Some(AskAnswer::Sent)) == row.1;
+    let is_as = is_as(agent, &out, row)?;
+    Ok(is_answered && is_as)
+}
+
+fn does_from(
+    alloc: Global,
+    topology: &Topology,
+    number: AgentNo,
+    agent: Agent<'_>,
+    row: &Row,
+) -> Result<bool, Fail>
+    requires within { number < length topology.now.agents }
+    requires blank { agent
+        ≡ record { network = topology.now; number = number; state = blank_agent } }
+{
+    let mut agent = agent;
+    let does = does_with(alloc, topology, number, &mut agent, row);
+    let_go(agent);
+    does
 }
 
 fn does(alloc: Global, topology: &Topology, row: &Row) -> Result<bool, Fail> {
-    let Some(number) = topology.agent_of(row.0.as_bytes()) else {
-        return Ok(false);
-    };
-    let mut agent = Agent::new(alloc, topology, number)?;
-    let caused = first(alloc, topology, number, &mut agent)?;
-    is_as(&agent, caused, row)
+    match topology.agent_of(row.0.as_bytes()) {
+        Some(number) => {
+            let agent = Agent::new(alloc, topology, number)?;
+            does_from(alloc, topology, number, agent, row)
+        }
+        None => Ok(false),
+    }
 }
 
 /// Whether a row is right, from an agent of the topology that has taken nothing yet.
@@ -137,21 +179,70 @@ fn is_right(alloc: Global, row: &Row) -> Result<bool, Fail> {
     }
 }
 
-/// A reserve is new to an agent that has taken nothing, and isn't new to one that has taken it.
-fn is_taken_once(alloc: Global, topology: &Topology) -> Result<bool, Fail> {
-    let Some(number) = topology.agent_of(b"p1") else {
-        return Ok(false);
-    };
-    let mut agent = Agent::new(alloc, topology, number)?;
-    let again = reserve(alloc, "a1", 1, "p1")?;
-    let is_new = agent.is_new(&again);
-    let _caused = first(alloc, topology, number, &mut agent)?;
-    Ok(is_new && !agent.is_new(&again))
+fn is_new_to(alloc: Global, agent: &Agent<'_>) -> Result<bool, Fail> {
+    let message = reserve(alloc, "a1", 1, "p1")?;
+    Ok(agent.is_new(&message))
+}
+
+fn pass(
+    alloc: Global,
+    topology: &Topology,
+    number: AgentNo,
+    agent: &mut Agent<'_>,
+) -> Result<(), Fail>
+    requires within { number < length topology.now.agents }
+    requires blank { agent.old
+        ≡ record { network = topology.now; number = number; state = blank_agent } }
+{
+    let _caused = first(alloc, topology, number, agent)?;
+    Ok(())
+}
+
+/// A reserve is new to p1 before it has taken it, and not then.
+fn is_taken_once(
+    alloc: Global,
+    topology: &Topology,
+    number: AgentNo,
+    agent: &mut Agent<'_>,
+) -> Result<bool, Fail>
+    requires within { number < length topology.now.agents }
+    requires blank { agent.old
+        ≡ record { network = topology.now; number = number; state = blank_agent } }
+{
+    let is_new = is_new_to(alloc, agent)?;
+    pass(alloc, topology, number, agent)?;
+    Ok(is_new && !is_new_to(alloc, agent)?)
+}
+
+fn takes_from(
+    alloc: Global,
+    topology: &Topology,
+    number: AgentNo,
+    agent: Agent<'_>,
+) -> Result<bool, Fail>
+    requires within { number < length topology.now.agents }
+    requires blank { agent
+        ≡ record { network = topology.now; number = number; state = blank_agent } }
+{
+    let mut agent = agent;
+    let is_taken_once = is_taken_once(alloc, topology, number, &mut agent);
+    let_go(agent);
+    is_taken_once
+}
+
+fn takes_once(alloc: Global, topology: &Topology) -> Result<bool, Fail> {
+    match topology.agent_of(b"p1") {
+        Some(number) => {
+            let agent = Agent::new(alloc, topology, number)?;
+            takes_from(alloc, topology, number, agent)
+        }
+        None => Ok(false),
+    }
 }
 
 fn is_known(alloc: Global) -> Result<bool, Fail> {
     match read(alloc) {
-        Some(topology) => is_taken_once(alloc, &topology),
+        Some(topology) => takes_once(alloc, &topology),
         None => Ok(false),
     }
 }

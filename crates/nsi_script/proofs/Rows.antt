@@ -12,6 +12,7 @@ use Rattle.nsi_primitive.specs.declared.ask.Ask.{Ask}
 use Rattle.nsi_primitive.specs.declared.ask.What.{What}
 use Rattle.stp_topology.specs.declared.network.Network.{Network}
 use Rattle.stp_topology.specs.declared.network.AgentKind.TheVariants.{Provider, Aggregator, Requester}
+use Rattle.stp_topology.specs.Network.{nothing as no_network}
 use Rattle.ask_text.specs.Reading.{labelled_in, summary_in, numbers_in, version_in, reserve_in, plain_named, by_verb as ask_by_verb}
 use Rattle.nsi_script.specs.declared.fault.ScriptFault.TheVariants.{Word, Unbuilt, Agent, Time, Label}
 use Rattle.nsi_script.specs.declared.script.Act.{Act}
@@ -23,15 +24,7 @@ use Rattle.nsi_script.specs.Text.{of_line, read_lines, script_of}
 
 -- a provider and its requester
 abbrev pair : Network
-pair = record {
-  agents = codes "p1" ∷ codes "r1" ∷ [];
-  kinds = Provider 60 ∷ Requester 0 ∷ [];
-  stps = codes "A" ∷ codes "B" ∷ [];
-  owners = 0 ∷ 0 ∷ [];
-  capacities = 1000 ∷ 1000 ∷ [];
-  partners = None ∷ None ∷ [];
-  children = [];
-}
+pair = record no_network { agents = codes "p1" ∷ codes "r1" ∷ []; kinds = Provider 60 ∷ Requester 0 ∷ [] }
 
 abbrev reserve_ask : Ask
 reserve_ask = record {
@@ -113,13 +106,9 @@ agents_and_times = (refl, refl, refl, refl, refl, refl, refl, refl)
 
 -- an aggregator with its requester and its child
 abbrev tree : Network
-tree = record {
+tree = record no_network {
   agents = codes "p1" ∷ codes "a1" ∷ codes "r1" ∷ codes "r2" ∷ [];
   kinds = Provider 60 ∷ Aggregator ∷ Requester 1 ∷ Requester 0 ∷ [];
-  stps = [];
-  owners = [];
-  capacities = [];
-  partners = [];
   children = (1, 0) ∷ [];
 }
 

@@ -29,10 +29,7 @@ pub fn number(low: u64, high: u64, word: &[u8]) -> Result<u64, LineRefusal>
     ensures form { Gives (λ n. n) result (number_form low high word.now) }
     ensures in_range { IfOk result (λ n. (low ≤ n) × (n ≤ high)) }
 {
-    match number_of(low, high, word) {
-        Some(n) => Ok(n),
-        None => Err(WORD),
-    }
+    number_of(low, high, word).ok_or(WORD)
 }
 
 pub fn second(word: &[u8]) -> Result<Second, LineRefusal>
