@@ -31,7 +31,6 @@ pub struct Agent<'t> {
 }
 
 impl<'t> Model for Agent<'t> {
-    ghost use Rattle.nsi_agent.specs.Laws.{IsGood};
     ghost use Rattle.nsi_agent.specs.Standing.{Standing};
     ghost use Rattle.nsi_agent.specs.Kinds.{IsAgent, state_in};
 

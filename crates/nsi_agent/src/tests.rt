@@ -7,7 +7,6 @@ ghost use Rattle.nsi_primitive.specs.Printable.{IsPrintableInput};
 ghost use Rattle.nsi_agent.specs.Steps.{may_take};
 ghost use Rattle.stp_topology.specs.Network.{kind_of};
 ghost use Rattle.agent_state.specs.State.{blank_agent};
-ghost use Rattle.nsi_primitive.specs.declared.entry.Entry.{Entry as EntryValue};
 
 use crate::Agent;
 use mail::{ask, id, reserve};
