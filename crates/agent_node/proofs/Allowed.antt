@@ -1,0 +1,83 @@
+-- Which entries an agent takes.
+use Rattle.std.proofs.Common.{ℕ, ◌<◌, ◌≤◌, ◌≡◌, Bool, true, false, not, ◌&&◌, Option, Some, None, refl, sym, ap, subst, eq-eqb}
+use Rattle.std.proofs.lemmas.Bool.{lt-ltb, le-leb}
+use Rattle.nsi_primitive.specs.Messages.{is_query}
+use Rattle.nsi_primitive.specs.declared.ask.Ask.{Ask}
+use Rattle.nsi_primitive.specs.declared.message.Identity.{Identity}
+use Rattle.nsi_primitive.specs.declared.entry.Input.{Input}
+use Rattle.nsi_primitive.specs.declared.message.Message.{Message}
+use Rattle.stp_topology.specs.declared.network.AgentKind.{AgentKind}
+use Rattle.stp_topology.specs.declared.network.Network.{Network}
+use Rattle.stp_topology.specs.Network.{kind_of}
+use Rattle.agent_state.specs.State.{AgentState}
+use Rattle.agent_state.specs.Entries.{most_entries, is_on_time}
+use Rattle.requester_agent.specs.Setting.{IsRequester}
+use Rattle.requester_agent.specs.Steps.{is_query_ask}
+use Rattle.nsi_primitive.specs.declared.state.Machine.{Machine}
+use Rattle.nsi_agent.specs.Homes.{Routes, home_in, role_in}
+use Rattle.nsi_agent.specs.Steps.{may_take, takes_kind, is_seen, is_new}
+use Rattle.agent_node.specs.Seated.{entry_at, is_for, is_tick}
+
+all : (a b c : Bool) → a ≡ true → b ≡ true → c ≡ true → (a && (b && c)) ≡ true
+all a b c p q r = cc
+
+pub allowed : (o : Option AgentKind) (s : AgentState) (second : ℕ) (input : Input) → s.base.taken < most_entries → is_for o input ≡ true → is_on_time input second s.base.now ≡ true → may_take o s (entry_at second input) ≡ true
+allowed (Some (AgentKind.Provider hold)) s second input h f t = all _ _ _ (lt-ltb s.base.taken most_entries h) f t
+allowed (Some (AgentKind.Requester provider)) s second input h f t = all _ _ _ (lt-ltb s.base.taken most_entries h) f t
+allowed (Some AgentKind.Aggregator) s second input h f t = all _ _ _ (lt-ltb s.base.taken most_entries h) f t
+allowed None s second input h f t = all _ _ _ (lt-ltb s.base.taken most_entries h) f t
+
+-- all but a tick happens now
+pub now_on_time : (input : Input) (now : ℕ) → is_tick input ≡ false → is_on_time input now now ≡ true
+now_on_time (Input.Ask n ask) now e = eq-eqb now now refl
+now_on_time (Input.Got m) now e = eq-eqb now now refl
+now_on_time (Input.Work n machine) now e = eq-eqb now now refl
+now_on_time Input.Tick now e = absurd (cc)
+now_on_time (Input.Force n) now e = eq-eqb now now refl
+now_on_time (Input.Acked i) now e = eq-eqb now now refl
+
+pub tick_on_time : (second now : ℕ) → now ≤ second → is_on_time Input.Tick second now ≡ true
+tick_on_time second now h = le-leb now second h
+
+---- Which inputs each kind takes
+
+pub work_for : (o : Option AgentKind) (n : ℕ) (machine : Machine) → is_for o (Input.Work n machine) ≡ true
+work_for (Some (AgentKind.Provider hold)) n machine = refl
+work_for (Some (AgentKind.Requester provider)) n machine = refl
+work_for (Some AgentKind.Aggregator) n machine = refl
+work_for None n machine = refl
+
+pub force_for : (o : Option AgentKind) (n : ℕ) → is_for o (Input.Force n) ≡ true
+force_for (Some (AgentKind.Provider hold)) n = refl
+force_for (Some (AgentKind.Requester provider)) n = refl
+force_for (Some AgentKind.Aggregator) n = refl
+force_for None n = refl
+
+pub tick_for : (o : Option AgentKind) → is_for o Input.Tick ≡ true
+tick_for (Some (AgentKind.Provider hold)) = refl
+tick_for (Some (AgentKind.Requester provider)) = refl
+tick_for (Some AgentKind.Aggregator) = refl
+tick_for None = refl
+
+pub acked_for : (o : Option AgentKind) (i : Identity) → is_for o (Input.Acked i) ≡ true
+acked_for (Some (AgentKind.Provider hold)) i = refl
+acked_for (Some (AgentKind.Requester provider)) i = refl
+acked_for (Some AgentKind.Aggregator) i = refl
+acked_for None i = refl
+
+pub ask_for : (t : Network) (a n : ℕ) (ask : Ask) → IsRequester t a → is_query_ask ask.what ≡ false → is_for (kind_of t a) (Input.Ask n ask) ≡ true
+ask_for t a n ask r e = subst (λ o. is_for o (Input.Ask n ask) ≡ true) (sym r.1) (ap not e)
+
+got_as : (o : Option AgentKind) (t : Network) (routes : Routes) (a : ℕ) (m : Message) → takes_kind (role_in o t routes a) m.body ≡ true → is_for o (Input.Got m) ≡ true
+got_as (Some (AgentKind.Provider hold)) t routes a m e = e
+got_as (Some (AgentKind.Requester provider)) t routes a m e = refl
+got_as (Some AgentKind.Aggregator) t routes a m e = e
+got_as None t routes a m e = e
+
+first_of : (a b : Bool) → (a && b) ≡ true → a ≡ true
+first_of true b e = refl
+first_of false b e = absurd (cc)
+
+pub got_for : (t : Network) (routes : Routes) (a : ℕ) (s : AgentState) (m : Message) → is_new (home_in t routes a) s m ≡ true → is_for (kind_of t a) (Input.Got m) ≡ true
+unfolding home_in is_new
+got_for t routes a s m e = got_as (kind_of t a) t routes a m (first_of (takes_kind (role_in (kind_of t a) t routes a) m.body) (not (is_seen (role_in (kind_of t a) t routes a) s m)) e)

@@ -1,0 +1,11 @@
+pub mod Joints
+pub mod Pushing
+pub mod Rows
+pub mod Growing
+pub mod Allowed
+pub mod Answered
+pub mod Entering
+pub mod Stepping
+pub mod Making
+pub mod Filtering
+pub mod Beginning

@@ -1,0 +1,124 @@
+-- An agent's ends of the links to others.
+use Rattle.std.specs.Prelude.{ℕ, ◌≡◌, ◌-◌, ◌==◌, ◌&&◌, Bool, false, List, [], ◌∷◌, ◌++◌, length, map, flat_map, take, drop, if◌then◌else◌, Option, Some, None}
+use Rattle.std.specs.List.{list_any, list_all}
+use Rattle.nsi_primitive.specs.Messages.{identity, addressee}
+use Rattle.nsi_primitive.specs.declared.message.Identity.{Identity}
+use Rattle.nsi_primitive.specs.declared.message.Message.{Message}
+use Rattle.nsi_primitive.specs.declared.message.Parcel.{Parcel}
+use Rattle.message_retry.specs.Retry.{is_same_identity}
+use Rattle.nsi_primitive.specs.Printable.{IsPrintableParcel}
+use Rattle.agent_link.specs.Link.{Wire}
+pub use Rattle.agent_link.specs.Link.{most_parcels}
+
+-- the ends of both ways between an agent and another one: what is still to be pushed, what was let through since the two
+-- met, and what came and isn't taken
+pub record Door : Type 0 where
+  pub other : ℕ
+  pub queue : List Parcel
+  pub out : List Parcel
+  pub inc : List Parcel
+
+-- to whom links go
+abbrev pub other_of : Door → ℕ
+other_of d = d.other
+
+abbrev pub others : List Door → List ℕ
+others ds = map other_of ds
+
+-- the first door to an agent is changed
+unfoldable pub change_first : ℕ → (Door → Door) → List Door → List Door
+change_first to f [] = []
+change_first to f (d ∷ ds) = if d.other == to then f d ∷ ds else d ∷ change_first to f ds
+
+---- What is to be pushed
+
+abbrev pub with_parcel : Parcel → Door → Door
+with_parcel p d = record d { queue = d.queue ++ p ∷ [] }
+
+-- something more to push to an agent
+abbrev pub queue_at : ℕ → Parcel → List Door → List Door
+queue_at to p ds = change_first to (with_parcel p) ds
+
+abbrev pub queue_if : Option ℕ → Parcel → List Door → List Door
+queue_if (Some to) p ds = queue_at to p ds
+queue_if None p ds = ds
+
+-- a message is queued for its addressee
+abbrev pub says : (List ℕ → Option ℕ) → Message → List Door → List Door
+says agent_of m ds = queue_if (agent_of (addressee (identity m))) (Parcel.Message m) ds
+
+-- messages are queued, in order, each for its addressee
+unfoldable pub says_all : (List ℕ → Option ℕ) → List Message → List Door → List Door
+says_all agent_of [] ds = ds
+says_all agent_of (m ∷ ms) ds = says_all agent_of ms (says agent_of m ds)
+
+-- the front of the queue is let through, as far as the link takes it
+abbrev pub pushes : Door → Door
+pushes d = record d { out = d.out ++ take (most_parcels - length d.out) d.queue; queue = drop (most_parcels - length d.out) d.queue }
+
+abbrev pub is_message : Identity → Parcel → Bool
+is_message i (Parcel.Message m) = is_same_identity i (identity m)
+is_message i (Parcel.Ack j) = false
+
+abbrev pub has_queued : Identity → Door → Bool
+has_queued i d = list_any (is_message i) d.queue
+
+-- whether a message of this identity is queued
+abbrev pub is_queued : Identity → List Door → Bool
+is_queued i ds = list_any (has_queued i) ds
+
+---- What came
+
+-- what came through a door, each parcel with the sender's number
+abbrev pub come_through : Door → List (ℕ × Parcel)
+come_through d = map (λ p. (d.other, p)) d.inc
+
+-- what came, by the senders' numbers, and in order
+abbrev pub lying : List Door → List (ℕ × Parcel)
+lying ds = flat_map come_through ds
+
+-- a parcel that can be written, with its sender
+abbrev pub IsPrintableCome : ℕ × Parcel → Type 0
+IsPrintableCome x = IsPrintableParcel x.1
+
+abbrev pub clears : Door → Door
+clears d = record d { inc = [] }
+
+-- nothing is to be pushed and nothing came
+abbrev pub is_idle : Door → Bool
+is_idle d = (length d.queue == 0) && (length d.inc == 0)
+
+abbrev pub all_idle : List Door → Bool
+all_idle ds = list_all is_idle ds
+
+---- Meetings
+
+-- what the first link to an agent let through
+unfoldable pub let_through : ℕ → List Door → List Parcel
+let_through to [] = []
+let_through to (d ∷ ds) = if d.other == to then d.out else let_through to ds
+
+abbrev pub learns : List Parcel → Door → Door
+learns ps d = record d { inc = ps; out = [] }
+
+-- nothing was let through since they met
+abbrev pub HasMet : Door → Type 0
+HasMet d = d.out ≡ []
+
+---- Wires
+
+-- the wires of both ways of a link
+pub record Plug : Type 0 where
+  pub other : ℕ
+  pub out : Wire
+  pub inc : Wire
+
+-- those of the first link to an agent
+unfoldable pub plug_to : ℕ → List Plug → Option (Wire × Wire)
+plug_to n [] = None
+plug_to n (p ∷ ps) = if p.other == n then Some (p.out, p.inc) else plug_to n ps
+
+-- the same seen from the other end
+abbrev pub crossed : Option (Wire × Wire) → Option (Wire × Wire)
+crossed None = None
+crossed (Some w) = Some (w.1, w.0)

@@ -1,0 +1,77 @@
+-- An agent with its journal and its links, as its contracts see it.
+use Rattle.std.specs.Prelude.{◌≡◌, ℕ, List, [], ◌∷◌, length, Option, Some, None, Result, Ok, Err}
+use Rattle.std.specs.List.{All}
+use Rattle.stp_topology.specs.declared.network.Network.{Network}
+use Rattle.nsi_disk.specs.Disk.{Meter}
+use Rattle.journal_entry.specs.Journal.{Kept as Journaled}
+use Rattle.agent_link.specs.Link.{Half, Wire}
+use Rattle.agent_node.specs.declared.fault.TurnFault.{TurnFault}
+use Rattle.agent_node.specs.Doors.{others, plug_to, crossed}
+pub use Rattle.agent_node.specs.Doors.{Plug}
+use Rattle.agent_node.specs.Seated.{Seated}
+use Rattle.agent_node.specs.Seat.{Seat}
+
+-- the topology that it stands in, itself, its links, why it can't be used any more where a call of it has failed, the counts of its
+-- disk, and what its journal keeps, where this is told
+pub record Kept : Type 0 where
+  pub network : Network
+  pub seat : Seat
+  pub plugs : List Plug
+  pub fault : Option TurnFault
+  pub meter : Meter
+  pub kept : Option Journaled
+
+-- an agent with what is told of its journal
+abbrev pub kept_with : Seated → Option TurnFault → Meter → Option Journaled → Kept
+kept_with s fault meter kept =
+    record { network = s.network; seat = s.seat; plugs = s.plugs; fault = fault; meter = meter; kept = kept }
+
+---- Links
+
+-- the wires of the first link to an agent
+abbrev pub plug : Kept → ℕ → Option (Wire × Wire)
+plug k n = plug_to n k.plugs
+
+-- either both have a link to the other one, and its ends are pairs, or neither has
+abbrev pub AreLinked : Kept → Kept → Type 0
+AreLinked a b = plug a b.seat.number ≡ crossed (plug b a.seat.number)
+
+---- What stays
+
+-- the same agent, with links to the same others
+pub record IsSameAgent (old new : Kept) : Type 0 where
+  pub network : new.network ≡ old.network
+  pub number : new.seat.number ≡ old.seat.number
+  pub others : others new.seat.doors ≡ others old.seat.doors
+
+-- its journal and its disk are as they were
+pub record HasSameJournal (old new : Kept) : Type 0 where
+  pub meter : new.meter ≡ old.meter
+  pub kept : new.kept ≡ old.kept
+
+-- why a call has failed, where it has
+abbrev pub fault_in : {T : Type 0} → Result T TurnFault → Option TurnFault
+fault_in (Ok x) = None
+fault_in (Err e) = Some e
+
+-- the same of a call that fails only for want of memory
+abbrev pub lack_of : {T E : Type 0} → Result T E → Option TurnFault
+lack_of (Ok x) = None
+lack_of (Err e) = Some TurnFault.NoMemory
+
+---- The ends of links that an agent begins with
+
+abbrev pub IsShut : Half → Type 0
+IsShut h = h.parcels ≡ []
+
+-- as many ends of each way as there are others, through which nothing went yet
+pub record AreEnds (others : List ℕ) (outgoing incoming : List Half) : Type 0 where
+  pub outs : length outgoing ≡ length others
+  pub incs : length incoming ≡ length others
+  pub shut : All IsShut outgoing
+  pub known : All IsShut incoming
+
+-- the wires of these ends, in order
+abbrev pub plugs_of : List ℕ → List Half → List Half → List Plug
+plugs_of (b ∷ bs) (o ∷ os) (i ∷ is) = record { other = b; out = o.wire; inc = i.wire } ∷ plugs_of bs os is
+plugs_of _ _ _ = []

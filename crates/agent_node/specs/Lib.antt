@@ -1,0 +1,11 @@
+pub mod Doors
+pub mod Linked
+pub mod Seat
+pub mod Turns
+pub mod Acts
+pub mod Meetings
+pub mod Openings
+pub mod Faults
+pub mod Seated
+pub mod Kept
+pub mod Made

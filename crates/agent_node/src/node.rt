@@ -1,0 +1,237 @@
+//! One agent of a net, with its journal and its ends of the links.
+
+ghost use Rattle.std.specs.Prelude.{◌≡◌, ◌≤◌, ◌<◌, ◌+◌, ℕ, [], None, Some, false, IfOk, OnOk};
+ghost use Rattle.std.specs.List.{All};
+ghost use Rattle.nsi_primitive.specs.Printable.{IsPrintableAsk, IsPrintableEvent};
+ghost use Rattle.nsi_primitive.specs.declared.entry.Input.{Input};
+ghost use Rattle.agent_state.specs.Entries.{most_entries};
+ghost use Rattle.requester_agent.specs.Setting.{IsRequester};
+ghost use Rattle.requester_agent.specs.Steps.{is_query_ask};
+ghost use Rattle.nsi_agent.specs.Steps.{after};
+ghost use Rattle.agent_node.specs.Seat.{now_at};
+ghost use Rattle.agent_node.specs.Acts.{asked, forced, ticked, is_quiet};
+ghost use Rattle.agent_node.specs.Meetings.{met};
+ghost use Rattle.agent_node.specs.Doors.{HasMet, IsPrintableCome};
+ghost use Rattle.agent_node.specs.Kept.{plug, AreLinked, IsSameAgent, HasSameJournal, fault_in, lack_of};
+ghost use Rattle.agent_node.specs.Made.{AtHome, IsTurn, IsTurnWith};
+
+use crate::fault::TurnFault;
+use crate::seated::Core;
+use crate::turn::{fault_of, make_turn, make_turn_with};
+use journal_entry::Journal;
+use nsi_base::{AgentNo, RecordNo, Second};
+use nsi_primitive::{Ask, AskAnswer, Event, Parcel};
+use std::alloc::{AllocError, Global};
+use std::marker::Model;
+
+/// An agent with its journal and its ends of the links to others. It takes what comes to it, keeps what it took in its journal, and
+/// says only then what that causes. Where a call of it has failed, it is only good for giving its disk back.
+#[derive(Drop)]
+pub struct Node<'t, J: Journal + Drop> {
+    pub(crate) core: Core<'t>,
+    pub(crate) journal: J,
+    pub(crate) fault: Option<TurnFault>,
+}
+
+impl<'t, J: Journal + Drop> Model for Node<'t, J> {
+    ghost use Rattle.std.specs.Prelude.{◌≡◌, None, false};
+    ghost use Rattle.agent_node.specs.Kept.{Kept};
+
+    ghost Value = { Kept };
+
+    ghost view = { λ n. record {
+      network = n.core.network;
+      seat = n.core.seat;
+      plugs = n.core.plugs;
+      fault = n.fault;
+      meter = J.meter n.journal;
+      kept = J.kept n.journal;
+    } };
+
+    ghost invariant = { λ n. n.fault ≡ None → J.is_ready n.journal × (J.waits n.journal ≡ false) };
+}
+
+impl<'t, J: Journal + Drop> Node<'t, J> {
+    /// The number of its agent.
+    pub fn number(&self) -> AgentNo
+        ensures { result ≡ self.now.seat.number }
+    {
+        self.core.number()
+    }
+
+    /// The second of its clock.
+    pub fn now(&self) -> Second
+        ensures { result ≡ self.now.seat.state.base.now }
+    {
+        self.core.now()
+    }
+
+    /// How many entries it has taken.
+    pub fn taken(&self) -> u64
+        ensures { result ≡ self.now.seat.state.base.taken }
+    {
+        self.core.taken()
+    }
+
+    /// Why it can't be used any more, where a call of it has failed.
+    pub fn fault(&self) -> Option<TurnFault>
+        ensures { result ≡ self.now.fault }
+    {
+        self.fault
+    }
+
+    /// An ask of its user, which has this number in the run. Its agent is a requester.
+    pub fn ask(&mut self, alloc: Global, number: u32, ask: Ask) -> Result<AskAnswer, AllocError>
+        requires usable { self.old.fault ≡ None }
+        requires few { self.old.seat.state.base.taken < most_entries }
+        requires requester { IsRequester self.old.network self.old.seat.number }
+        requires plain { is_query_ask ask.what ≡ false }
+        requires printable { IsPrintableAsk ask }
+        ensures ok { AtHome self.old
+            (λ h. OnOk result (self.new.seat ≡ asked h number ask self.old.seat)) }
+        ensures answer { AtHome self.old (λ h. IfOk result (λ answer. let s = self.old.seat in
+            (after h s.state (now_at s (Input.Ask number ask))).answer ≡ Some answer)) }
+        ensures fault { self.new.fault ≡ lack_of result }
+        ensures same { IsSameAgent self.old self.new }
+        ensures plugs { self.new.plugs ≡ self.old.plugs }
+        ensures journal { HasSameJournal self.old self.new }
+    {
+        let answer = self.core.ask(alloc, number, ask);
+        if answer.is_err() {
+            self.fault = Some(TurnFault::NoMemory);
+        }
+        answer
+    }
+
+    /// Ends a connection of a provider by force.
+    pub fn force(&mut self, alloc: Global, number: RecordNo) -> Result<(), AllocError>
+        requires usable { self.old.fault ≡ None }
+        requires few { self.old.seat.state.base.taken < most_entries }
+        ensures ok { AtHome self.old
+            (λ h. OnOk result (self.new.seat ≡ forced h number self.old.seat)) }
+        ensures fault { self.new.fault ≡ lack_of result }
+        ensures same { IsSameAgent self.old self.new }
+        ensures plugs { self.new.plugs ≡ self.old.plugs }
+        ensures journal { HasSameJournal self.old self.new }
+    {
+        let made = self.core.force(alloc, number);
+        if made.is_err() {
+            self.fault = Some(TurnFault::NoMemory);
+        }
+        made
+    }
+
+    /// Its clock goes on. What a synced entry caused and isn't acknowledged is queued again, where it isn't queued.
+    pub fn tick(&mut self, alloc: Global, to: Second) -> Result<(), AllocError>
+        requires usable { self.old.fault ≡ None }
+        requires few { self.old.seat.state.base.taken < most_entries }
+        requires later { self.old.seat.state.base.now ≤ to }
+        ensures ok { AtHome self.old (λ h. OnOk result (self.new.seat ≡ ticked h to self.old.seat)) }
+        ensures fault { self.new.fault ≡ lack_of result }
+        ensures same { IsSameAgent self.old self.new }
+        ensures plugs { self.new.plugs ≡ self.old.plugs }
+        ensures journal { HasSameJournal self.old self.new }
+    {
+        let made = self.core.tick(alloc, to);
+        if made.is_err() {
+            self.fault = Some(TurnFault::NoMemory);
+        }
+        made
+    }
+
+    /// Begins a round.
+    pub fn begin_round(&mut self)
+        requires met { All HasMet self.old.seat.doors }
+        ensures { self.new ≡ self.old }
+    {
+        self.core.begin_round();
+    }
+
+    /// A turn: it takes what came, does its work, syncs, and pushes.
+    pub fn turn(&mut self, alloc: Global, room: u64) -> Result<(), TurnFault>
+        requires usable { self.old.fault ≡ None }
+        requires few { self.old.seat.state.base.taken + room ≤ most_entries }
+        ensures made { IsTurn room self.old self.new }
+        ensures fault { self.new.fault ≡ fault_in result }
+    {
+        let made = make_turn(alloc, &mut self.core, &mut self.journal, room);
+        self.fault = fault_of(&made);
+        made
+    }
+
+    /// A turn in which it takes these parcels, each with its sender. What came stays where it lies.
+    pub fn turn_with(
+        &mut self,
+        alloc: Global,
+        parcels: Vec<(AgentNo, Parcel)>,
+        room: u64,
+    ) -> Result<(), TurnFault>
+        requires usable { self.old.fault ≡ None }
+        requires few { self.old.seat.state.base.taken + room ≤ most_entries }
+        requires printable { All IsPrintableCome parcels.items }
+        ensures made { IsTurnWith parcels.items room self.old self.new }
+        ensures fault { self.new.fault ≡ fault_in result }
+    {
+        let made = make_turn_with(alloc, &mut self.core, &mut self.journal, parcels, room);
+        self.fault = fault_of(&made);
+        made
+    }
+
+    /// A turn that answers nothing: its fault is kept.
+    pub fn take_turn(&mut self, alloc: Global, room: u64)
+        requires usable { self.old.fault ≡ None }
+        requires few { self.old.seat.state.base.taken + room ≤ most_entries }
+        ensures { IsTurn room self.old self.new }
+    {
+        let _ = self.turn(alloc, room);
+    }
+
+    /// The events since the last call. It takes no memory.
+    pub fn take_events(&mut self) -> Vec<Event>
+        ensures events { result.items ≡ self.old.seat.events }
+        ensures printable { All IsPrintableEvent result.items }
+        ensures rest { self.new ≡ record self.old { seat = record self.old.seat { events = [] } } }
+    {
+        self.core.take_events()
+    }
+
+    /// Whether nothing is unsynced, no work waits, nothing is to be pushed and nothing came.
+    pub fn quiet(&self) -> bool
+        ensures { AtHome self.now (λ h. result ≡ is_quiet h self.now.seat) }
+    {
+        self.core.quiet()
+    }
+
+    /// What each of two agents let through to the other one since they met has come there. It takes no memory.
+    pub fn meet(&mut self, other: &mut Node<'t, J>)
+        requires linked { AreLinked self.old other.old }
+        ensures seat { self.new.seat ≡ met other.old.seat self.old.seat }
+        ensures other_seat { other.new.seat ≡ met self.old.seat other.old.seat }
+        ensures linked { AreLinked self.new other.new }
+        ensures here { (m : ℕ) → (m ≡ other.old.seat.number → ⊥) →
+            plug self.new m ≡ plug self.old m }
+        ensures there { (m : ℕ) → (m ≡ self.old.seat.number → ⊥) →
+            plug other.new m ≡ plug other.old m }
+        ensures same { IsSameAgent self.old self.new }
+        ensures other_same { IsSameAgent other.old other.new }
+        ensures fault { self.new.fault ≡ self.old.fault }
+        ensures other_fault { other.new.fault ≡ other.old.fault }
+        ensures journal { HasSameJournal self.old self.new }
+        ensures other_journal { HasSameJournal other.old other.new }
+    {
+        self.core.meet(&mut other.core);
+    }
+
+    /// Its journal.
+    pub fn into_journal(self) -> J
+        ensures meter { J.meter result ≡ self.entry.meter }
+        ensures kept { J.kept result ≡ self.entry.kept }
+    {
+        let Node {
+            core: _,
+            journal,
+            fault: _,
+        } = self;
+        journal
+    }
+}

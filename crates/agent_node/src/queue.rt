@@ -1,0 +1,114 @@
+//! What is still to be pushed to an agent.
+
+ghost use Rattle.std.specs.Prelude.{◌≡◌, ◌==◌, [], ◌∷◌, ◌++◌, ◌-◌, length, take, drop, OnOk};
+ghost use Rattle.std.specs.List.{list_any};
+ghost use Rattle.nsi_primitive.specs.Printable.{IsPrintableParcel};
+ghost use Rattle.nsi_primitive.specs.Kinds.{kind_number};
+ghost use Rattle.nsi_primitive.specs.Messages.{identity};
+ghost use Rattle.message_retry.specs.Retry.{is_same_identity};
+ghost use Rattle.agent_node.specs.Doors.{is_message, most_parcels};
+
+use agent_link::{Outgoing, PushFault};
+use nsi_primitive::{Identity, Kind, Message, Parcel};
+use std::alloc::{AllocError, Global};
+use std::collections::VecDeque;
+use std::marker::Model;
+
+#[derive(Drop)]
+pub struct Queue {
+    parcels: VecDeque<Parcel>,
+}
+
+impl Model for Queue {
+    ghost use Rattle.std.specs.Prelude.{List};
+    ghost use Rattle.std.specs.List.{All};
+    ghost use Rattle.nsi_primitive.specs.Printable.{IsPrintableParcel};
+    ghost use Rattle.nsi_primitive.specs.declared.message.Parcel.{Parcel as AParcel};
+
+    ghost Value = { List AParcel };
+
+    ghost view = { λ q. q.parcels.items };
+
+    ghost invariant = { λ q. All IsPrintableParcel q.parcels.items };
+}
+
+impl Queue {
+    pub fn new(alloc: Global) -> Self
+        ensures { result ≡ [] }
+    {
+        Queue {
+            parcels: VecDeque::new(alloc),
+        }
+    }
+
+    /// Puts a parcel behind.
+    pub fn put(&mut self, parcel: Parcel) -> Result<(), AllocError>
+        requires { IsPrintableParcel parcel }
+        ensures { OnOk result (self.new ≡ self.old ++ parcel ∷ []) }
+    {
+        self.parcels.push_back(parcel)?;
+        Ok(())
+    }
+
+    pub fn is_empty(&self) -> bool
+        ensures { result ≡ (length self.now == 0) }
+    {
+        self.parcels.is_empty()
+    }
+
+    /// Whether a message of the identity is queued.
+    pub fn has(&self, identity: &Identity) -> bool
+        ensures { result ≡ list_any (is_message identity.now) self.now }
+    {
+        self.parcels
+            .iter()
+            .any(|parcel| is_message(identity, parcel))
+    }
+
+    /// Lets its front through, as far as the link takes it.
+    pub fn push(&mut self, alloc: Global, out: &mut Outgoing) -> Result<(), AllocError>
+        ensures rest { let free = most_parcels - length out.old.parcels in
+            OnOk result (self.new ≡ drop free self.old) }
+        ensures out { let free = most_parcels - length out.old.parcels in
+            OnOk result (out.new.parcels ≡ out.old.parcels ++ take free self.old) }
+        ensures wire { out.new.wire ≡ out.old.wire }
+    {
+        while let Some(parcel) = self.parcels.pop_front() {
+            match out.push(alloc, parcel) {
+                Ok(_) => {}
+                Err(PushFault::Full(parcel)) => {
+                    self.parcels.push_front_reserved(parcel);
+                    return Ok(());
+                }
+                Err(PushFault::NoMemory(_)) => return Err(AllocError),
+            }
+        }
+        Ok(())
+    }
+}
+
+/// Whether a message is of the identity.
+pub fn is_of(message: &Message, i: &Identity) -> bool
+    ensures { result ≡ is_same_identity i.now (identity message.now) }
+{
+    i.requester.is(&message.header.requester)
+        && i.provider.is(&message.header.provider)
+        && i.correlation.number() == message.header.correlation.number()
+        && number_of(i.kind) == number_of(message.kind())
+}
+
+#[tactic(auto, unfolding(nsi_primitive::specs::Kinds::kind_number))]
+fn number_of(kind: Kind) -> u8
+    ensures { result ≡ kind_number kind }
+{
+    kind as u8
+}
+
+fn is_message(i: &Identity, parcel: &Parcel) -> bool
+    ensures { result ≡ is_message i.now parcel.now }
+{
+    match parcel {
+        Parcel::Message(message) => is_of(message, i),
+        Parcel::Ack(_) => false,
+    }
+}

@@ -1,0 +1,35 @@
+-- Why rounds and runs have failed.
+use Rattle.std.proofs.Common.{ℕ, ◌≡◌, List, [], ◌∷◌, inl, inr, refl, sym, subst, arith, Result, Err, IfErr}
+use Rattle.agent_node.specs.Kept.{Kept}
+use Rattle.agent_threads.specs.declared.fault.RoundFault.{RoundFault}
+use Rattle.agent_threads.specs.declared.fault.RunFault.{RunFault}
+use Rattle.agent_threads.specs.Made.{HasRisen, HasFailed, HasCause, HasRunCause, IsOfWriting}
+
+pub same_error : {T E : Type 0} (r : Result T E) (y e k : E) → r ≡ Err y → y ≡ e → r ≡ Err k → e ≡ k
+same_error r y e k p q h = cc
+
+pub if_err : {T E : Type 0} (r : Result T E) (P : E → Type 0) (y : E) → r ≡ Err y → P y → IfErr r P
+if_err r P y e p = subst (λ z. IfErr z P) (sym e) p
+
+failed : (a : ℕ) (os ns : List Kept) → HasRisen a os ns → HasFailed a ns
+failed a [] ns h = absurd h
+failed a (o ∷ os) [] h = absurd h
+failed a (o ∷ os) (n ∷ ns) (inl p) = inl (p.0, omega (arith, p.1))
+failed a (o ∷ os) (n ∷ ns) (inr q) = inr (failed a os ns q)
+
+-- a round's faults have their causes
+pub cause_of : (f : RoundFault) (os ns : List Kept) → ((a : ℕ) → f ≡ RoundFault.DiskFault a → HasRisen a os ns) → ((a : ℕ) → f ≡ RoundFault.Stopped a → HasRisen a os ns) → HasCause f ns
+cause_of RoundFault.Long os ns d s = tt
+cause_of (RoundFault.DiskFault a) os ns d s = failed a os ns (d a refl)
+cause_of (RoundFault.Stopped a) os ns d s = failed a os ns (s a refl)
+cause_of RoundFault.NoMemory os ns d s = tt
+
+-- a fault of a write has its cause whoever the agents are, and isn't Long
+pub write_cause : (e : RunFault) (ks : List Kept) → IsOfWriting e → HasRunCause e ks
+write_cause RunFault.Long ks w = tt
+write_cause RunFault.WriteFault ks w = tt
+write_cause (RunFault.DiskFault a) ks w = absurd w
+write_cause RunFault.NoMemory ks w = tt
+
+pub not_long : (e : RunFault) → IsOfWriting e → e ≡ RunFault.Long → ⊥
+not_long e w p = subst IsOfWriting p w

@@ -1,0 +1,74 @@
+-- What has happened is told, and taken away.
+use Rattle.std.proofs.Common.{ℕ, ◌+◌, ◌<◌, ◌≤◌, ◌≡◌, List, [], ◌∷◌, ◌++◌, inl, inr, cond, refl, sym, ap, ap₂, ◌∙◌, length, map, drop, get_or, append_assoc, append-nil, add-one, drop-cons, ne_eqb}
+use Rattle.std.proofs.lemmas.Bool.{cases_eq}
+use Rattle.std.proofs.lemmas.List.{drop_all}
+use Rattle.nsi_primitive.specs.declared.entry.Event.{Event}
+use Rattle.nsi_script.specs.declared.script.Act.{Act}
+use Rattle.agent_node.specs.Seat.{Seat}
+use Rattle.agent_node.specs.Acts.{asked, forced}
+use Rattle.agent_node.specs.Kept.{Kept}
+use Rattle.nsi_play.specs.Rounds.{Net, Homes, events_of, emptied}
+use Rattle.nsi_play.specs.Play.{changes, does, acted}
+use Rattle.agent_threads.specs.Nets.{seats, EachIs, AreSame, AreNet}
+use Rattle.agent_threads.specs.Made.{Does, Drained, tells_at, part_in}
+use Rattle.agent_threads.specs.Coming.{IsTold}
+use Rattle.agent_threads.proofs.Same.{does_net, does_same}
+
+pub told_next : (ks : List Kept) (i : ℕ) (d : Kept) (es fs : List Event) → i < length ks → fs ≡ es ++ (get_or ks i d).seat.events → fs ++ events_of (seats (drop (i + 1) ks)) ≡ es ++ events_of (seats (drop i ks))
+told_next ks i d es fs h e =
+    ap (λ (xs : List Event). xs ++ events_of (seats (drop (i + 1) ks))) e
+    ∙ (append_assoc es (get_or ks i d).seat.events (events_of (seats (drop (i + 1) ks)))
+    ∙ ap (λ (xs : List Event). es ++ xs) (ap (λ n. (get_or ks i d).seat.events ++ events_of (seats (drop n ks))) (add-one i) ∙ sym (ap (λ (xs : List Kept). events_of (seats xs)) (drop-cons ks i d h))))
+
+pub told_end : (ks : List Kept) (i : ℕ) (es : List Event) → length ks ≤ i → es ≡ es ++ events_of (seats (drop i ks))
+told_end ks i es h = sym (ap (λ (xs : List Kept). es ++ events_of (seats xs)) (drop_all i ks h) ∙ append-nil es)
+
+drained_does : (os ns : List Kept) → EachIs Drained os ns → EachIs (Does tells_at) os ns
+drained_does [] [] e = tt
+drained_does [] (n ∷ ns) e = absurd e
+drained_does (o ∷ os) [] e = absurd e
+drained_does (o ∷ os) (n ∷ ns) e = (e.0.made, drained_does os ns e.1)
+
+drained_seats : (os ns : List Kept) → EachIs Drained os ns → seats ns ≡ emptied (seats os)
+drained_seats [] [] e = refl
+drained_seats [] (n ∷ ns) e = absurd e
+drained_seats (o ∷ os) [] e = absurd e
+drained_seats (o ∷ os) (n ∷ ns) e = ap₂ ◌∷◌ e.0.seat (drained_seats os ns e.1)
+
+pub drained_net : (os ns : List Kept) → EachIs Drained os ns → AreNet os → AreNet ns
+drained_net os ns e n = does_net tells_at os ns (drained_does os ns e) n
+
+pub drained_same : (os ns : List Kept) → EachIs Drained os ns → AreSame os ns
+drained_same os ns e = does_same tells_at os ns (drained_does os ns e)
+
+pub emptied_events : (net : Net) → events_of (emptied net) ≡ []
+emptied_events [] = refl
+emptied_events (s ∷ ss) = emptied_events ss
+
+-- nothing is left to tell
+pub drained_told : (os ns : List Kept) → EachIs Drained os ns → events_of (seats ns) ≡ []
+drained_told os ns e = ap events_of (drained_seats os ns e) ∙ emptied_events (seats os)
+
+-- what was made of all is told
+pub is_told : (net : Net) (mids news : List Kept) (before events : List Event) → seats mids ≡ net → EachIs Drained mids news → events ≡ before ++ events_of (seats mids) → IsTold net before events (seats news)
+is_told net mids news before events e d t = record {
+  told = t ∙ ap (λ (x : Net). before ++ events_of x) e;
+  rest = drained_seats mids news d ∙ ap emptied e;
+}
+
+---- Acts
+
+part_does : (act : Act) (n : ℕ) (homes : Homes) (s : Seat) → part_in act n (homes s.number) s ≡ does act n homes s
+part_does (Act.Ask a ask) n homes s = elim (cases_eq s.number a) [
+  | inl e ↦ ap (λ (k : ℕ). changes a (asked (homes k) n ask) s) e
+  | inr m ↦ ap (λ b. cond b (asked (homes s.number) n ask s) s) (ne_eqb s.number a m) ∙ sym (ap (λ b. cond b (asked (homes a) n ask s) s) (ne_eqb s.number a m))
+]
+part_does (Act.Force a k) n homes s = elim (cases_eq s.number a) [
+  | inl e ↦ ap (λ (b : ℕ). changes a (forced (homes b) k) s) e
+  | inr m ↦ ap (λ b. cond b (forced (homes s.number) k s) s) (ne_eqb s.number a m) ∙ sym (ap (λ b. cond b (forced (homes a) k s) s) (ne_eqb s.number a m))
+]
+part_does (Act.Restart a) n homes s = refl
+
+pub parts_acted : (act : Act) (n : ℕ) (homes : Homes) (net : Net) → map (λ s. part_in act n (homes s.number) s) net ≡ acted act n homes net
+parts_acted act n homes [] = refl
+parts_acted act n homes (s ∷ ss) = ap₂ ◌∷◌ (part_does act n homes s) (parts_acted act n homes ss)

@@ -1,0 +1,11 @@
+pub mod Places
+pub mod Same
+pub mod Pairs
+pub mod Wires
+pub mod OneMeets
+pub mod Turning
+pub mod Draining
+pub mod Quiet
+pub mod Causes
+pub mod Coming
+pub mod Told

@@ -1,0 +1,109 @@
+-- What has been written.
+use Rattle.std.proofs.Common.{ℕ, zero, suc, ◌+◌, ◌<◌, ◌≡◌, List, [], ◌∷◌, ◌++◌, inl, inr, Option, Some, None, Result, Ok, Err, IfSome, refl, sym, ap, ◌∙◌, subst, arith, length, take, drop, append_assoc, append-nil, get_or}
+use Rattle.std.specs.Result.{OnErr}
+use Rattle.std.proofs.Math.Seq.{take-append-add}
+use Rattle.std.proofs.lemmas.List.{take_all, take_more, drop_more, take-append-drop}
+use Rattle.nsi_outside.specs.Stream.{WritesAll, WritesFront}
+use Rattle.nsi_primitive.specs.declared.entry.Event.{Event}
+use Rattle.stp_topology.specs.declared.network.Network.{Network}
+use Rattle.trace_text.specs.Lines.{line_of, text_of}
+use Rattle.nsi_script.specs.declared.script.Act.{Act}
+use Rattle.nsi_script.specs.declared.script.Group.{Group}
+use Rattle.agent_node.specs.Kept.{Kept}
+use Rattle.nsi_play.specs.Rounds.{Net, Homes}
+use Rattle.nsi_play.specs.Play.{asks_among, PassesFrom}
+use Rattle.agent_threads.specs.Nets.{seats, AtHomes, AreSame}
+use Rattle.agent_threads.specs.Coming.{IsPlayedBy, IsGroupOver, GroupPasses}
+use Rattle.agent_threads.specs.Promise.{AllCanBeDone, CanBeDone, CanBePlayed, WritesSomeOfGroup, WritesSomeOfPlay}
+use Rattle.agent_threads.proofs.Same.{still_of}
+use Rattle.agent_threads.proofs.Coming.{played_more, played_all, play_passes}
+
+pub on_err : {T E : Type 0} (r : Result T E) (P : Type 0) → P → OnErr r P
+on_err (Ok x) P p = tt
+on_err (Err e) P p = p
+
+text_append : (t : Network) (es fs : List Event) → text_of t (es ++ fs) ≡ text_of t es ++ text_of t fs
+text_append t [] fs = refl
+text_append t (e ∷ es) fs = ap (λ z. line_of t e ++ z) (text_append t es fs) ∙ sym (append_assoc (line_of t e) (text_of t es) (text_of t fs))
+
+-- a text and another one
+pub writes_more : (t : Network) (es fs : List Event) (old mid new : Option (List ℕ)) → WritesAll old mid (text_of t es) → WritesAll mid new (text_of t fs) → WritesAll old new (text_of t (es ++ fs))
+writes_more t es fs None mid new p q = tt
+writes_more t es fs (Some c) mid new p q = (subst (λ m. WritesAll m new (text_of t fs)) p q) ∙ ap (λ z. Some z) (append_assoc c (text_of t es) (text_of t fs) ∙ ap (λ z. c ++ z) (sym (text_append t es fs)))
+
+pub writes_none : (t : Network) (old : Option (List ℕ)) → WritesAll old old (text_of t [])
+writes_none t None = tt
+writes_none t (Some c) = ap (λ z. Some z) (sym (append-nil c))
+
+-- a text is a front of itself
+pub writes_front_all : (t : Network) (es : List Event) (old new : Option (List ℕ)) → WritesAll old new (text_of t es) → WritesFront old new (text_of t es)
+writes_front_all t es None new p = tt
+writes_front_all t es (Some c) new p = (length (text_of t es), p ∙ ap (λ z. Some (c ++ z)) (sym (take_all (length (text_of t es)) (text_of t es) (omega arith))))
+
+-- a text and a front of another one
+pub writes_front_more : (t : Network) (es fs : List Event) (old mid new : Option (List ℕ)) → WritesAll old mid (text_of t es) → WritesFront mid new (text_of t fs) → WritesFront old new (text_of t (es ++ fs))
+writes_front_more t es fs None mid new p q = tt
+writes_front_more t es fs (Some c) mid new p q =
+    let f : IfSome (Some (c ++ text_of t es)) (λ d. (k : ℕ) × (new ≡ Some (d ++ take k (text_of t fs)))) = subst (λ m. WritesFront m new (text_of t fs)) p q in
+    (length (text_of t es) + f.0, f.1 ∙ ap (λ z. Some z) (append_assoc c (text_of t es) (take f.0 (text_of t fs)) ∙ ap (λ z. c ++ z) (sym (take-append-add (text_of t es) (text_of t fs) f.0) ∙ ap (take (length (text_of t es) + f.0)) (sym (text_append t es fs)))))
+
+---- Groups
+
+cut_here : (gs : List Group) (i : ℕ) (d : Group) → i < length gs → take i gs ++ get_or gs i d ∷ drop (i + 1) gs ≡ gs
+cut_here gs i d h = ap (λ zs. take i gs ++ zs) (sym (drop_more gs i d h)) ∙ take-append-drop i gs
+
+-- where a group passes the limit, so does the script
+pub script_passes : (homes : Homes) (script : List Group) (i : ℕ) (d : Group) (start : Net) (events : List Event) (next : ℕ) (now : Net) (limit count : ℕ) → i < length script → IsPlayedBy homes (take i script) start events next now
+    → count ≡ length events → GroupPasses limit count homes (get_or script i d) next now → PassesFrom limit script homes start
+script_passes homes script i d start events next now limit count h p e q =
+    subst (λ gs. PassesFrom limit gs homes start) (cut_here script i d h)
+    (play_passes homes (take i script) start events next now (get_or script i d) (drop (i + 1) script) limit p (subst (λ n. GroupPasses limit n homes (get_or script i d) next now) e q))
+
+-- and so does the script up to that group
+pub front_passes : (homes : Homes) (script : List Group) (i : ℕ) (d : Group) (start : Net) (events : List Event) (next : ℕ) (now : Net) (limit count : ℕ) → i < length script → IsPlayedBy homes (take i script) start events next now
+    → count ≡ length events → GroupPasses limit count homes (get_or script i d) next now → PassesFrom limit (take (i + 1) script) homes start
+front_passes homes script i d start events next now limit count h p e q =
+    subst (λ gs. PassesFrom limit gs homes start) (sym (take_more script i d h))
+    (play_passes homes (take i script) start events next now (get_or script i d) [] limit p (subst (λ n. GroupPasses limit n homes (get_or script i d) next now) e q))
+
+pub group_more : (homes : Homes) (script : List Group) (i : ℕ) (d : Group) (start : Net) (events : List Event) (next : ℕ) (now : Net) (own : List Event) (y : Net) → i < length script → IsPlayedBy homes (take i script) start events next now
+    → IsGroupOver homes (get_or script i d) next now own y → IsPlayedBy homes (take (i + 1) script) start (events ++ own) (next + asks_among (get_or script i d).acts) y
+group_more homes script i d start events next now own y h p o =
+    subst (λ gs. IsPlayedBy homes gs start (events ++ own) (next + asks_among (get_or script i d).acts) y) (sym (take_more script i d h)) (played_more homes (take i script) start events next now (get_or script i d) own y p o)
+
+-- what holds at the agents of a moment holds at those of the start
+pub at_start : (starts nows : List Kept) (P : Homes → Type 0) → AreSame starts nows → AtHomes nows P → AtHomes starts P
+at_start starts nows P s f t o routes r = f t (still_of t starts nows s o) routes r
+
+-- what stands where a group wasn't made or wasn't written
+pub some_of_play : (t : Network) (script : List Group) (i : ℕ) (d : Group) (starts nows : List Kept) (events : List Event) (next : ℕ) (old mid new : Option (List ℕ)) → i < length script → AreSame starts nows
+    → AtHomes starts (λ homes. IsPlayedBy homes (take i script) (seats starts) events next (seats nows)) → WritesAll old mid (text_of t events)
+    → WritesSomeOfGroup t (get_or script i d) next nows mid new → WritesSomeOfPlay t script starts old new
+some_of_play t script i d starts nows events next old mid new h s p w (inl e) = (
+  i,
+  events,
+  seats nows,
+  (λ u o routes r. played_all _ (take i script) (seats starts) events next (seats nows) (p u o routes r)),
+  writes_front_all t events old new (subst (λ m. WritesAll old m (text_of t events)) (sym e) w),
+)
+some_of_play t script i d starts nows events next old mid new h s p w (inr q) = (
+  i + 1,
+  events ++ q.0,
+  q.1,
+  (λ u o routes r.
+      played_all _ (take (i + 1) script) (seats starts) (events ++ q.0) (next + asks_among (get_or script i d).acts) q.1
+      (group_more _ script i d (seats starts) events next (seats nows) q.0 q.1 h (p u o routes r) (q.2 u (still_of u starts nows s o) routes r))),
+  writes_front_more t events q.0 old mid new w q.3,
+)
+
+---- What a script asks for
+
+pub can_at : (t : Network) (gs : List Group) (i : ℕ) (d : Group) → i < length gs → CanBePlayed t gs → AllCanBeDone t (get_or gs i d).acts
+can_at t [] i d h c = absurd (omega arith)
+can_at t (g ∷ gs) zero d h c = c.0
+can_at t (g ∷ gs) (suc i) d h c = can_at t gs i d (omega arith) c.1
+
+pub act_at : (t : Network) (todo : List Act) (i : ℕ) (d : Act) → i < length todo → AllCanBeDone t todo → CanBeDone t (get_or todo i d)
+act_at t [] i d h c = absurd (omega arith)
+act_at t (a ∷ rest) zero d h c = c.0
+act_at t (a ∷ rest) (suc i) d h c = act_at t rest i d (omega arith) c.1

@@ -1,0 +1,34 @@
+use Rattle.std.proofs.Common.{sym, ap, subst, Err}
+use Rattle.std.proofs.lemmas.Result.{err_from_is_err_and}
+use Rattle.nsi_agent.specs.Homes.{home_in}
+use Rattle.nsi_play.specs.Rounds.{round}
+use Rattle.agent_threads.specs.declared.fault.RoundFault.{RoundFault}
+use Rattle.agent_threads.specs.Nets.{seats}
+use Rattle.agent_threads.specs.Made.{HasCause}
+use Rattle.agent_threads.proofs.Same.{same_twice}
+use Rattle.agent_threads.proofs.Draining.{drained_net, drained_same, drained_told, is_told}
+use Rattle.agent_threads.proofs.Causes.{if_err, cause_of}
+use Rattle.agent_threads.proofs.group.step.Goals as goal
+
+pub returns-in_err-round-clause-cause : goal.returns-in_err-round-clause-cause
+returns-in_err-round-clause-cause g c =
+    let p = err_from_is_err_and c.from_residual.result c.from_residual.ensures.1 in
+    let mids = c.round.new.nodes.items in
+    let cause : HasCause c.in_err-round.field-0.0 mids =
+    cause_of c.in_err-round.field-0.0 c.args.nodes.now.items mids (λ a e. c.in_err-round.ensures.disk a (ap (λ x. Err x) e)) (λ a e. c.in_err-round.ensures.stopped a (ap (λ x. Err x) e)) in
+    if_err c.from_residual.result (λ (e : RoundFault). HasCause e mids) p.0 p.1 (subst (λ (e : RoundFault). HasCause e mids) (sym p.2) cause)
+
+pub returns-clause-ok : goal.returns-clause-ok
+returns-clause-ok g c = λ t o routes r.
+    is_told (round (home_in t routes) (seats c.args.nodes.now.items)) c.round.new.nodes.items c.drain.new.nodes.items c.args.events.now.items c.drain.new.events.items
+    (c.in_ok-round.ensures.ok t o routes r) c.in_ok-drain.ensures.made c.in_ok-drain.ensures.events
+
+pub returns-clause-net : goal.returns-clause-net
+returns-clause-net g c = drained_net c.round.new.nodes.items c.drain.new.nodes.items c.in_ok-drain.ensures.made c.in_ok-round.ensures.net
+
+pub returns-clause-same : goal.returns-clause-same
+returns-clause-same g c =
+    same_twice c.args.nodes.now.items c.round.new.nodes.items c.drain.new.nodes.items c.in_ok-round.ensures.same (drained_same c.round.new.nodes.items c.drain.new.nodes.items c.in_ok-drain.ensures.made)
+
+pub returns-clause-told : goal.returns-clause-told
+returns-clause-told g c = drained_told c.round.new.nodes.items c.drain.new.nodes.items c.in_ok-drain.ensures.made

@@ -1,0 +1,137 @@
+use Rattle.std.proofs.Common.{ℕ, ◌<◌, ◌+◌, ◌++◌, ◌∙◌, inl, inr, sym, refl, ap, subst, arith, length, length-append, get_or, [], List, take, Err}
+use Rattle.std.proofs.lemmas.List.{take_all}
+use Rattle.std.proofs.lemmas.Result.{err_from_is_err_and}
+use Rattle.nsi_outside.specs.Stream.{WritesAll, WritesFront}
+use Rattle.nsi_agent.specs.Homes.{home_in}
+use Rattle.trace_text.specs.Lines.{text_of}
+use Rattle.nsi_script.specs.declared.script.Group.{Group}
+use Rattle.nsi_play.specs.Play.{asks_among}
+use Rattle.agent_threads.specs.declared.fault.RunFault.{RunFault}
+use Rattle.agent_threads.specs.Made.{HasRunCause}
+use Rattle.agent_threads.specs.Nets.{seats, AtHomes}
+use Rattle.agent_threads.specs.Coming.{IsPlayedBy, IsGroupOver, GroupPasses}
+use Rattle.agent_threads.specs.Promise.{AllCanBeDone}
+use Rattle.agent_threads.proofs.Same.{all_same, still_of, same_twice}
+use Rattle.agent_threads.proofs.Coming.{played_none, played_all}
+use Rattle.agent_threads.proofs.Told.{on_err, writes_none, writes_more, script_passes, front_passes, group_more, some_of_play, can_at}
+use Rattle.agent_threads.proofs.Causes.{same_error, if_err, write_cause, not_long}
+use Rattle.agent_threads.proofs.run.play_all.Goals as goal
+
+pub loop-group-init : goal.loop-group-init
+loop-group-init g c = record {
+  way = ([], (λ t o routes r. played_none (home_in t routes) (seats c.args.nodes.now.items)), refl, writes_none c.args.topology.now (g.K.Sink.content c.args.out.now));
+  net = c.requires.net;
+  same = all_same c.args.nodes.now.items;
+  within = omega arith;
+  counted = omega arith;
+}
+
+pub play_group-requires-clause-can : goal.play_group-requires-clause-can
+play_group-requires-clause-can g c =
+    let l = c.loop-group in
+    let h : l.group-index < length c.args.groups.now = omega (arith, c.loop-group-test.true) in
+    record {
+      network = c.args.topology.now;
+      of = still_of c.args.topology.now c.args.nodes.now.items l.nodes.items l.invariant.same c.requires.of;
+      can = subst (λ (z : Group). AllCanBeDone c.args.topology.now z.acts) (sym c.group-item.is) (can_at c.args.topology.now c.args.groups.now l.group-index c.group-item.result h c.requires.can);
+    }
+
+pub loop-group-preserved : goal.loop-group-preserved
+loop-group-preserved g c =
+    let l = c.loop-group in
+    let w = l.invariant.way in
+    let u = c.in_ok-text.ensures.ok in
+    let d = c.group-item.result in
+    let start = seats c.args.nodes.now.items in
+    let news = seats c.play_group.new.nodes.items in
+    let h : l.group-index < length c.args.groups.now = omega (arith, c.loop-group-test.true) in
+    let next = c.in_ok-text.ensures.next ∙ ap (λ (z : Group). l.progress.asks + asks_among z.acts) c.group-item.is in
+    let wrote : WritesAll (g.K.Sink.content l.out) (g.K.Sink.content c.write_text.new.out) (text_of c.args.topology.now u.0) =
+    subst (λ (bytes : List ℕ). WritesAll (g.K.Sink.content l.out) (g.K.Sink.content c.write_text.new.out) bytes) (c.deref.ensures.value ∙ u.3) c.in_ok-write_text.ensures.all in
+    record {
+      way = (
+        w.0 ++ u.0,
+        (λ t o routes r.
+            subst (λ n. IsPlayedBy (home_in t routes) (take (l.group-index + 1) c.args.groups.now) start (w.0 ++ u.0) n news) (sym next)
+            (group_more (home_in t routes) c.args.groups.now l.group-index d start w.0 l.progress.asks (seats l.nodes.items) u.0 news h (w.1 t o routes r)
+            (subst (λ (z : Group). IsGroupOver (home_in t routes) z l.progress.asks (seats l.nodes.items) u.0 news) c.group-item.is (u.2 t (still_of t c.args.nodes.now.items l.nodes.items l.invariant.same o) routes r)))),
+        u.1 ∙ omega (arith, w.2, length-append w.0 u.0),
+        writes_more c.args.topology.now w.0 u.0 (g.K.Sink.content c.args.out.now) (g.K.Sink.content l.out) (g.K.Sink.content c.write_text.new.out) w.3 wrote,
+      );
+      net = c.in_ok-text.ensures.net;
+      same = same_twice c.args.nodes.now.items l.nodes.items c.play_group.new.nodes.items l.invariant.same c.in_ok-text.ensures.same;
+      within = c.in_ok-text.ensures.within;
+      counted = omega (arith, c.write_text.ensures.counted, l.invariant.counted);
+    }
+
+pub returns-in_err-text-clause-long : goal.returns-in_err-text-clause-long
+returns-in_err-text-clause-long g c = λ e.
+    let l = c.loop-group in
+    let w = l.invariant.way in
+    let d = c.group-item.result in
+    let start = seats c.args.nodes.now.items in
+    let h : l.group-index < length c.args.groups.now = omega (arith, c.loop-group-test.true) in
+    let p = err_from_is_err_and c.from_residual.result c.from_residual.ensures.1 in
+    let is_long = ap (λ x. Err x) (same_error c.from_residual.result p.0 c.in_err-text.field-0.0 _ p.1 p.2 e) in
+    let passes : AtHomes c.args.nodes.now.items (λ homes. GroupPasses c.args.limit l.progress.events homes (get_or c.args.groups.now l.group-index d) l.progress.asks (seats l.nodes.items)) =
+    λ t o routes r. subst (λ (z : Group). GroupPasses c.args.limit l.progress.events (home_in t routes) z l.progress.asks (seats l.nodes.items)) c.group-item.is
+    (c.in_err-text.ensures.long t (still_of t c.args.nodes.now.items l.nodes.items l.invariant.same o) routes r is_long) in (
+      l.group-index,
+      w.0,
+      seats l.nodes.items,
+      (λ t o routes r. played_all (home_in t routes) (take l.group-index c.args.groups.now) start w.0 l.progress.asks (seats l.nodes.items) (w.1 t o routes r)),
+      (λ t o routes r. front_passes (home_in t routes) c.args.groups.now l.group-index d start w.0 l.progress.asks (seats l.nodes.items) c.args.limit l.progress.events h (w.1 t o routes r) w.2 (passes t o routes r)),
+      (λ t o routes r. script_passes (home_in t routes) c.args.groups.now l.group-index d start w.0 l.progress.asks (seats l.nodes.items) c.args.limit l.progress.events h (w.1 t o routes r) w.2 (passes t o routes r)),
+      omega (arith, w.2, l.invariant.within),
+      w.3,
+    )
+
+pub returns-in_err-text-clause-front : goal.returns-in_err-text-clause-front
+returns-in_err-text-clause-front g c =
+    let l = c.loop-group in
+    let w = l.invariant.way in
+    let h : l.group-index < length c.args.groups.now = omega (arith, c.loop-group-test.true) in
+    on_err c.from_residual.result _ (some_of_play c.args.topology.now c.args.groups.now l.group-index c.group-item.result c.args.nodes.now.items l.nodes.items w.0 l.progress.asks
+    (g.K.Sink.content c.args.out.now) (g.K.Sink.content l.out) (g.K.Sink.content l.out) h l.invariant.same w.1 w.3 (inl refl))
+
+pub returns-in_err-write_text-clause-long : goal.returns-in_err-write_text-clause-long
+returns-in_err-write_text-clause-long g c = λ e.
+    let p = err_from_is_err_and c.from_residual-in_err-write_text.result c.from_residual-in_err-write_text.ensures.1 in
+    absurd (not_long c.in_err-write_text.field-0.0 c.in_err-write_text.ensures.cause (same_error c.from_residual-in_err-write_text.result p.0 c.in_err-write_text.field-0.0 _ p.1 p.2 e))
+
+pub returns-in_err-write_text-clause-cause : goal.returns-in_err-write_text-clause-cause
+returns-in_err-write_text-clause-cause g c =
+    let news = c.play_group.new.nodes.items in
+    let p = err_from_is_err_and c.from_residual-in_err-write_text.result c.from_residual-in_err-write_text.ensures.1 in
+    if_err c.from_residual-in_err-write_text.result (λ (e : RunFault). HasRunCause e news) p.0 p.1
+    (subst (λ (e : RunFault). HasRunCause e news) (sym p.2) (write_cause c.in_err-write_text.field-0.0 news c.in_err-write_text.ensures.cause))
+
+pub returns-in_err-write_text-clause-front : goal.returns-in_err-write_text-clause-front
+returns-in_err-write_text-clause-front g c =
+    let l = c.loop-group in
+    let w = l.invariant.way in
+    let u = c.in_ok-text.ensures.ok in
+    let news = seats c.play_group.new.nodes.items in
+    let h : l.group-index < length c.args.groups.now = omega (arith, c.loop-group-test.true) in
+    let front : WritesFront (g.K.Sink.content l.out) (g.K.Sink.content c.write_text.new.out) (text_of c.args.topology.now u.0) =
+    subst (λ (bytes : List ℕ). WritesFront (g.K.Sink.content l.out) (g.K.Sink.content c.write_text.new.out) bytes) (c.deref.ensures.value ∙ u.3) c.in_err-write_text.ensures.front in
+    let over : AtHomes l.nodes.items (λ homes. IsGroupOver homes (get_or c.args.groups.now l.group-index c.group-item.result) l.progress.asks (seats l.nodes.items) u.0 news) =
+    λ t o routes r. subst (λ (z : Group). IsGroupOver (home_in t routes) z l.progress.asks (seats l.nodes.items) u.0 news) c.group-item.is (u.2 t o routes r) in
+    on_err c.from_residual-in_err-write_text.result _ (some_of_play c.args.topology.now c.args.groups.now l.group-index c.group-item.result c.args.nodes.now.items l.nodes.items w.0 l.progress.asks
+    (g.K.Sink.content c.args.out.now) (g.K.Sink.content l.out) (g.K.Sink.content c.write_text.new.out) h l.invariant.same w.1 w.3 (inr (u.0, news, over, front)))
+
+pub returns-clause-done : goal.returns-clause-done
+returns-clause-done g c =
+    let l = c.loop-group in
+    let w = l.invariant.way in
+    let start = seats c.args.nodes.now.items in (
+      w.0,
+      seats l.nodes.items,
+      (λ t o routes r.
+          let whole : IsPlayedBy (home_in t routes) c.args.groups.now start w.0 l.progress.asks (seats l.nodes.items) =
+          subst (λ (gs : List Group). IsPlayedBy (home_in t routes) gs start w.0 l.progress.asks (seats l.nodes.items)) (take_all l.group-index c.args.groups.now (omega (arith, c.loop-group-test.false))) (w.1 t o routes r) in
+          played_all (home_in t routes) c.args.groups.now start w.0 l.progress.asks (seats l.nodes.items) whole),
+      w.2,
+      l.invariant.within,
+      w.3,
+    )

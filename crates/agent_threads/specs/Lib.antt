@@ -1,0 +1,4 @@
+pub mod Nets
+pub mod Made
+pub mod Coming
+pub mod Promise

@@ -1,0 +1,71 @@
+-- What a run promises.
+use Rattle.std.specs.Prelude.{ℕ, ◌≤◌, ◌+◌, ◌≡◌, ◌⊎◌, false, List, [], ◌∷◌, length, take, Option}
+use Rattle.nsi_primitive.specs.Printable.{IsPrintableAsk}
+use Rattle.nsi_primitive.specs.declared.entry.Event.{Event}
+use Rattle.nsi_outside.specs.Stream.{WritesAll, WritesFront}
+use Rattle.stp_topology.specs.declared.network.Network.{Network}
+use Rattle.requester_agent.specs.Setting.{IsRequester}
+use Rattle.requester_agent.specs.Steps.{is_query_ask}
+use Rattle.trace_text.specs.Lines.{text_of}
+use Rattle.nsi_script.specs.declared.script.Act.{Act}
+use Rattle.nsi_script.specs.declared.script.Group.{Group}
+use Rattle.agent_node.specs.Kept.{Kept}
+use Rattle.nsi_play.specs.Rounds.{Net}
+use Rattle.nsi_play.specs.Play.{IsPlayFrom, PassesFrom}
+use Rattle.agent_threads.specs.Nets.{seats, AtHomes, AreOf}
+use Rattle.agent_threads.specs.Coming.{IsGroupOver}
+
+---- What is asked of a script
+
+-- a requester asks, and not for what an agent knows
+abbrev pub CanBeDone : Network → Act → Type 0
+CanBeDone t (Act.Ask a ask) = IsRequester t a × ((is_query_ask ask.what ≡ false) × IsPrintableAsk ask)
+CanBeDone t (Act.Force a n) = Unit {0}
+CanBeDone t (Act.Restart a) = Unit {0}
+
+abbrev pub AllCanBeDone : Network → List Act → Type 0
+AllCanBeDone t [] = Unit {0}
+AllCanBeDone t (a ∷ rest) = CanBeDone t a × AllCanBeDone t rest
+
+-- an act that can be done in the topology of these agents
+pub record CanAct (act : Act) (ks : List Kept) : Type 0 where
+  pub network : Network
+  pub of : AreOf network ks
+  pub can : CanBeDone network act
+
+-- the same of many
+pub record CanDo (acts : List Act) (ks : List Kept) : Type 0 where
+  pub network : Network
+  pub of : AreOf network ks
+  pub can : AllCanBeDone network acts
+
+abbrev pub CanBePlayed : Network → List Group → Type 0
+CanBePlayed t [] = Unit {0}
+CanBePlayed t (g ∷ gs) = AllCanBeDone t g.acts × CanBePlayed t gs
+
+---- What is written
+
+-- the text of the play was written, and this is how many events it has
+abbrev pub WritesPlay : Network → ℕ → List Group → List Kept → Option (List ℕ) → Option (List ℕ) → ℕ → Type 0
+WritesPlay t limit script start old new count =
+    (events : List Event) × (last : Net) × AtHomes start (λ homes. IsPlayFrom script homes (seats start) events last)
+    × (count ≡ length events) × (count ≤ limit) × WritesAll old new (text_of t events)
+
+-- these groups of the script were played and written, and with the next one the play has too many events
+abbrev pub WritesTooLong : Network → ℕ → List Group → List Kept → Option (List ℕ) → Option (List ℕ) → Type 0
+WritesTooLong t limit script start old new =
+    (groups : ℕ) × (events : List Event) × (last : Net) × AtHomes start (λ homes. IsPlayFrom (take groups script) homes (seats start) events last)
+    × AtHomes start (λ homes. PassesFrom limit (take (groups + 1) script) homes (seats start))
+    × AtHomes start (λ homes. PassesFrom limit script homes (seats start))
+    × (length events ≤ limit) × WritesAll old new (text_of t events)
+
+-- a front of the text of some groups of the play was written
+abbrev pub WritesSomeOfPlay : Network → List Group → List Kept → Option (List ℕ) → Option (List ℕ) → Type 0
+WritesSomeOfPlay t script start old new =
+    (groups : ℕ) × (events : List Event) × (last : Net) × AtHomes start (λ homes. IsPlayFrom (take groups script) homes (seats start) events last)
+    × WritesFront old new (text_of t events)
+
+-- nothing of the group was written, or it is over and a front of its text was
+abbrev pub WritesSomeOfGroup : Network → Group → ℕ → List Kept → Option (List ℕ) → Option (List ℕ) → Type 0
+WritesSomeOfGroup t g next x old new =
+    (new ≡ old) ⊎ ((own : List Event) × (y : Net) × AtHomes x (λ homes. IsGroupOver homes g next (seats x) own y) × WritesFront old new (text_of t own))

@@ -1,0 +1,14 @@
+//! Runs of scripts: all agents of a topology, round after round.
+#![tactic(auto)]
+
+mod act;
+pub mod fault;
+mod group;
+mod lines;
+mod meeting;
+mod rounds;
+mod run;
+
+pub use fault::{RoundFault, RunFault};
+pub use rounds::{round, settled};
+pub use run::play_all;

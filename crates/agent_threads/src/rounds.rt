@@ -1,0 +1,123 @@
+//! Rounds of all agents.
+
+ghost use Rattle.std.specs.Prelude.{◌≡◌, ◌<◌, ◌+◌, ℕ, [], ◌∷◌, length, Option, Some, None, IsErrOf, OnOk, OnErr};
+ghost use Rattle.std.specs.List.{list_all};
+ghost use Rattle.agent_node.specs.Made.{IsTurn};
+ghost use Rattle.nsi_play.specs.Rounds.{round, events_of, all_quiet};
+ghost use Rattle.agent_threads.specs.Nets.{seats, EachIs, AtHomes, AreSame, AreUsable, AreNet};
+ghost use Rattle.agent_threads.specs.Made.{HaveRoom, failure_at, stop_at, first_failure, first_stop, fault_of, answer, HasRisen};
+
+use crate::fault::RoundFault;
+use crate::meeting::meet_all;
+use agent_node::{Node, TurnFault};
+use journal_entry::Journal;
+use nsi_base::AgentNo;
+use std::alloc::Global;
+
+/// Every agent has its turn, also where another one's fails: each keeps its fault.
+fn turn_all<'t, J: Journal + Drop>(alloc: Global, nodes: &mut Vec<Node<'t, J>>, room: u64)
+    requires usable { AreUsable nodes.old.items }
+    requires few { HaveRoom room nodes.old.items }
+    ensures { EachIs (IsTurn room) nodes.old.items nodes.new.items }
+{
+    for node in nodes.iter_mut() {
+        node.take_turn(alloc, room);
+    }
+}
+
+fn failure_of(agent: AgentNo, fault: Option<TurnFault>) -> Option<RoundFault>
+    ensures { result ≡ failure_at agent fault }
+{
+    match fault? {
+        TurnFault::Long => Some(RoundFault::Long),
+        TurnFault::DiskFault => Some(RoundFault::DiskFault(agent)),
+        TurnFault::Stopped => None,
+        TurnFault::NoMemory => Some(RoundFault::NoMemory),
+    }
+}
+
+fn stop_of(agent: AgentNo, fault: Option<TurnFault>) -> Option<RoundFault>
+    ensures { result ≡ stop_at agent fault }
+{
+    match fault {
+        Some(TurnFault::Stopped) => Some(RoundFault::Stopped(agent)),
+        _ => None,
+    }
+}
+
+/// The fault of the first agent whose turn failed otherwise than by a stop.
+fn first_failure<'t, J: Journal + Drop>(nodes: &[Node<'t, J>]) -> Option<RoundFault>
+    ensures { result ≡ first_failure nodes.now }
+{
+    for node in nodes {
+        let failure = failure_of(node.number(), node.fault());
+        if failure.is_some() {
+            return failure;
+        }
+    }
+    None
+}
+
+/// The stop of the first agent whose disk stopped.
+fn first_stop<'t, J: Journal + Drop>(nodes: &[Node<'t, J>]) -> Option<RoundFault>
+    ensures { result ≡ first_stop nodes.now }
+{
+    for node in nodes {
+        let stop = stop_of(node.number(), node.fault());
+        if stop.is_some() {
+            return stop;
+        }
+    }
+    None
+}
+
+fn fault_in<'t, J: Journal + Drop>(nodes: &[Node<'t, J>]) -> Option<RoundFault>
+    ensures { result ≡ fault_of nodes.now }
+{
+    first_failure(nodes).or(first_stop(nodes))
+}
+
+/// A round: every agent has its turn, as if all at once, and then each learns what was let through to it. Every turn has the whole
+/// room. Where one fails, all are made; the agents are then only good for giving their disks back.
+pub fn round<'t, J: Journal + Drop>(
+    alloc: Global,
+    nodes: &mut Vec<Node<'t, J>>,
+    room: u64,
+) -> Result<(), RoundFault>
+    requires net { AreNet nodes.old.items }
+    requires few { HaveRoom room nodes.old.items }
+    ensures ok { AtHomes nodes.old.items (λ homes.
+        OnOk result (seats nodes.new.items ≡ round homes (seats nodes.old.items))) }
+    ensures net { OnOk result (AreNet nodes.new.items) }
+    ensures same { OnOk result (AreSame nodes.old.items nodes.new.items) }
+    ensures long { AtHomes nodes.old.items (λ homes. IsErrOf result RoundFault.Long →
+        let before = seats nodes.old.items in
+        length (events_of before) + room < length (events_of (round homes before))) }
+    ensures disk { (a : ℕ) → IsErrOf result (RoundFault.DiskFault a) →
+        HasRisen a nodes.old.items nodes.new.items }
+    ensures stopped { (a : ℕ) → IsErrOf result (RoundFault.Stopped a) →
+        HasRisen a nodes.old.items nodes.new.items }
+
+    // Of several faults it is the first agent's that isn't a stop.
+    ensures first { OnErr result (result ≡ answer (fault_of nodes.new.items)) }
+{
+    turn_all(alloc, nodes, room);
+    if let Some(fault) = fault_in(nodes) {
+        return Err(fault);
+    }
+    meet_all(nodes);
+    Ok(())
+}
+
+/// Whether all agents are quiet: nothing is unsynced, no work waits, nothing is to be pushed and nothing came.
+pub fn settled<'t, J: Journal + Drop>(nodes: &[Node<'t, J>]) -> bool
+    ensures { AtHomes nodes.now (λ homes. result ≡ all_quiet homes (seats nodes.now)) }
+{
+    for node in nodes {
+        let is_quiet = node.quiet();
+        if !is_quiet {
+            return false;
+        }
+    }
+    true
+}

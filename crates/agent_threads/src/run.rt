@@ -1,0 +1,157 @@
+//! A whole run over agents that stand ready.
+
+ghost use Rattle.std.specs.Prelude.{◌≡◌, ◌<◌, ◌≤◌, ◌+◌, ℕ, [], List, length, IfOk, IfErr, OnOk, OnErr, IsErrOf};
+ghost use Rattle.std.specs.List.{All};
+ghost use Rattle.nsi_outside.specs.Stream.{WritesAll, WritesFront};
+ghost use Rattle.nsi_primitive.specs.Printable.{IsPrintableEvent};
+ghost use Rattle.nsi_primitive.specs.declared.entry.Event.{Event as EventOf};
+ghost use Rattle.trace_text.specs.Lines.{text_of};
+ghost use Rattle.nsi_play.specs.Play.{asks_among};
+ghost use Rattle.agent_threads.specs.Nets.{seats, AreOf, AtHomes, AreSame, AreNet};
+ghost use Rattle.agent_threads.specs.Made.{run_fault, HasCause, HasRunCause, IsOfWriting};
+ghost use Rattle.agent_threads.specs.Coming.{IsGroupOver, GroupPasses};
+ghost use Rattle.agent_threads.specs.Promise.{CanDo, CanBePlayed, WritesPlay, WritesTooLong, WritesSomeOfPlay};
+
+use crate::fault::{RoundFault, RunFault};
+use crate::group::{begin, settle};
+use crate::lines::lines;
+use agent_node::Node;
+use journal_entry::Journal;
+use nsi_outside::sink::write_all;
+use nsi_outside::{Sink, SinkError};
+use nsi_primitive::Event;
+use nsi_script::Group;
+use std::alloc::Global;
+use stp_topology::Topology;
+
+/// A group, which nobody is told yet. It gives the number of the ask behind it.
+fn make_group<'t, J: Journal + Drop>(
+    alloc: Global,
+    nodes: &mut Vec<Node<'t, J>>,
+    group: &Group,
+    number: u32,
+    events: &mut Vec<Event>,
+    room: u64,
+) -> Result<u32, RoundFault>
+    requires net { AreNet nodes.old.items }
+    requires can { CanDo group.now.acts nodes.old.items }
+    requires none { events.old.items ≡ [] }
+    ensures ok { AtHomes nodes.old.items (λ homes. OnOk result
+        (IsGroupOver homes group.now number (seats nodes.old.items)
+        events.new.items (seats nodes.new.items))) }
+    ensures next { IfOk result (λ n. n ≡ number + asks_among group.now.acts) }
+    ensures net { OnOk result (AreNet nodes.new.items) }
+    ensures same { OnOk result (AreSame nodes.old.items nodes.new.items) }
+    ensures printable { OnOk result (All IsPrintableEvent events.new.items) }
+    ensures within { OnOk result (length events.new.items ≤ room) }
+    ensures long { AtHomes nodes.old.items (λ homes. IsErrOf result RoundFault.Long →
+        GroupPasses room 0 homes group.now number (seats nodes.old.items)) }
+    ensures cause { IfErr result (λ e. HasCause e nodes.new.items) }
+{
+    let next = begin(alloc, nodes, group, number, events, room)?;
+    settle(alloc, nodes, events, room)?;
+    Ok(next)
+}
+
+fn run_fault(fault: RoundFault) -> RunFault
+    ensures { result ≡ run_fault fault }
+{
+    match fault {
+        RoundFault::Long => RunFault::Long,
+        RoundFault::DiskFault(agent) | RoundFault::Stopped(agent) => RunFault::DiskFault(agent),
+        RoundFault::NoMemory => RunFault::NoMemory,
+    }
+}
+
+/// How many events and asks there were.
+#[derive(Clone, Copy, Debug, PartialEq, Eq)]
+pub struct Progress {
+    pub events: u64,
+    pub asks: u32,
+}
+
+/// A group, and its text, which isn't written yet.
+fn play_group<'t, J: Journal + Drop>(
+    alloc: Global,
+    topology: &Topology,
+    nodes: &mut Vec<Node<'t, J>>,
+    group: &Group,
+    before: Progress,
+    limit: u64,
+) -> Result<(Vec<u8>, Progress), RunFault>
+    requires net { AreNet nodes.old.items }
+    requires can { CanDo group.now.acts nodes.old.items }
+    requires within { before.events ≤ limit }
+    ensures ok { IfOk result (λ r. (own : List EventOf) × (r.1.events ≡ before.events + length own)
+        × AtHomes nodes.old.items (λ homes.
+        IsGroupOver homes group.now before.asks (seats nodes.old.items) own (seats nodes.new.items))
+        × (r.0.items ≡ text_of topology.now own)) }
+    ensures next { IfOk result (λ r. r.1.asks ≡ before.asks + asks_among group.now.acts) }
+    ensures within { IfOk result (λ r. r.1.events ≤ limit) }
+    ensures net { OnOk result (AreNet nodes.new.items) }
+    ensures same { OnOk result (AreSame nodes.old.items nodes.new.items) }
+    ensures long { AtHomes nodes.old.items (λ homes. IsErrOf result RunFault.Long →
+        GroupPasses limit before.events homes group.now before.asks (seats nodes.old.items)) }
+    ensures cause { IfErr result (λ e. HasRunCause e nodes.new.items) }
+    ensures mild { IsErrOf result RunFault.WriteFault → ⊥ }
+{
+    let mut events = Vec::new(alloc);
+    let room = limit - before.events;
+    let asks = match make_group(alloc, nodes, group, before.asks, &mut events, room) {
+        Ok(asks) => asks,
+        Err(fault) => return Err(run_fault(fault)),
+    };
+    let text = lines(alloc, topology, &events)?;
+    let events = before.events + events.len() as u64;
+    Ok((text, Progress { events, asks }))
+}
+
+fn write_text<K: Sink>(out: &mut K, text: &[u8]) -> Result<(), RunFault>
+    ensures all { OnOk result (WritesAll (K.content out.old) (K.content out.new) text.now) }
+    ensures front { OnErr result (WritesFront (K.content out.old) (K.content out.new) text.now) }
+    ensures cause { IfErr result IsOfWriting }
+    ensures write { IsErrOf result RunFault.WriteFault → K.faults out.old < K.faults out.new }
+    ensures counted { K.faults out.old ≤ K.faults out.new }
+{
+    match write_all(out, text) {
+        Ok(()) => Ok(()),
+        Err(SinkError::Failed) => Err(RunFault::WriteFault),
+        Err(SinkError::NoMemory) => Err(RunFault::NoMemory),
+    }
+}
+
+/// Plays groups over agents that stand ready, and writes each group's events in its end. It answers how many events there were.
+pub fn play_all<'t, J: Journal + Drop, K: Sink>(
+    alloc: Global,
+    topology: &Topology,
+    nodes: &mut Vec<Node<'t, J>>,
+    groups: &[Group],
+    limit: u64,
+    out: &mut K,
+) -> Result<u64, RunFault>
+    requires net { AreNet nodes.old.items }
+    requires of { AreOf topology.now nodes.old.items }
+    requires can { CanBePlayed topology.now groups.now }
+
+    // What is written is the text of the play.
+    ensures done { IfOk result (λ n. WritesPlay topology.now limit groups.now nodes.old.items
+        (K.content out.old) (K.content out.new) n) }
+
+    // It is too long only where the play passes the limit, and then the groups that fit were written.
+    ensures long { IsErrOf result RunFault.Long → WritesTooLong topology.now limit groups.now
+        nodes.old.items (K.content out.old) (K.content out.new) }
+
+    // Another fault comes only from outside, and leaves a front of the text.
+    ensures front { OnErr result (WritesSomeOfPlay topology.now groups.now nodes.old.items
+        (K.content out.old) (K.content out.new)) }
+    ensures cause { IfErr result (λ e. HasRunCause e nodes.new.items) }
+    ensures write { IsErrOf result RunFault.WriteFault → K.faults out.old < K.faults out.new }
+{
+    let mut progress = Progress { events: 0, asks: 0 };
+    for group in groups {
+        let (text, next) = play_group(alloc, topology, nodes, group, progress, limit)?;
+        write_text(out, &text)?;
+        progress = next;
+    }
+    Ok(progress.events)
+}

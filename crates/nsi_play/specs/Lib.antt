@@ -1,0 +1,4 @@
+pub mod Openings
+pub mod Rounds
+pub mod Play
+pub mod Laws
