@@ -7,3 +7,6 @@ pub mod plan;
 
 pub use ends::{Incoming, Outgoing, PushFault, Pushed, link, meet};
 pub use plan::{How, LinkFault, ParcelKind};
+
+#[cfg(test)]
+mod tests;

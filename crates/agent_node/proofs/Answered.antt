@@ -2,8 +2,6 @@
 use Rattle.std.proofs.Common.{ℕ, ◌≡◌, ◌↔◌, ◌&&◌, Bool, true, false, not, List, Option, Some, None, IsTrue, IsSome, is_some, refl, sym, ap, ◌∙◌}
 use Rattle.nsi_primitive.specs.Printable.{is_ask}
 use Rattle.nsi_primitive.specs.Messages.{is_request, connection_of}
-use Rattle.nsi_primitive.specs.declared.ask.Ask.{Ask}
-use Rattle.nsi_primitive.specs.declared.ask.AskAnswer.{AskAnswer}
 use Rattle.nsi_primitive.specs.declared.ask.ReserveAsk.{ReserveAsk}
 use Rattle.nsi_primitive.specs.declared.ask.What.{What}
 use Rattle.nsi_primitive.specs.declared.entry.Entry.{Entry}
@@ -24,7 +22,7 @@ use Rattle.agent_state.specs.declared.parent.View.{View}
 use Rattle.aggregator_agent.specs.Setting.{Setting as AggregatorSetting, setting_of as aggregator_of, agent_in}
 use Rattle.aggregator_agent.specs.Steps.{request_at, opens_between, opens, request_to, accepts, answers as aggregator_answers, hears, receives, sees, is_seen, ticks as aggregator_ticks, step as aggregator_step, after as aggregator_after, after_if as aggregator_if, may_take as aggregator_may, is_for_aggregator}
 use Rattle.requester_agent.specs.Setting.{Setting as RequesterSetting, setting_of as requester_of}
-use Rattle.requester_agent.specs.Steps.{find_view, refuses, asks_at, asks_new, asks_found, reserves, asked_of, asked, is_query_ask, hears_if, ticks as requester_ticks, acked, answers as requester_answers, step as requester_step, after as requester_after, after_if as requester_if, may_take as requester_may, is_for_requester}
+use Rattle.requester_agent.specs.Steps.{find_view, asks_at, asks_new, asks_found, reserves, asked_of, asked, is_query_ask, hears_if, ticks as requester_ticks, acked, answers as requester_answers, step as requester_step, after as requester_after, after_if as requester_if, may_take as requester_may, is_for_requester}
 use Rattle.provider_agent.specs.Steps.{is_for_provider}
 use Rattle.nsi_agent.specs.Homes.{Routes, home_in, role_in}
 use Rattle.nsi_agent.specs.Steps.{after, after_as, may_take}

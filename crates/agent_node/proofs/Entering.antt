@@ -1,14 +1,13 @@
 -- An entry that was taken, as the agent and its lists tell of it.
-use Rattle.std.proofs.Common.{ℕ, ◌+◌, ◌<◌, ◌≡◌, ◌↔◌, List, [], ◌∷◌, ◌++◌, Option, IsTrue, IsSome, true, refl, sym, ap, ◌∙◌, subst}
+use Rattle.std.proofs.Common.{ℕ, ◌≡◌, ◌↔◌, List, Option, IsTrue, IsSome, true, refl, sym, ap, ◌∙◌, subst}
 use Rattle.nsi_primitive.specs.Printable.{is_ask}
 use Rattle.nsi_primitive.specs.declared.ask.AskAnswer.{AskAnswer}
 use Rattle.nsi_primitive.specs.declared.entry.Entry.{Entry}
 use Rattle.nsi_primitive.specs.declared.entry.Event.{Event}
 use Rattle.nsi_primitive.specs.declared.message.Message.{Message}
-use Rattle.stp_topology.specs.declared.network.Network.{Network}
 use Rattle.stp_topology.specs.Network.{kind_of}
 use Rattle.agent_state.specs.State.{AgentState, AgentStepped}
-use Rattle.nsi_agent.specs.Homes.{Home, Routes, home_in}
+use Rattle.nsi_agent.specs.Homes.{Home}
 use Rattle.nsi_agent.specs.Standing.{Standing, IsAfterBySome}
 use Rattle.nsi_agent.specs.Steps.{after, may_take}
 use Rattle.agent_node.specs.Doors.{Door}

@@ -1,5 +1,5 @@
 -- Messages that are queued again.
-use Rattle.std.proofs.Common.{ℕ, ◌≡◌, Bool, true, false, cond, List, [], ◌∷◌, ◌++◌, Option, refl, sym, ap, ◌∙◌, append_assoc, filter}
+use Rattle.std.proofs.Common.{ℕ, ◌≡◌, Bool, true, false, cond, List, [], ◌∷◌, ◌++◌, refl, sym, ap, ◌∙◌, append_assoc, filter}
 use Rattle.nsi_primitive.specs.declared.message.Message.{Message}
 use Rattle.nsi_agent.specs.Homes.{Home}
 use Rattle.agent_node.specs.Acts.{overdue, tick_at, ticked}

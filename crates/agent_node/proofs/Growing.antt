@@ -1,5 +1,5 @@
 -- The steps of a turn only add events.
-use Rattle.std.proofs.Common.{ℕ, zero, suc, ◌+◌, ◌-◌, ◌<◌, ◌≤◌, ◌≡◌, ◌↔◌, Bool, true, false, List, [], ◌∷◌, ◌++◌, refl, sym, ap, ◌∙◌, arith, length, length-append, le_refl, le_trans, add-one, Option, Some, None, ◌==◌}
+use Rattle.std.proofs.Common.{ℕ, zero, suc, ◌+◌, ◌-◌, ◌<◌, ◌≤◌, ◌≡◌, ◌↔◌, Bool, true, false, List, [], ◌∷◌, refl, sym, ap, ◌∙◌, arith, length, length-append, le_refl, le_trans, add-one, Option, Some, None, ◌==◌}
 use Rattle.nsi_primitive.specs.Messages.{identity}
 use Rattle.nsi_primitive.specs.declared.entry.Entry.{Entry}
 use Rattle.nsi_primitive.specs.declared.entry.Input.{Input}
@@ -10,7 +10,7 @@ use Rattle.nsi_primitive.specs.declared.state.Machine.{Machine}
 use Rattle.nsi_agent.specs.Homes.{Home}
 use Rattle.nsi_agent.specs.Steps.{after, is_new, waits, work_of, works_left}
 use Rattle.agent_node.specs.Seat.{Seat, entered, enters, enters_now, enters_if, now_at, queues}
-use Rattle.agent_node.specs.Turns.{takes, takes_all, works_off, work_then, worked, sync_event, syncs, syncs_if, synced_all, turn_entered, turn_with}
+use Rattle.agent_node.specs.Turns.{takes, takes_all, works_off, work_then, worked, sync_event, syncs_if, synced_all, turn_entered, turn_with}
 
 abbrev pub count : Seat → ℕ
 count s = length s.events

@@ -1,5 +1,5 @@
 -- The first door, and the first wires, to an agent.
-use Rattle.std.proofs.Common.{ℕ, ◌≡◌, List, [], ◌∷◌, ◌++◌, Bool, Option, Some, None, if◌then◌else◌, ◌==◌, refl, sym, ap, ◌∙◌, map, eq-eqb, ne_eqb, true, false, ◌⊎◌, inl, inr, length, take, drop, append-nil, arith}
+use Rattle.std.proofs.Common.{ℕ, ◌≡◌, List, [], ◌∷◌, ◌++◌, Bool, Option, Some, None, if◌then◌else◌, ◌==◌, refl, sym, ap, ◌∙◌, map, eq-eqb, ne_eqb, true, false, inl, inr, length, take, drop, append-nil, arith}
 use Rattle.std.proofs.lemmas.List.{drop_all, take_all}
 use Rattle.std.proofs.lemmas.Bool.{cases_eq}
 use Rattle.nsi_primitive.specs.declared.message.Identity.{Identity}

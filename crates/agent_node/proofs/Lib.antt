@@ -9,3 +9,4 @@ pub mod Stepping
 pub mod Making
 pub mod Filtering
 pub mod Beginning
+pub mod Pairing

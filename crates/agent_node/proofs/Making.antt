@@ -17,7 +17,7 @@ use Rattle.agent_node.specs.Turns.{lying, cleared, syncs, syncs_if, synced_all, 
 use Rattle.agent_node.specs.Faults.{fault_by}
 use Rattle.agent_node.specs.Seated.{Seated, AtSeat, Stays, Goes}
 use Rattle.agent_node.specs.Kept.{Kept, kept_with, IsSameAgent}
-use Rattle.agent_node.specs.Made.{HasTurnCause, IsMade, IsSynced, IsTurnWith, IsTurn, unsynced, turn_keeps}
+use Rattle.agent_node.specs.Made.{HasTurnCause, IsSynced, IsTurnWith, IsTurn, unsynced, turn_keeps}
 use Rattle.agent_node.proofs.Growing.{count, turn_synced, turn_from_entered}
 use Rattle.agent_node.proofs.Stepping.{none, no_fault, at_before}
 

@@ -1,5 +1,5 @@
 -- A queue whose front is let through, parcel by parcel.
-use Rattle.std.proofs.Common.{ℕ, zero, suc, ◌+◌, ◌-◌, ◌<◌, ◌≤◌, ◌≡◌, List, [], ◌∷◌, ◌++◌, refl, sym, ap, ◌∙◌, subst, arith, length, take, drop, length-append, append_assoc, append-nil, Option, Some, option_to_list, true, ◌↔◌, ◌⊎◌, inl, inr, Result, Ok, Err, IsErrOf, leb-true}
+use Rattle.std.proofs.Common.{ℕ, zero, suc, ◌-◌, ◌<◌, ◌≤◌, ◌≡◌, List, [], ◌∷◌, ◌++◌, refl, sym, ap, ◌∙◌, subst, arith, length, take, drop, length-append, append_assoc, append-nil, Option, Some, option_to_list, true, ◌↔◌, inl, inr, Result, Ok, Err, IsErrOf, leb-true}
 use Rattle.std.proofs.lemmas.Bool.{cases_Bool, leb-false}
 use Rattle.agent_link.specs.declared.ends.Pushed.{Pushed}
 use Rattle.agent_link.specs.declared.ends.PushFault.{PushFault}

@@ -1,8 +1,8 @@
 -- Steps of a turn, one after another.
-use Rattle.std.proofs.Common.{ℕ, ◌+◌, ◌<◌, ◌≤◌, ◌≡◌, Option, Some, None, refl, sym, ap, ◌∙◌, subst, arith, length, le_trans}
+use Rattle.std.proofs.Common.{ℕ, ◌+◌, ◌<◌, ◌≤◌, ◌≡◌, Option, Some, None, refl, sym, ap, ◌∙◌, subst, arith, le_trans}
 use Rattle.nsi_primitive.specs.declared.message.Parcel.{Parcel}
 use Rattle.agent_state.specs.Entries.{most_entries}
-use Rattle.nsi_agent.specs.Homes.{Home, Routes, AreRoutes, home_in}
+use Rattle.nsi_agent.specs.Homes.{Home, AreRoutes, home_in}
 use Rattle.agent_node.specs.declared.fault.TurnFault.{TurnFault}
 use Rattle.agent_node.specs.Seat.{Seat, queues}
 use Rattle.agent_node.specs.Seated.{Seated, AtSeat, Stays, Goes}

@@ -71,7 +71,11 @@ pub record AreEnds (others : List ℕ) (outgoing incoming : List Half) : Type 0 
   pub shut : All IsShut outgoing
   pub known : All IsShut incoming
 
+-- the wires of two ends to an agent
+abbrev pub plug_by : ℕ → Half → Half → Plug
+plug_by b out inc = record { other = b; out = out.wire; inc = inc.wire }
+
 -- the wires of these ends, in order
 abbrev pub plugs_of : List ℕ → List Half → List Half → List Plug
-plugs_of (b ∷ bs) (o ∷ os) (i ∷ is) = record { other = b; out = o.wire; inc = i.wire } ∷ plugs_of bs os is
+plugs_of (b ∷ bs) (o ∷ os) (i ∷ is) = plug_by b o i ∷ plugs_of bs os is
 plugs_of _ _ _ = []

@@ -228,10 +228,15 @@ impl<'t, J: Journal + Drop> Node<'t, J> {
         ensures kept { J.kept result ≡ self.entry.kept }
     {
         let Node {
-            core: _,
+            core,
             journal,
             fault: _,
         } = self;
+        let_go(core);
         journal
     }
+}
+
+fn let_go(core: Core<'_>) {
+    drop(core);
 }

@@ -147,6 +147,10 @@ fn parts<'t>(
     Ok((others, links, made))
 }
 
+fn let_go(agent: Agent<'_>) {
+    drop(agent);
+}
+
 impl<'t, D: Disk + Drop> Node<'t, DiskJournal<D>> {
     /// The agent of that number, which has taken nothing yet. Its disk is emptied. The ends of its links are given in the order of
     /// the numbers of the agents that they go to.
@@ -189,12 +193,16 @@ impl<'t, D: Disk + Drop> Node<'t, DiskJournal<D>> {
                     fault: None,
                 })
             }
-            Err(fault) => Err(NodeFault {
-                cause: fault.cause,
-                disk: fault.disk,
-                outgoing,
-                incoming,
-            }),
+            Err(fault) => {
+                let_go(made);
+                drop((others, links));
+                Err(NodeFault {
+                    cause: fault.cause,
+                    disk: fault.disk,
+                    outgoing,
+                    incoming,
+                })
+            }
         }
     }
 

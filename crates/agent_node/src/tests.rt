@@ -2,15 +2,15 @@
 
 mod pair;
 
-ghost use Rattle.std.specs.Prelude.{◌≡◌, IfOk};
-ghost use Rattle.stp_topology.specs.declared.network.Network.{Network};
+ghost use Rattle.std.specs.Prelude.{◌≡◌, ◌≤◌, ◌<◌, None, length, IfSome, IsTrue};
 ghost use Rattle.agent_node.specs.Kept.{AreLinked};
 
 use crate::Node;
+use agent_link::link;
 use journal_entry::Journal;
-use nsi_base::{AgentNo, Second};
+use nsi_base::{AgentNo, List};
 use nsi_primitive::{AskAnswer, Event, Happening, Input, Kind, Machine};
-use pair::{ask, pair};
+use pair::{MemoryNode, ask, begin};
 use std::alloc::Global;
 use std::rt::HostRuntime;
 use std::test::Fail;
@@ -51,7 +51,7 @@ const RESERVED: [(u16, Seen); 15] = [
     (0, Seen::Synced(5)),
 ];
 
-fn seen(event: &Event) -> Seen {
+fn happened(event: &Event) -> Seen {
     match &event.what {
         Happening::Entry { entry, answer: _ } => match &entry.input {
             Input::Ask { .. } => Seen::Asked,
@@ -72,10 +72,8 @@ fn seen(event: &Event) -> Seen {
 /// Whether these are the events of the list, in order.
 fn are_seen(events: &[Event]) -> bool {
     events.len() == RESERVED.len()
-        && events
-            .iter()
-            .zip(RESERVED.iter())
-            .all(|(event, row)| event.agent.get() == row.0 && seen(event) == row.1)
+        && events.iter().zip(RESERVED.iter()).all(|(event, row)| event.agent.get() == row.0
+            && happened(event) == row.1)
 }
 
 fn is_usable<J: Journal + Drop>(node: &Node<'_, J>) -> bool
@@ -87,7 +85,9 @@ fn is_usable<J: Journal + Drop>(node: &Node<'_, J>) -> bool
 
 /// Takes the events away.
 fn tell<J: Journal + Drop>(node: &mut Node<'_, J>, log: &mut Vec<Event>) -> Result<(), Fail>
-    ensures { IsOfOne node.old node.new }
+    ensures plugs { node.new.plugs ≡ node.old.plugs }
+    ensures number { node.new.seat.number ≡ node.old.seat.number }
+    ensures network { node.new.network ≡ node.old.network }
 {
     log.append(&mut node.take_events())?;
     Ok(())
@@ -98,7 +98,9 @@ fn tick<J: Journal + Drop>(
     node: &mut Node<'_, J>,
     log: &mut Vec<Event>,
 ) -> Result<(), Fail>
-    ensures { IsOfOne node.old node.new }
+    ensures plugs { node.new.plugs ≡ node.old.plugs }
+    ensures number { node.new.seat.number ≡ node.old.seat.number }
+    ensures network { node.new.network ≡ node.old.network }
 {
     if !is_usable(node) {
         return Err(Fail::from("a usable node"));
@@ -113,7 +115,9 @@ fn turn<J: Journal + Drop>(
     node: &mut Node<'_, J>,
     log: &mut Vec<Event>,
 ) -> Result<(), Fail>
-    ensures { IsOfOne node.old node.new }
+    ensures plugs { node.new.plugs ≡ node.old.plugs }
+    ensures number { node.new.seat.number ≡ node.old.seat.number }
+    ensures network { node.new.network ≡ node.old.network }
 {
     if !is_usable(node) {
         return Err(Fail::from("a usable node"));
@@ -151,7 +155,9 @@ fn ask_at<J: Journal + Drop>(
     requires within { number < length topology.now.agents }
     requires network { r.old.network ≡ topology.now }
     requires number { r.old.seat.number ≡ number }
-    ensures { IsOfOne r.old r.new }
+    ensures plugs { r.new.plugs ≡ r.old.plugs }
+    ensures number { r.new.seat.number ≡ r.old.seat.number }
+    ensures network { r.new.network ≡ r.old.network }
 {
     if !is_usable(r) {
         return Err(Fail::from("a usable node"));
@@ -164,4 +170,94 @@ fn ask_at<J: Journal + Drop>(
         return Err(Fail::from("an ask that is sent"));
     }
     tell(r, log)
+}
+
+/// A reserve, until both are quiet.
+#[tactic(auto, using(crate::proofs::Pairing::linked_still))]
+fn play<'t, J: Journal + Drop>(
+    alloc: Global,
+    topology: &Topology,
+    number: AgentNo,
+    p: &mut Node<'t, J>,
+    r: &mut Node<'t, J>,
+) -> Result<bool, Fail>
+    requires linked { AreLinked p.old r.old }
+    requires within { number < length topology.now.agents }
+    requires network { r.old.network ≡ topology.now }
+    requires number { r.old.seat.number ≡ number }
+{
+    let mut log = Vec::new(alloc);
+    tick(alloc, p, &mut log)?;
+    tick(alloc, r, &mut log)?;
+    ask_at(alloc, topology, number, r, &mut log)?;
+    for _k in 0..10u32 {
+        if p.quiet() && r.quiet() {
+            return Ok(are_seen(&log));
+        }
+        round(alloc, p, r, &mut log)?;
+    }
+    Ok(false)
+}
+
+fn let_go<J: Journal + Drop>(node: Node<'_, J>) {
+    drop(node);
+}
+
+fn play_from<'t>(
+    alloc: Global,
+    topology: &Topology,
+    number: AgentNo,
+    p: MemoryNode<'t>,
+    r: MemoryNode<'t>,
+) -> Result<bool, Fail>
+    requires linked { AreLinked p r }
+    requires within { number < length topology.now.agents }
+    requires network { r.network ≡ topology.now }
+    requires number { r.seat.number ≡ number }
+{
+    let mut p = p;
+    let mut r = r;
+    let done = play(alloc, topology, number, &mut p, &mut r);
+    let_go(p);
+    let_go(r);
+    done
+}
+
+/// The two agents of the topology, with a link each way.
+fn play_in(
+    alloc: Global,
+    topology: &Topology,
+    first: AgentNo,
+    number: AgentNo,
+) -> Result<bool, Fail>
+    requires first { first < length topology.now.agents }
+    requires within { number < length topology.now.agents }
+{
+    let (out, heard) = link(alloc, List::new(alloc))?;
+    let (back, told) = link(alloc, List::new(alloc))?;
+    let p = begin(alloc, topology, first, number, out, told)?;
+    match begin(alloc, topology, number, first, back, heard) {
+        Ok(r) => play_from(alloc, topology, number, p, r),
+        Err(fail) => {
+            let_go(p);
+            Err(fail)
+        }
+    }
+}
+
+fn play_whole(alloc: Global) -> Result<bool, Fail> {
+    let Ok((topology, _)) = read_topology(alloc, TOPOLOGY.as_bytes()) else {
+        return Ok(false);
+    };
+    match (topology.agent_of(b"p1"), topology.agent_of(b"r1")) {
+        (Some(first), Some(number)) => play_in(alloc, &topology, first, number),
+        _ => Ok(false),
+    }
+}
+
+#[test]
+fn a_reserve_is_confirmed(rt: HostRuntime) -> Result<(), Fail> {
+    let alloc = rt.alloc();
+    assert!(rt; play_whole(alloc)?);
+    Ok(())
 }

@@ -1,13 +1,14 @@
 //! A provider and a requester, linked with each other, and what the user of the requester asks first.
 
-ghost use Rattle.std.specs.Prelude.{◌≡◌, ◌<◌, ◌∷◌, [], false, length, IfOk};
+ghost use Rattle.std.specs.Prelude.{◌≡◌, ◌<◌, ◌∷◌, [], false, length, IfOk, IsTrue};
 ghost use Rattle.nsi_primitive.specs.Printable.{IsPrintableAsk, ArePointsApart};
 ghost use Rattle.requester_agent.specs.Steps.{is_query_ask};
-ghost use Rattle.agent_node.specs.Kept.{AreLinked, one_plug};
+ghost use Rattle.agent_node.specs.Openings.{others_of};
+ghost use Rattle.agent_node.specs.Kept.{plug_by};
 
 use crate::Node;
 use crate::opening::others;
-use agent_link::{Incoming, Outgoing, link};
+use agent_link::{Incoming, Outgoing};
 use disk_journal::DiskJournal;
 use nsi_base::{AgentNo, List, Mbps, Name, Second};
 use nsi_disk::{Disk, MemoryDisk};
@@ -68,7 +69,12 @@ fn one<T: Drop>(alloc: Global, item: T) -> Result<List<T>, AllocError>
 }
 
 /// Whether an agent has one link alone, to that other one.
-fn has_one(alloc: Global, topology: &Topology, agent: AgentNo, other: AgentNo) -> Result<bool, AllocError>
+fn has_one(
+    alloc: Global,
+    topology: &Topology,
+    agent: AgentNo,
+    other: AgentNo,
+) -> Result<bool, AllocError>
     requires within { agent < length topology.now.agents }
     ensures { IfOk result (λ b. IsTrue b → others_of topology.now agent ≡ other ∷ []) }
 {
@@ -77,7 +83,7 @@ fn has_one(alloc: Global, topology: &Topology, agent: AgentNo, other: AgentNo) -
 }
 
 /// An agent with one link.
-fn begin<'t>(
+pub(super) fn begin<'t>(
     alloc: Global,
     topology: &'t Topology,
     agent: AgentNo,
@@ -87,7 +93,7 @@ fn begin<'t>(
 ) -> Result<MemoryNode<'t>, Fail>
     requires within { agent < length topology.now.agents }
     requires shut { (out.parcels ≡ []) × (inc.parcels ≡ []) }
-    ensures plugs { IfOk result (λ n. n.plugs ≡ one_plug other out inc) }
+    ensures plugs { let plug = plug_by other out inc in IfOk result (λ n. n.plugs ≡ plug ∷ []) }
     ensures number { IfOk result (λ n. n.seat.number ≡ agent) }
     ensures network { IfOk result (λ n. n.network ≡ topology.now) }
 {

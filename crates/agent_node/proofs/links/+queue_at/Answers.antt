@@ -1,7 +1,7 @@
 use Rattle.std.proofs.Common.{rules, ◌≡◌, ◌∷◌, ◌∙◌, ap, sym, List}
 use Rattle.nsi_primitive.specs.declared.message.Parcel.{Parcel}
 use Rattle.agent_node.specs.declared.links.Link.{Link}
-use Rattle.agent_node.specs.Doors.{Door, queue_at, with_parcel}
+use Rattle.agent_node.specs.Doors.{queue_at, with_parcel}
 use Rattle.agent_node.specs.Linked.{door_of, doors}
 use Rattle.agent_node.proofs.Joints.{change_here}
 use Rattle.agent_node.proofs.links.+queue_at.Goals as goal

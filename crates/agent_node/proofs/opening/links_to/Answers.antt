@@ -1,4 +1,4 @@
-use Rattle.std.proofs.Common.{rules, ◌≡◌, ◌≤◌, ◌+◌, ◌++◌, ◌∷◌, [], ◌∙◌, ap, sym, subst, refl, arith, length, map, List, ℕ, vec_len, vec_capacity}
+use Rattle.std.proofs.Common.{rules, ◌≡◌, ◌+◌, ◌++◌, ◌∷◌, [], ◌∙◌, ap, sym, subst, refl, arith, length, map, List, ℕ, vec_len, vec_capacity}
 use Rattle.agent_link.specs.Link.{Half}
 use Rattle.agent_node.specs.declared.links.Link.{Link}
 use Rattle.agent_node.specs.Kept.{AreEnds, plugs_of}

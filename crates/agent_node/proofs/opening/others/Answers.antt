@@ -1,4 +1,4 @@
-use Rattle.std.proofs.Common.{rules, ◌≡◌, ◌<◌, ◌+◌, ◌-◌, ◌++◌, ◌∷◌, [], ◌∙◌, ap, arith, length, filter, List, ℕ}
+use Rattle.std.proofs.Common.{rules, ◌≡◌, ◌<◌, ◌+◌, ◌-◌, ◌++◌, ◌∷◌, [], ◌∙◌, ap, length, filter, List, ℕ}
 use Rattle.std.specs.List.{range_with_len}
 use Rattle.agent_node.specs.Openings.{are_linked}
 use Rattle.agent_node.proofs.Beginning.{linked_next}

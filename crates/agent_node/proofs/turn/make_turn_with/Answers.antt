@@ -1,4 +1,4 @@
-use Rattle.std.proofs.Common.{rules, ◌≡◌, ◌∙◌, ap, sym, subst, Some, None, Option}
+use Rattle.std.proofs.Common.{◌∙◌, ap, sym, subst, Some, None, Option}
 use Rattle.std.proofs.lemmas.Result.{err_from_is_err_and}
 use Rattle.agent_node.specs.declared.fault.TurnFault.{TurnFault}
 use Rattle.agent_node.specs.Kept.{fault_in, kept_with}

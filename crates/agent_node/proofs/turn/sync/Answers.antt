@@ -1,4 +1,4 @@
-use Rattle.std.proofs.Common.{rules, ◌≡◌, ◌==◌, ◌<◌, true, false, length, None}
+use Rattle.std.proofs.Common.{rules, ◌≡◌, ◌==◌, true, false, length}
 use Rattle.agent_node.proofs.Making.{made_none, made_long, made_synced, no_entries, some_entries}
 use Rattle.agent_node.proofs.turn.sync.Goals as goal
 

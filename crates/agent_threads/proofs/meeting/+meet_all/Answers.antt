@@ -7,7 +7,7 @@ use Rattle.agent_threads.specs.Made.{Stays, met_by_each}
 use Rattle.agent_threads.proofs.Pairs.{met_more}
 use Rattle.agent_threads.proofs.Same.{still_apart, stays_same}
 use Rattle.agent_threads.proofs.Turning.{whole_again}
-use Rattle.agent_threads.proofs.Wires.{linked_others, numbers_stay, wired_still, seats_more, absent_front, absent_last, apart_front, apart_last, apart_self, wired_front, wired_last, wired_more, each_more, plugs_more, stays_twice}
+use Rattle.agent_threads.proofs.Wires.{linked_others, numbers_stay, wired_still, seats_more, absent_front, absent_last, apart_front, apart_last, apart_self, wired_front, wired_last, wired_more, each_more, plugs_more, stays_length, stays_twice}
 use Rattle.agent_threads.proofs.meeting.+meet_all.Goals as goal
 
 pub meet_all-requires : goal.meet_all-requires
@@ -48,6 +48,10 @@ meet_rest-requires-clause-apart g t c =
     let apart = subst (λ (xs : List Kept). AreApart (seats xs)) c.in-Some.ensures.items c.requires.apart in
     subst (λ (xs : List Kept). AreApart (seats xs)) (sym c.deref_mut.ensures.value)
     (still_apart ks c.meet_all.new.nodes.items (stays_same ks c.meet_all.new.nodes.items c.meet_all.ensures.each) (apart_front ks k apart))
+
+pub push_reserved-requires : goal.push_reserved-requires
+push_reserved-requires g t c =
+    omega (arith, c.in-Some.ensures.len, c.in-Some.ensures.capacity, c.meet_all.ensures.capacity, stays_length c.pop.new.self.items c.meet_all.new.nodes.items c.meet_all.ensures.each)
 
 pub returns-in-Some-clause-all : goal.returns-in-Some-clause-all
 returns-in-Some-clause-all g t c =

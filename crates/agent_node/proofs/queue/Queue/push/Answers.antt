@@ -1,5 +1,4 @@
 use Rattle.std.proofs.Common.{◌≡◌, ◌∷◌, ◌∙◌, ap, ◌++◌, take, drop}
-use Rattle.nsi_primitive.specs.declared.message.Parcel.{Parcel}
 use Rattle.agent_link.specs.Link.{Half, pushed}
 use Rattle.agent_link.specs.declared.ends.PushFault.{PushFault}
 use Rattle.agent_node.proofs.Pushing.{free, taken, rest_printable, rest_next, out_next, not_full}

@@ -1,4 +1,3 @@
-use Rattle.std.proofs.Common.{rules}
 use Rattle.nsi_agent.specs.Homes.{home_in}
 use Rattle.agent_node.specs.Seat.{enters_now, enters_if}
 use Rattle.agent_node.specs.Kept.{fault_in}

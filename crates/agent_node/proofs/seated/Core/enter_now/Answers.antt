@@ -1,4 +1,4 @@
-use Rattle.std.proofs.Common.{rules, ◌≡◌, ◌<◌, ◌+◌, arith, subst, sym, true}
+use Rattle.std.proofs.Common.{rules, ◌≡◌, ◌<◌, arith, subst, sym, true}
 use Rattle.stp_topology.specs.Network.{kind_of}
 use Rattle.agent_state.specs.Entries.{most_entries}
 use Rattle.nsi_agent.specs.Homes.{home_in}

@@ -1,7 +1,6 @@
-use Rattle.std.proofs.Common.{rules, ◌≡◌, ◌∙◌, ◌<◌, ◌+◌, ◌-◌, arith, ap, sym, subst, true, Some, None, ℕ}
+use Rattle.std.proofs.Common.{rules, ◌≡◌, ◌∙◌, ◌<◌, ◌-◌, arith, ap, sym, subst, Some, None}
 use Rattle.std.proofs.lemmas.Result.{err_from_is_err_and}
 use Rattle.nsi_primitive.specs.declared.entry.Input.{Input}
-use Rattle.nsi_primitive.specs.declared.state.Machine.{Machine}
 use Rattle.agent_state.specs.Entries.{most_entries}
 use Rattle.nsi_agent.specs.Homes.{home_in}
 use Rattle.nsi_agent.specs.Laws.{IsGood}
@@ -37,7 +36,6 @@ returns-in_err-enter_now c =
     let l = c.loop-work in
     let s = l.self.seat in
     let w = c.in-Some.work in
-    let good : AtSeat l.self (λ h. IsGood h.role s.state) = subst (λ (x : Seated). AtSeat x (λ h. IsGood h.role x.seat.state)) c.self.view_is (λ routes are. c.facts.ensures.good routes) in
     let first : AtSeat l.self (λ h. work_of h.role s.state ≡ Some w) =
     subst (λ (x : Seated). AtSeat x (λ h. work_of h.role x.seat.state ≡ Some w)) c.self.view_is (λ routes are. sym (c.first_work.ensures routes) ∙ c.in-Some.is) in
     let p = err_from_is_err_and c.from_residual.result c.from_residual.ensures.1 in
