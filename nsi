@@ -40,6 +40,8 @@ run() {
     fi
     say "the program is $state, so this call runs before any proof, once its input has ended; to prove and build: $0 --build"
     make_room
+    # It reads nothing, so a terminal isn't waited for.
+    [ "${1-}" != generate ] || exec </dev/null
     cat >"$room/input" || fail 'standard input could not be kept'
     try "$@"
     say 'the toolchain gives no answer before a proof here, so the program is proved and built now'

@@ -3,6 +3,7 @@
 mod clock;
 mod counting;
 mod cutting;
+mod generating;
 mod holds;
 mod hostile;
 mod journals;

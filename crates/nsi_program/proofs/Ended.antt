@@ -1,12 +1,14 @@
 -- How each command has ended, by what it has written.
-use Rattle.std.proofs.Common.{◌≡◌, ◌<◌, ℕ, ◌⊎◌, inl, inr, List, ◌++◌, Option, Some, None, refl, sym, ap, subst, false}
+use Rattle.std.proofs.Common.{◌≡◌, ◌<◌, ℕ, ◌⊎◌, inl, inr, List, ◌++◌, Option, Some, None, refl, sym, ap, ◌∙◌, subst, false}
 use Rattle.std.specs.Prelude.{IfSome, codes}
 use Rattle.nsi_program.specs.declared.status.Status.{Status}
 use Rattle.nsi_program.specs.declared.words.Command.{Command}
+use Rattle.nsi_program.specs.declared.words.Load.{Load}
+use Rattle.nsi_script.specs.Load.{load_of}
 use Rattle.nsi_program.specs.Lines.{as_line}
 use Rattle.nsi_program.specs.Check.{Checks, Begins}
 use Rattle.nsi_program.specs.Cut.{IsCutByFault}
-use Rattle.nsi_program.specs.Ends.{usage_promise, WithReading, HasEnded, IsCut, IsBroken, IsCutShort, Counts}
+use Rattle.nsi_program.specs.Ends.{usage_promise, load_promise, WithReading, HasEnded, IsCut, IsBroken, IsCutShort, Counts}
 use Rattle.nsi_program.specs.Phases.{Reading}
 use Rattle.nsi_program.specs.Promise.{Writes, WritesFront, is_told, read_fault_line, promise_of, IsKept}
 use Rattle.nsi_program.specs.Writes.{WritesSome, WritesSomeFront}
@@ -49,6 +51,15 @@ usage_ended command holds content left new status e h =
     kept None w = tt
     kept (Some c) w = (h.0, w)
 
+pub generate_ended : (command : Option Command) (load : Load) (holds : Holds) (content left new : Option (List ℕ)) (status : Status) → command ≡ Some (Command.Generate load)
+    → (status ≡ Status.Done) × Writes content new (load_of load.from load.size) → HasEnded command holds content left status new
+generate_ended command load holds content left new status e h =
+    let P : Option Command → Type 0 = λ x. HasEnded x holds content left status new in subst P (sym e) (load_promise load content, refl, kept content h.1)
+  where
+    kept : (content : Option (List ℕ)) → Writes content new (load_of load.from load.size) → IsKept (load_promise load content) status new
+    kept None w = tt
+    kept (Some c) w = (h.0, w)
+
 ---- Cut short
 
 pub provide_cut : (command : Option Command) (most : ℕ) (holds : Holds) (content left rest new : Option (List ℕ)) → command ≡ Some (Command.Provide most) → WithReading holds left (λ read. IsCutByFault read most content left rest new)
@@ -76,11 +87,24 @@ check_cut_short command holds content left rest before after new e h = let P : O
     by_fault (inl w) = inl w
     by_fault (inr w) = inr (inl w)
 
+untold : (status : Status) → (status ≡ Status.WriteFault) ⊎ (status ≡ Status.NoMemory) → is_told status ≡ false
+untold status (inl q) = ap is_told q
+untold status (inr q) = ap is_told q
+
 pub usage_cut_short : (command : Option Command) (holds : Holds) (content left rest : Option (List ℕ)) (counts : Counts) (new : Option (List ℕ)) (status : Status) → command ≡ None → (is_told status ≡ false → WritesFront content new (as_line (codes "fault usage")))
     → (status ≡ Status.WriteFault) ⊎ (status ≡ Status.NoMemory) → IsCutShort command holds content left rest counts counts new
 usage_cut_short command holds content left rest counts new status e w h =
-    let P : Option Command → Type 0 = λ x. IsCutShort x holds content left rest counts counts new in subst P (sym e) (inl (refl, w (untold h)))
+    let P : Option Command → Type 0 = λ x. IsCutShort x holds content left rest counts counts new in subst P (sym e) (inl (refl, w (untold status h)))
+
+pub generate_cut_short : (command : Option Command) (load : Load) (holds : Holds) (content left rest : Option (List ℕ)) (counts : Counts) (new : Option (List ℕ)) (status : Status) → command ≡ Some (Command.Generate load)
+    → (is_told status ≡ false → WritesFront content new (load_of load.from load.size)) → (status ≡ Status.WriteFault) ⊎ (status ≡ Status.NoMemory) → IsCutShort command holds content left rest counts counts new
+generate_cut_short command load holds content left rest counts new status e w h =
+    let P : Option Command → Type 0 = λ x. IsCutShort x holds content left rest counts counts new in subst P (sym e) (inl (refl, w (untold status h)))
+
+-- a load is the one that is named
+pub generated_is : (command : Option Command) (load named : Load) (status : Status) (content new : Option (List ℕ)) → command ≡ Some (Command.Generate load) → command ≡ Some (Command.Generate named)
+    → (status ≡ Status.Done) × Writes content new (load_of load.from load.size) → (status ≡ Status.Done) × Writes content new (load_of named.from named.size)
+generated_is command load named status content new own other h = subst (λ (l : Load). (status ≡ Status.Done) × Writes content new (load_of l.from l.size)) (same load named (sym own ∙ other)) h
   where
-    untold : (status ≡ Status.WriteFault) ⊎ (status ≡ Status.NoMemory) → is_told status ≡ false
-    untold (inl q) = ap is_told q
-    untold (inr q) = ap is_told q
+    same : (a b : Load) → Some (Command.Generate a) ≡ Some (Command.Generate b) → a ≡ b
+    same a b h = cc

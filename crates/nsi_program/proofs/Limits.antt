@@ -5,7 +5,8 @@ use Rattle.std.specs.Str.{bytes_eq}
 use Rattle.std.proofs.lemmas.Bool.Decides.{nat_tests}
 use Rattle.nsi_base.specs.Digits.{number_of, ranged, are_digits, value_from}
 use Rattle.nsi_program.specs.declared.words.Command.{Command}
-use Rattle.nsi_program.specs.Words.{command_of, allowed, events_in, provide_with, check_with}
+use Rattle.nsi_program.specs.declared.words.Load.{Load}
+use Rattle.nsi_program.specs.Words.{command_of, allowed, events_in, provide_with, check_with, generate_with, load_asked}
 
 ranged_few : (low high : ℕ) (digits : Bool) (n most : ℕ) → ranged low high digits n ≡ Some most → most ≤ high
 ranged_few low high digits n most e = grind (arith, nat_tests)
@@ -34,7 +35,7 @@ provides most = Some (Command.Provide most)
 -- a limit that the words name is within the greatest
 pub limit_few : (words : List (List ℕ)) (most : ℕ) → command_of words ≡ provides most → most ≤ 2000000
 limit_few [] most e = cc
-limit_few (word ∷ words) most e = by_test (bytes_eq word (codes "provide")) (bytes_eq word (codes "check")) e
+limit_few (word ∷ words) most e = by_test (bytes_eq word (codes "provide")) (bytes_eq word (codes "check")) (bytes_eq word (codes "generate")) e
   where
     same : (a b : ℕ) → provides a ≡ provides b → a ≡ b
     same a b h = cc
@@ -47,10 +48,15 @@ limit_few (word ∷ words) most e = by_test (bytes_eq word (codes "provide")) (b
     not_check [] e = cc
     not_check (w ∷ ws) e = cc
 
-    by_test : (b c : Bool) → cond b (provide_with (allowed words)) (cond c (check_with words) None) ≡ provides most → most ≤ 2000000
-    by_test true c e = by_limit (allowed words) refl e
-    by_test false true e = not_check words e
-    by_test false false e = cc
+    not_generate : (o : Option Load) → generate_with o ≡ provides most → most ≤ 2000000
+    not_generate None e = cc
+    not_generate (Some load) e = cc
+
+    by_test : (b c d : Bool) → cond b (provide_with (allowed words)) (cond c (check_with words) (cond d (generate_with (load_asked words)) None)) ≡ provides most → most ≤ 2000000
+    by_test true c d e = by_limit (allowed words) refl e
+    by_test false true d e = not_check words e
+    by_test false false true e = not_generate (load_asked words) e
+    by_test false false false e = cc
 
 -- and it is one
 pub limit_is : (words : List (List ℕ)) (a b : ℕ) → command_of words ≡ provides a → command_of words ≡ provides b → a ≡ b

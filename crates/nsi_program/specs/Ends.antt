@@ -1,5 +1,5 @@
 -- How each command may end, and all that the sink has then.
-use Rattle.std.specs.Prelude.{◌≡◌, ◌≤◌, ◌<◌, ◌⊎◌, ℕ, List, ◌++◌, length, take, codes, Option, Some, None, Ok, option_map, IfSome}
+use Rattle.std.specs.Prelude.{◌≡◌, ◌≤◌, ◌<◌, ◌⊎◌, ⊤, ℕ, List, ◌++◌, length, take, codes, Option, Some, None, Ok, option_map, IfSome}
 use Rattle.nsi_base.specs.Lines.{lines_of}
 use Rattle.nsi_disk.specs.ShelfCounts.{Raised}
 use Rattle.journal_entry.specs.Payloads.{batch_of}
@@ -10,6 +10,7 @@ use Rattle.stp_topology.specs.Network.{nothing, first_provider, name_of}
 use Rattle.stp_topology.specs.Text.{read_lines}
 use Rattle.nsi_program.specs.declared.status.Status.{Status}
 use Rattle.nsi_program.specs.declared.words.Command.{Command}
+use Rattle.nsi_program.specs.declared.words.Load.{Load}
 use Rattle.nsi_program.specs.Check.{Checks, Begins}
 use Rattle.nsi_program.specs.Lines.{as_line}
 use Rattle.nsi_program.specs.Phases.{Reading}
@@ -18,10 +19,15 @@ use Rattle.nsi_program.specs.Cut.{IsCutByFault, IsFrontOfCut, IsStopped, Answers
 use Rattle.nsi_base.specs.Range.{greatest_input}
 use Rattle.nsi_program.specs.Promise.{behind_content, promise_of, read_fault_line, Writes, WritesFront, IsKept}
 use Rattle.nsi_program.specs.Writes.{WritesSomeFront}
+use Rattle.nsi_script.specs.Load.{load_of}
 
 -- words of no form are answered by a fault, whatever the input
 abbrev pub usage_promise : Option (List ℕ) → Option (Status × List ℕ)
 usage_promise content = option_map (λ c. (Status.Usage, c ++ as_line (codes "fault usage"))) content
+
+-- a load is written, whatever the input
+abbrev pub load_promise : Load → Option (List ℕ) → Option (Status × List ℕ)
+load_promise load content = option_map (λ c. (Status.Done, c ++ load_of load.from load.size)) content
 
 -- where source and sink tell, the promise is an end that the bytes may have, behind what stands already
 abbrev pub Promises : (List ℕ → Status × List ℕ → Type 0) → Option (List ℕ) → Option (List ℕ) → Option (Status × List ℕ) → Type 0
@@ -53,16 +59,18 @@ abbrev pub MayEnd : Option Command → (List ℕ → Option (List ℕ)) → Opti
 MayEnd None holds content left promise = promise ≡ usage_promise content
 MayEnd (Some (Command.Provide most)) holds content left promise = WithReading holds left (λ read. promise ≡ promise_of read most content left)
 MayEnd (Some Command.Check) holds content left promise = Promises (λ bytes end. Checks bytes end.0 end.1) content left promise
+MayEnd (Some (Command.Generate load)) holds content left promise = promise ≡ load_promise load content
 
 -- the command has ended as it may
 abbrev pub HasEnded : Option Command → (List ℕ → Option (List ℕ)) → Option (List ℕ) → Option (List ℕ) → Status → Option (List ℕ) → Type 0
 HasEnded command holds content left status new = (promise : Option (Status × List ℕ)) × MayEnd command holds content left promise × IsKept promise status new
 
--- Reading failed. `provide` has answered all lines that ended within what was read, `check` none; words of no form read nothing.
+-- Reading failed. `provide` has answered all lines that ended within what was read, `check` none; `generate` and words of no form read nothing.
 abbrev pub IsCut : Option Command → (List ℕ → Option (List ℕ)) → (content left rest new : Option (List ℕ)) → Type 0
 IsCut None holds content left rest new = ⊥
 IsCut (Some (Command.Provide most)) holds content left rest new = WithReading holds left (λ read. IsCutByFault read most content left rest new)
 IsCut (Some Command.Check) holds content left rest new = Writes content new read_fault_line
+IsCut (Some (Command.Generate load)) holds content left rest new = ⊥
 
 -- The disk failed or stopped. `provide` has answered some first lines, and behind them stands whose disk it was; no other command has a disk.
 abbrev pub IsBroken : Option Command → (List ℕ → Option (List ℕ)) → (content left new : Option (List ℕ)) → Type 0
@@ -76,12 +84,14 @@ abbrev pub IsCutInAnswers : Option Command → (List ℕ → Option (List ℕ)) 
 IsCutInAnswers None holds content left new = WritesFront content new (as_line (codes "fault usage"))
 IsCutInAnswers (Some (Command.Provide most)) holds content left new = WithReading holds left (λ read. IsStopped read most content left new)
 IsCutInAnswers (Some Command.Check) holds content left new = IfSome left (λ bytes. WritesSomeFront (Begins bytes) content new)
+IsCutInAnswers (Some (Command.Generate load)) holds content left new = WritesFront content new (load_of load.from load.size)
 
 -- Writing was cut short within the line of a fault of reading.
 abbrev pub IsCutInFault : Option Command → (List ℕ → Option (List ℕ)) → (content left rest new : Option (List ℕ)) → Type 0
 IsCutInFault None holds content left rest new = ⊥
 IsCutInFault (Some (Command.Provide most)) holds content left rest new = WithReading holds left (λ read. IsFrontOfCut read most content left rest new)
 IsCutInFault (Some Command.Check) holds content left rest new = WritesFront content new read_fault_line
+IsCutInFault (Some (Command.Generate load)) holds content left rest new = ⊥
 
 -- Writing was cut short within the line of a disk's fault.
 abbrev pub IsCutInDisk : Option Command → (List ℕ → Option (List ℕ)) → (content left new : Option (List ℕ)) → Type 0
@@ -120,3 +130,10 @@ HasTopology lines = (t : Network) × (n : ℕ) × (read_lines nothing 0 lines �
 -- With a good topology and an input within the size `check` is done.
 abbrev pub IsChecked : Option (List ℕ) → Option (List ℕ) → Status → Type 0
 IsChecked content left status = IfSome content (λ _. IfSome left (λ bytes. length bytes ≤ greatest_input → HasTopology (lines_of bytes) → status ≡ Status.Done))
+
+-- The command reads a topology.
+abbrev pub ReadsTopology : Option Command → Type 0
+ReadsTopology None = ⊥
+ReadsTopology (Some (Command.Provide most)) = ⊤
+ReadsTopology (Some Command.Check) = ⊤
+ReadsTopology (Some (Command.Generate load)) = ⊥

@@ -6,6 +6,7 @@ mod batch;
 mod check;
 mod declaring;
 mod faults;
+mod generating;
 mod output;
 mod paths;
 pub mod payload;

@@ -1,15 +1,18 @@
 //! The top call.
 
-ghost use Rattle.std.specs.Prelude.{◌≡◌, ℕ, ◌<◌, ◌↔◌, ◌⊎◌, IsSome, codes, map, string_bytes, true, false, None, Some};
+ghost use Rattle.std.specs.Prelude.{◌≡◌, ℕ, ◌<◌, ◌↔◌, ◌⊎◌, codes, map, string_bytes, true, false, None, Some};
 ghost use Rattle.nsi_disk.specs.ShelfCounts.{Raised};
 ghost use Rattle.nsi_program.specs.Backed.{Backs};
 ghost use Rattle.nsi_program.specs.Lines.{as_line};
 ghost use Rattle.nsi_program.specs.Promise.{is_told, read_fault_line, Writes, WritesFront, IsComplete, IsSafe, NamesFault};
 ghost use Rattle.nsi_program.specs.Words.{command_of};
-ghost use Rattle.nsi_program.specs.declared.words.Command.TheVariants.{Provide as ProvideValue};
-ghost use Rattle.nsi_program.specs.Ends.{HasEnded, IsChecked, IsCut, IsBroken, IsCutShort, WithReading, counted, HasDiskFault};
+ghost use Rattle.nsi_program.specs.declared.words.Command.TheVariants.{Provide as ProvideValue, Generate as GenerateValue};
+ghost use Rattle.nsi_program.specs.declared.words.Load.{Load};
+ghost use Rattle.nsi_script.specs.Load.{load_of};
+ghost use Rattle.nsi_program.specs.Ends.{HasEnded, IsChecked, IsCut, IsBroken, IsCutShort, WithReading, counted, HasDiskFault, ReadsTopology};
 
 use crate::check::check;
+use crate::generating::generate;
 use crate::output::{Fault, write_text};
 use crate::provide::provide;
 use crate::status::Status;
@@ -21,7 +24,8 @@ use std::alloc::Global;
 /// Runs the command that the words name, on the bytes of the input. The words are those behind the program's name.
 ///
 /// `provide` reads as it goes: a line is answered before the next one is read. A line of more than 65,536 bytes is
-/// refused; an input of more than 67,108,864 bytes is answered up to there. `check` reads the whole input first.
+/// refused; an input of more than 67,108,864 bytes is answered up to there. `check` reads the whole input first,
+/// `generate` none.
 pub fn top_plain<S: Source, K: Sink, H: Shelf>(
     alloc: Global,
     words: &[String],
@@ -47,7 +51,11 @@ pub fn top_plain<S: Source, K: Sink, H: Shelf>(
         (K.content out.new)) }
     ensures checked { command_of (map string_bytes words.now) ≡ Some Command.Check →
         is_told result ≡ true → IsChecked (K.content out.old) (S.left input.old) result }
-    ensures bad_topology { IsSome (command_of (map string_bytes words.now)) →
+    ensures generated { (load : Load) →
+        command_of (map string_bytes words.now) ≡ Some (GenerateValue load) → is_told result ≡ true
+        → (result ≡ Status.Done)
+        × Writes (K.content out.old) (K.content out.new) (load_of load.from load.size) }
+    ensures bad_topology { ReadsTopology (command_of (map string_bytes words.now)) →
         is_told result ≡ true →
         NamesFault (K.content out.old) (S.left input.old) result (K.content out.new) }
 
@@ -93,6 +101,7 @@ pub fn top_plain<S: Source, K: Sink, H: Shelf>(
     match &command {
         Command::Provide(most) => provide(alloc, *most, input, out, shelf),
         Command::Check => check(alloc, input, out),
+        Command::Generate(load) => generate(alloc, *load, out),
     }
 }
 

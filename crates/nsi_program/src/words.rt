@@ -2,7 +2,7 @@
 
 ghost use Rattle.std.specs.Prelude.{◌≡◌, ◌≤◌, map, string_bytes};
 ghost use Rattle.nsi_base.specs.Range.{within};
-ghost use Rattle.nsi_program.specs.Words.{command_of, allowed, joined, parted, events_in, most_events};
+ghost use Rattle.nsi_program.specs.Words.{command_of, allowed, joined, parted, events_in, most_events, load_asked, joined_choice, parted_choice, both, from_in, size_in, most_reserves, greatest_number};
 
 use nsi_base::digits::number_of;
 use std::marker::Model;
@@ -54,12 +54,28 @@ impl EventLimit {
     }
 }
 
+/// A load that is to be made: the number that it is drawn from, and how many reserves it has.
+#[derive(Clone, Copy, Debug, PartialEq, Eq)]
+pub struct Load {
+    pub from: u64,
+    pub size: u32,
+}
+
+/// One option of `generate`.
+#[derive(Clone, Copy, Debug, PartialEq, Eq)]
+enum Choice {
+    From(u64),
+    Size(u32),
+}
+
 /// What the program is asked to do.
 #[derive(Clone, Copy, Debug, PartialEq, Eq)]
 pub enum Command {
     /// One provider answers lines, in no more events than that.
     Provide(EventLimit),
     Check,
+    /// A topology and a script are made.
+    Generate(Load),
 }
 
 /// The command that the words name.
@@ -72,6 +88,9 @@ pub(crate) fn command_of(words: &[String]) -> Option<Command>
         Some(Command::Provide(most))
     } else if command.as_str() == "check" && options.is_empty() {
         Some(Command::Check)
+    } else if command.as_str() == "generate" {
+        let load = load_asked(options)?;
+        Some(Command::Generate(load))
     } else {
         None
     }
@@ -118,4 +137,83 @@ fn events_in(word: &[u8]) -> Option<EventLimit>
         Some(limit) => Some(limit),
         None => unreachable!(),
     }
+}
+
+/// The load that the words behind `generate` ask for: both options, in either order.
+fn load_asked(options: &[String]) -> Option<Load>
+    ensures { result ≡ load_asked (map string_bytes options.now) }
+{
+    match options.len() {
+        2 => both(
+            joined_choice(options[0].as_str()),
+            joined_choice(options[1].as_str()),
+        ),
+        3 => match both(
+            parted_choice(options[0].as_str(), options[1].as_str()),
+            joined_choice(options[2].as_str()),
+        ) {
+            Some(load) => Some(load),
+            None => both(
+                joined_choice(options[0].as_str()),
+                parted_choice(options[1].as_str(), options[2].as_str()),
+            ),
+        },
+        4 => both(
+            parted_choice(options[0].as_str(), options[1].as_str()),
+            parted_choice(options[2].as_str(), options[3].as_str()),
+        ),
+        _ => None,
+    }
+}
+
+fn both(first: Option<Choice>, second: Option<Choice>) -> Option<Load>
+    ensures { result ≡ both first second }
+{
+    match (first?, second?) {
+        (Choice::From(from), Choice::Size(size)) | (Choice::Size(size), Choice::From(from)) => {
+            Some(Load { from, size })
+        }
+        _ => None,
+    }
+}
+
+fn joined_choice(word: &str) -> Option<Choice>
+    ensures { result ≡ joined_choice word.now }
+{
+    if word.as_bytes().starts_with(b"--from=") {
+        from_in(&word.as_bytes()[7..])
+    } else if word.as_bytes().starts_with(b"--size=") {
+        size_in(&word.as_bytes()[7..])
+    } else {
+        None
+    }
+}
+
+fn parted_choice(option: &str, word: &str) -> Option<Choice>
+    ensures { result ≡ parted_choice option.now word.now }
+{
+    if option == "--from" {
+        from_in(word.as_bytes())
+    } else if option == "--size" {
+        size_in(word.as_bytes())
+    } else {
+        None
+    }
+}
+
+fn from_in(word: &[u8]) -> Option<Choice>
+    ensures { result ≡ from_in word.now }
+{
+    let from = number_of(0, u64::MAX, word)?;
+    Some(Choice::From(from))
+}
+
+/// The most reserves that a load may have.
+const MOST_RESERVES: u64 = 5_000;
+
+fn size_in(word: &[u8]) -> Option<Choice>
+    ensures { result ≡ size_in word.now }
+{
+    let size = number_of(0, MOST_RESERVES, word)?;
+    Some(Choice::Size(size as u32))
 }

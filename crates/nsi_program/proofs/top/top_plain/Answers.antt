@@ -4,7 +4,7 @@ use Rattle.nsi_program.specs.declared.words.Command.{Command}
 use Rattle.nsi_program.specs.Words.{command_of}
 use Rattle.nsi_program.specs.Promise.{promise_of, IsKept, IsComplete, IsSafe}
 use Rattle.nsi_program.proofs.Declared.{is_complete, is_safe, names_fault}
-use Rattle.nsi_program.proofs.Ended.{provide_ended, with_reading, check_ended, usage_ended, provide_cut, provide_broken, provide_cut_short, check_cut, check_cut_short, usage_cut_short}
+use Rattle.nsi_program.proofs.Ended.{provide_ended, with_reading, check_ended, usage_ended, provide_cut, provide_broken, provide_cut_short, check_cut, check_cut_short, usage_cut_short, generate_ended, generate_cut_short, generated_is}
 use Rattle.nsi_program.proofs.Limits.{limit_few, limit_is}
 use Rattle.nsi_program.proofs.top.top_plain.Goals as goal
 
@@ -85,3 +85,18 @@ returns-in_default-clause-unfinished g c = λ failed.
 
 pub returns-in-Provide-clause-backed : goal.returns-in-Provide-clause-backed
 returns-in-Provide-clause-backed g c = λ most named. c.provide.ensures.backed
+
+pub returns-in-Generate-clause-ends : goal.returns-in-Generate-clause-ends
+returns-in-Generate-clause-ends g c = λ told.
+    generate_ended _ c.in-Generate.load (g.H.Shelf.holds c.args.shelf.now) (g.K.Sink.content c.args.out.now) (g.S.Source.left c.args.input.now) (g.K.Sink.content c.generate.new.out) c.generate.result
+    (named_by (map string_bytes c.args.words.now) c.command_of.result c.in-Some.command (Command.Generate c.in-Generate.load) c.command_of.ensures c.in-Some.is c.in-Generate.is) (c.generate.ensures.told told)
+
+pub returns-in-Generate-clause-unfinished : goal.returns-in-Generate-clause-unfinished
+returns-in-Generate-clause-unfinished g c = λ failed.
+    generate_cut_short _ c.in-Generate.load (g.H.Shelf.holds c.args.shelf.now) (g.K.Sink.content c.args.out.now) (g.S.Source.left c.args.input.now) (g.S.Source.left c.args.input.now) _ (g.K.Sink.content c.generate.new.out) c.generate.result
+    (named_by (map string_bytes c.args.words.now) c.command_of.result c.in-Some.command (Command.Generate c.in-Generate.load) c.command_of.ensures c.in-Some.is c.in-Generate.is) c.generate.ensures.front failed
+
+pub returns-in-Generate-clause-generated : goal.returns-in-Generate-clause-generated
+returns-in-Generate-clause-generated g c = λ load named told.
+    generated_is _ c.in-Generate.load load c.generate.result (g.K.Sink.content c.args.out.now) (g.K.Sink.content c.generate.new.out)
+    (named_by (map string_bytes c.args.words.now) c.command_of.result c.in-Some.command (Command.Generate c.in-Generate.load) c.command_of.ensures c.in-Some.is c.in-Generate.is) named (c.generate.ensures.told told)
