@@ -24,6 +24,16 @@ cause_of (RoundFault.DiskFault a) os ns d s = failed a os ns (d a refl)
 cause_of (RoundFault.Stopped a) os ns d s = failed a os ns (s a refl)
 cause_of RoundFault.NoMemory os ns d s = tt
 
+pub not_disk : (e : RunFault) (a : ℕ) → IsOfWriting e → e ≡ RunFault.DiskFault a → ⊥
+not_disk e a w p = subst IsOfWriting p w
+
+-- a fault of a write is a count that rose, or want of memory
+pub if_writing : (e : RunFault) (P : Type 0) → IsOfWriting e → (e ≡ RunFault.WriteFault → ⊥) → (e ≡ RunFault.NoMemory → P) → P
+if_writing RunFault.Long P w n m = absurd w
+if_writing RunFault.WriteFault P w n m = absurd (n refl)
+if_writing (RunFault.DiskFault a) P w n m = absurd w
+if_writing RunFault.NoMemory P w n m = m refl
+
 -- a fault of a write has its cause whoever the agents are, and isn't Long
 pub write_cause : (e : RunFault) (ks : List Kept) → IsOfWriting e → HasRunCause e ks
 write_cause RunFault.Long ks w = tt

@@ -6,7 +6,8 @@ use Rattle.agent_node.specs.Doors.{others, plug_to, crossed}
 use Rattle.agent_node.specs.Seat.{Seat}
 use Rattle.agent_node.specs.Kept.{Kept, AreLinked, IsSameAgent}
 use Rattle.agent_node.specs.Made.{AtHome}
-use Rattle.agent_threads.specs.Nets.{seats, numbers, EachIs, AreOf, AtHomes, AreSame, AreUsable, IsAbsent, AreApart, IsLinkedToAll, AreWired, AreNet}
+use Rattle.nsi_disk.specs.Disk.{Meter}
+use Rattle.agent_threads.specs.Nets.{seats, numbers, EachIs, AreOf, AtHomes, IsSteady, AreSame, AreCalm, AreUsable, IsAbsent, AreApart, IsLinkedToAll, AreWired, AreNet}
 use Rattle.agent_threads.specs.Made.{Does, Stays}
 
 -- a fact of one agent, in the topology of all
@@ -19,9 +20,25 @@ same_trans a b c p q = record { network = q.network ∙ p.network; number = q.nu
 pub same_self : (a : Kept) → IsSameAgent a a
 same_self a = record { network = refl; number = refl; others = refl }
 
+steady_trans : (a b c : Kept) → IsSteady a b → IsSteady b c → IsSteady a c
+steady_trans a b c p q = record { network = q.network ∙ p.network; number = q.number ∙ p.number; others = q.others ∙ p.others; faults = q.faults ∙ p.faults; stops = q.stops ∙ p.stops }
+
+steady_self : (a : Kept) → IsSteady a a
+steady_self a = record { network = refl; number = refl; others = refl; faults = refl; stops = refl }
+
+-- with the counts of its disk
+pub steady_of : (a b : Kept) → IsSameAgent a b → b.meter.faults ≡ a.meter.faults → b.meter.stops ≡ a.meter.stops → IsSteady a b
+steady_of a b s f q = record { network = s.network; number = s.number; others = s.others; faults = f; stops = q }
+
+pub are_calm : (xs ys : List Kept) → AreSame xs ys → AreCalm xs ys
+are_calm [] [] p = tt
+are_calm [] (y ∷ ys) p = absurd p
+are_calm (x ∷ xs) [] p = absurd p
+are_calm (x ∷ xs) (y ∷ ys) p = (record { faults = p.0.faults; stops = p.0.stops }, are_calm xs ys p.1)
+
 pub all_same : (xs : List Kept) → AreSame xs xs
 all_same [] = tt
-all_same (x ∷ xs) = (same_self x, all_same xs)
+all_same (x ∷ xs) = (steady_self x, all_same xs)
 
 pub same_twice : (xs ys zs : List Kept) → AreSame xs ys → AreSame ys zs → AreSame xs zs
 same_twice [] [] [] p q = tt
@@ -29,7 +46,7 @@ same_twice [] [] (z ∷ zs) p q = absurd q
 same_twice [] (y ∷ ys) zs p q = absurd p
 same_twice (x ∷ xs) [] zs p q = absurd p
 same_twice (x ∷ xs) (y ∷ ys) [] p q = absurd q
-same_twice (x ∷ xs) (y ∷ ys) (z ∷ zs) p q = (same_trans x y z p.0 q.0, same_twice xs ys zs p.1 q.1)
+same_twice (x ∷ xs) (y ∷ ys) (z ∷ zs) p q = (steady_trans x y z p.0 q.0, same_twice xs ys zs p.1 q.1)
 
 pub still_of : (t : Network) (xs ys : List Kept) → AreSame xs ys → AreOf t xs → AreOf t ys
 still_of t [] [] p o = tt
@@ -58,7 +75,7 @@ still_apart (x ∷ xs) (y ∷ ys) p a = (
 ---- The same links
 
 pub record KeepsLinks (old new : Kept) : Type 0 where
-  pub same : IsSameAgent old new
+  pub same : IsSteady old new
   pub plugs : new.plugs ≡ old.plugs
 
 linked_same : (a b k l : Kept) → KeepsLinks a b → KeepsLinks k l → AreLinked a k → AreLinked b l
@@ -90,7 +107,7 @@ pub stays_same : (xs ys : List Kept) → EachIs Stays xs ys → AreSame xs ys
 stays_same [] [] p = tt
 stays_same [] (y ∷ ys) p = absurd p
 stays_same (x ∷ xs) [] p = absurd p
-stays_same (x ∷ xs) (y ∷ ys) p = (p.0.same, stays_same xs ys p.1)
+stays_same (x ∷ xs) (y ∷ ys) p = (steady_of x y p.0.same (ap (λ (m : Meter). m.faults) p.0.journal.meter) (ap (λ (m : Meter). m.stops) p.0.journal.meter), stays_same xs ys p.1)
 
 pub stays_usable : (xs ys : List Kept) → EachIs Stays xs ys → AreUsable xs → AreUsable ys
 stays_usable [] [] p u = tt
@@ -104,7 +121,7 @@ does_links : (f : Home → Seat → Seat) (xs ys : List Kept) → EachIs (Does f
 does_links f [] [] p = tt
 does_links f [] (y ∷ ys) p = absurd p
 does_links f (x ∷ xs) [] p = absurd p
-does_links f (x ∷ xs) (y ∷ ys) p = (record { same = p.0.same; plugs = p.0.plugs }, does_links f xs ys p.1)
+does_links f (x ∷ xs) (y ∷ ys) p = (record { same = steady_of x y p.0.same (ap (λ (m : Meter). m.faults) p.0.journal.meter) (ap (λ (m : Meter). m.stops) p.0.journal.meter); plugs = p.0.plugs }, does_links f xs ys p.1)
 
 pub does_usable : (f : Home → Seat → Seat) (xs ys : List Kept) → EachIs (Does f) xs ys → AreUsable ys
 does_usable f [] [] p = tt

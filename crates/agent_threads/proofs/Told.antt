@@ -1,5 +1,5 @@
 -- What has been written.
-use Rattle.std.proofs.Common.{ℕ, zero, suc, ◌+◌, ◌<◌, ◌≡◌, List, [], ◌∷◌, ◌++◌, inl, inr, Option, Some, None, Result, Ok, Err, IfSome, refl, sym, ap, ◌∙◌, subst, arith, length, take, drop, append_assoc, append-nil, get_or}
+use Rattle.std.proofs.Common.{ℕ, zero, suc, ◌+◌, ◌<◌, ◌≡◌, List, [], ◌∷◌, ◌++◌, inl, inr, Option, Some, None, Result, Ok, Err, IfSome, refl, sym, ap, ◌∙◌, subst, arith, length, length-append, ◌≤◌, take, drop, append_assoc, append-nil, get_or}
 use Rattle.std.specs.Result.{OnErr}
 use Rattle.std.proofs.Math.Seq.{take-append-add}
 use Rattle.std.proofs.lemmas.List.{take_all, take_more, drop_more, take-append-drop}
@@ -76,24 +76,26 @@ pub at_start : (starts nows : List Kept) (P : Homes → Type 0) → AreSame star
 at_start starts nows P s f t o routes r = f t (still_of t starts nows s o) routes r
 
 -- what stands where a group wasn't made or wasn't written
-pub some_of_play : (t : Network) (script : List Group) (i : ℕ) (d : Group) (starts nows : List Kept) (events : List Event) (next : ℕ) (old mid new : Option (List ℕ)) → i < length script → AreSame starts nows
-    → AtHomes starts (λ homes. IsPlayedBy homes (take i script) (seats starts) events next (seats nows)) → WritesAll old mid (text_of t events)
-    → WritesSomeOfGroup t (get_or script i d) next nows mid new → WritesSomeOfPlay t script starts old new
-some_of_play t script i d starts nows events next old mid new h s p w (inl e) = (
+pub some_of_play : (t : Network) (script : List Group) (i : ℕ) (d : Group) (starts nows : List Kept) (events : List Event) (next limit : ℕ) (old mid new : Option (List ℕ)) → i < length script → AreSame starts nows
+    → AtHomes starts (λ homes. IsPlayedBy homes (take i script) (seats starts) events next (seats nows)) → length events ≤ limit → WritesAll old mid (text_of t events)
+    → WritesSomeOfGroup t limit (length events) (get_or script i d) next nows mid new → WritesSomeOfPlay t limit script starts old new
+some_of_play t script i d starts nows events next limit old mid new h s p few w (inl e) = (
   i,
   events,
   seats nows,
   (λ u o routes r. played_all _ (take i script) (seats starts) events next (seats nows) (p u o routes r)),
+  few,
   writes_front_all t events old new (subst (λ m. WritesAll old m (text_of t events)) (sym e) w),
 )
-some_of_play t script i d starts nows events next old mid new h s p w (inr q) = (
+some_of_play t script i d starts nows events next limit old mid new h s p few w (inr q) = (
   i + 1,
   events ++ q.0,
   q.1,
   (λ u o routes r.
       played_all _ (take (i + 1) script) (seats starts) (events ++ q.0) (next + asks_among (get_or script i d).acts) q.1
       (group_more _ script i d (seats starts) events next (seats nows) q.0 q.1 h (p u o routes r) (q.2 u (still_of u starts nows s o) routes r))),
-  writes_front_more t events q.0 old mid new w q.3,
+  (let m = q.3 in omega (arith, m, length-append events q.0)),
+  writes_front_more t events q.0 old mid new w q.4,
 )
 
 ---- What a script asks for

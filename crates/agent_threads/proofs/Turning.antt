@@ -18,7 +18,7 @@ use Rattle.nsi_play.specs.Rounds.{Net, Homes, events_of, turned_in, turned_all, 
 use Rattle.agent_threads.specs.declared.fault.RoundFault.{RoundFault}
 use Rattle.agent_threads.specs.Nets.{seats, EachIs, AtHomes, AreUsable}
 use Rattle.agent_threads.specs.Made.{HasRoom, HaveRoom, or_else, failure_at, stop_at, first_failure, first_stop, fault_of, HasRisen}
-use Rattle.agent_threads.proofs.Same.{at_home, KeepsLinks}
+use Rattle.agent_threads.proofs.Same.{at_home, KeepsLinks, steady_of}
 
 pub usable_at : (ks : List Kept) (i : ℕ) (d : Kept) → i < length ks → AreUsable ks → (get_or ks i d).fault ≡ None
 usable_at [] i d h u = absurd (omega arith)
@@ -84,11 +84,11 @@ events_grow homes (s ∷ ss) = omega (arith, events_cons s ss, events_cons (turn
 
 ---- Turns
 
-pub turns_links : (room : ℕ) (os ns : List Kept) → EachIs (IsTurn room) os ns → EachIs KeepsLinks os ns
-turns_links room [] [] e = tt
-turns_links room [] (n ∷ ns) e = absurd e
-turns_links room (o ∷ os) [] e = absurd e
-turns_links room (o ∷ os) (n ∷ ns) e = (record { same = e.0.same; plugs = e.0.plugs }, turns_links room os ns e.1)
+pub turns_links : (room : ℕ) (os ns : List Kept) → EachIs (IsTurn room) os ns → AreUsable ns → EachIs KeepsLinks os ns
+turns_links room [] [] e u = tt
+turns_links room [] (n ∷ ns) e u = absurd e
+turns_links room (o ∷ os) [] e u = absurd e
+turns_links room (o ∷ os) (n ∷ ns) e u = (record { same = steady_of o n e.0.same (e.0.cause.quiet u.0) (e.0.cause.calm u.0); plugs = e.0.plugs }, turns_links room os ns e.1 u.1)
 
 pub turns_seats : (room : ℕ) (os ns : List Kept) → EachIs (IsTurn room) os ns → AreUsable ns → AtHomes os (λ homes. seats ns ≡ turned_all homes (seats os))
 turns_seats room [] [] e u t o routes r = refl

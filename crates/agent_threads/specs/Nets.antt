@@ -5,7 +5,7 @@ use Rattle.agent_link.specs.Link.{Wire}
 use Rattle.nsi_agent.specs.Homes.{Routes, AreRoutes, home_in}
 use Rattle.agent_node.specs.Doors.{others}
 use Rattle.agent_node.specs.Seat.{Seat}
-use Rattle.agent_node.specs.Kept.{Kept, plug, AreLinked, IsSameAgent}
+use Rattle.agent_node.specs.Kept.{Kept, plug, AreLinked}
 use Rattle.nsi_play.specs.Rounds.{Net, Homes}
 
 abbrev pub seat_in : Kept → Seat
@@ -32,9 +32,24 @@ AreOf t (k ∷ ks) = (k.network ≡ t) × AreOf t ks
 abbrev pub AtHomes : List Kept → (Homes → Type 0) → Type 0
 AtHomes ks P = (t : Network) → AreOf t ks → (routes : Routes) → AreRoutes t routes → P (home_in t routes)
 
--- the same agents, with links to the same others
+-- the same agent, with links to the same others; no call of its disk has failed, and none has stopped it
+pub record IsSteady (old new : Kept) : Type 0 where
+  pub network : new.network ≡ old.network
+  pub number : new.seat.number ≡ old.seat.number
+  pub others : others new.seat.doors ≡ others old.seat.doors
+  pub faults : new.meter.faults ≡ old.meter.faults
+  pub stops : new.meter.stops ≡ old.meter.stops
+
 abbrev pub AreSame : List Kept → List Kept → Type 0
-AreSame olds news = EachIs IsSameAgent olds news
+AreSame olds news = EachIs IsSteady olds news
+
+-- no call of its disk has failed, and none has stopped it
+pub record IsCalm (old new : Kept) : Type 0 where
+  pub faults : new.meter.faults ≡ old.meter.faults
+  pub stops : new.meter.stops ≡ old.meter.stops
+
+abbrev pub AreCalm : List Kept → List Kept → Type 0
+AreCalm olds news = EachIs IsCalm olds news
 
 ---- Nets
 

@@ -60,12 +60,18 @@ WritesTooLong t limit script start old new =
     × (length events ≤ limit) × WritesAll old new (text_of t events)
 
 -- a front of the text of some groups of the play was written
-abbrev pub WritesSomeOfPlay : Network → List Group → List Kept → Option (List ℕ) → Option (List ℕ) → Type 0
-WritesSomeOfPlay t script start old new =
+abbrev pub WritesSomeOfPlay : Network → ℕ → List Group → List Kept → Option (List ℕ) → Option (List ℕ) → Type 0
+WritesSomeOfPlay t limit script start old new =
     (groups : ℕ) × (events : List Event) × (last : Net) × AtHomes start (λ homes. IsPlayFrom (take groups script) homes (seats start) events last)
-    × WritesFront old new (text_of t events)
+    × (length events ≤ limit) × WritesFront old new (text_of t events)
+
+-- the text of some whole groups of the play was written
+abbrev pub WritesGroups : Network → ℕ → List Group → List Kept → Option (List ℕ) → Option (List ℕ) → Type 0
+WritesGroups t limit script start old new =
+    (groups : ℕ) × (events : List Event) × (last : Net) × AtHomes start (λ homes. IsPlayFrom (take groups script) homes (seats start) events last)
+    × (length events ≤ limit) × WritesAll old new (text_of t events)
 
 -- nothing of the group was written, or it is over and a front of its text was
-abbrev pub WritesSomeOfGroup : Network → Group → ℕ → List Kept → Option (List ℕ) → Option (List ℕ) → Type 0
-WritesSomeOfGroup t g next x old new =
-    (new ≡ old) ⊎ ((own : List Event) × (y : Net) × AtHomes x (λ homes. IsGroupOver homes g next (seats x) own y) × WritesFront old new (text_of t own))
+abbrev pub WritesSomeOfGroup : Network → (limit before : ℕ) → Group → ℕ → List Kept → Option (List ℕ) → Option (List ℕ) → Type 0
+WritesSomeOfGroup t limit before g next x old new =
+    (new ≡ old) ⊎ ((own : List Event) × (y : Net) × AtHomes x (λ homes. IsGroupOver homes g next (seats x) own y) × (before + length own ≤ limit) × WritesFront old new (text_of t own))

@@ -7,10 +7,10 @@ ghost use Rattle.nsi_primitive.specs.Printable.{IsPrintableEvent};
 ghost use Rattle.nsi_primitive.specs.declared.entry.Event.{Event as EventOf};
 ghost use Rattle.trace_text.specs.Lines.{text_of};
 ghost use Rattle.nsi_play.specs.Play.{asks_among};
-ghost use Rattle.agent_threads.specs.Nets.{seats, AreOf, AtHomes, AreSame, AreNet};
+ghost use Rattle.agent_threads.specs.Nets.{seats, AreOf, AtHomes, AreSame, AreCalm, AreNet};
 ghost use Rattle.agent_threads.specs.Made.{run_fault, HasCause, HasRunCause, IsOfWriting};
 ghost use Rattle.agent_threads.specs.Coming.{IsGroupOver, GroupPasses};
-ghost use Rattle.agent_threads.specs.Promise.{CanDo, CanBePlayed, WritesPlay, WritesTooLong, WritesSomeOfPlay};
+ghost use Rattle.agent_threads.specs.Promise.{CanDo, CanBePlayed, WritesPlay, WritesTooLong, WritesGroups, WritesSomeOfPlay};
 
 use crate::fault::{RoundFault, RunFault};
 use crate::group::{begin, settle};
@@ -111,7 +111,8 @@ fn write_text<K: Sink>(out: &mut K, text: &[u8]) -> Result<(), RunFault>
     ensures front { OnErr result (WritesFront (K.content out.old) (K.content out.new) text.now) }
     ensures cause { IfErr result IsOfWriting }
     ensures write { IsErrOf result RunFault.WriteFault → K.faults out.old < K.faults out.new }
-    ensures counted { K.faults out.old ≤ K.faults out.new }
+    ensures quiet { OnOk result (K.faults out.new ≡ K.faults out.old) }
+    ensures memory { IsErrOf result RunFault.NoMemory → K.faults out.new ≡ K.faults out.old }
 {
     match write_all(out, text) {
         Ok(()) => Ok(()),
@@ -142,10 +143,20 @@ pub fn play_all<'t, J: Journal + Drop, K: Sink>(
         nodes.old.items (K.content out.old) (K.content out.new) }
 
     // Another fault comes only from outside, and leaves a front of the text.
-    ensures front { OnErr result (WritesSomeOfPlay topology.now groups.now nodes.old.items
-        (K.content out.old) (K.content out.new)) }
+    ensures front { OnErr result (WritesSomeOfPlay topology.now limit groups.now
+        nodes.old.items (K.content out.old) (K.content out.new)) }
+
+    // Where a disk has failed, whole groups were written.
+    ensures whole { (a : ℕ) → IsErrOf result (RunFault.DiskFault a) → WritesGroups topology.now
+        limit groups.now nodes.old.items (K.content out.old) (K.content out.new) }
     ensures cause { IfErr result (λ e. HasRunCause e nodes.new.items) }
     ensures write { IsErrOf result RunFault.WriteFault → K.faults out.old < K.faults out.new }
+    ensures quiet { (IsErrOf result RunFault.WriteFault → ⊥) →
+        K.faults out.new ≡ K.faults out.old }
+
+    // No fault of a disk is hidden.
+    ensures same { OnOk result (AreSame nodes.old.items nodes.new.items) }
+    ensures calm { OnOk result (AreCalm nodes.old.items nodes.new.items) }
 {
     let mut progress = Progress { events: 0, asks: 0 };
     for group in groups {

@@ -27,12 +27,12 @@ returns-in-Some-clause-stopped g c = λ a h.
 
 pub meet_all-requires-clause-apart : goal.meet_all-requires-clause-apart
 meet_all-requires-clause-apart g c =
-    let links = turns_links c.args.room c.args.nodes.now.items c.turn_all.new.nodes.items c.turn_all.ensures in
+    let links = turns_links c.args.room c.args.nodes.now.items c.turn_all.new.nodes.items c.turn_all.ensures (all_usable c.turn_all.new.nodes.items (ap fault_of (sym c.deref.ensures.value) ∙ (sym c.fault_in.ensures ∙ c.in_default.is))) in
     still_apart c.args.nodes.now.items c.turn_all.new.nodes.items (links_same c.args.nodes.now.items c.turn_all.new.nodes.items links) c.requires.net.apart
 
 pub meet_all-requires-clause-wired : goal.meet_all-requires-clause-wired
 meet_all-requires-clause-wired g c =
-    let links = turns_links c.args.room c.args.nodes.now.items c.turn_all.new.nodes.items c.turn_all.ensures in
+    let links = turns_links c.args.room c.args.nodes.now.items c.turn_all.new.nodes.items c.turn_all.ensures (all_usable c.turn_all.new.nodes.items (ap fault_of (sym c.deref.ensures.value) ∙ (sym c.fault_in.ensures ∙ c.in_default.is))) in
     still_wired c.args.nodes.now.items c.turn_all.new.nodes.items links c.requires.net.wired
 
 pub returns-clause-ok : goal.returns-clause-ok
@@ -45,7 +45,7 @@ pub returns-clause-net : goal.returns-clause-net
 returns-clause-net g c =
     let mids = c.turn_all.new.nodes.items in
     let news = c.meet_all.new.nodes.items in
-    let links = turns_links c.args.room c.args.nodes.now.items mids c.turn_all.ensures in
+    let links = turns_links c.args.room c.args.nodes.now.items mids c.turn_all.ensures (all_usable mids (ap fault_of (sym c.deref.ensures.value) ∙ (sym c.fault_in.ensures ∙ c.in_default.is))) in
     let apart = still_apart c.args.nodes.now.items mids (links_same c.args.nodes.now.items mids links) c.requires.net.apart in
     let usable = all_usable mids (ap fault_of (sym c.deref.ensures.value) ∙ (sym c.fault_in.ensures ∙ c.in_default.is)) in
     record {
@@ -58,5 +58,5 @@ pub returns-clause-same : goal.returns-clause-same
 returns-clause-same g c =
     let mids = c.turn_all.new.nodes.items in
     let news = c.meet_all.new.nodes.items in
-    let links = turns_links c.args.room c.args.nodes.now.items mids c.turn_all.ensures in
+    let links = turns_links c.args.room c.args.nodes.now.items mids c.turn_all.ensures (all_usable mids (ap fault_of (sym c.deref.ensures.value) ∙ (sym c.fault_in.ensures ∙ c.in_default.is))) in
     same_twice c.args.nodes.now.items mids news (links_same c.args.nodes.now.items mids links) (stays_same mids news c.meet_all.ensures.each)

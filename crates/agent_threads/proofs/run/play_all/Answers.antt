@@ -1,4 +1,4 @@
-use Rattle.std.proofs.Common.{ℕ, ◌<◌, ◌+◌, ◌++◌, ◌∙◌, inl, inr, sym, refl, ap, subst, arith, length, length-append, get_or, [], List, take, Err}
+use Rattle.std.proofs.Common.{ℕ, ◌<◌, ◌≤◌, ◌≡◌, ◌+◌, ◌++◌, ◌∙◌, inl, inr, sym, refl, ap, subst, arith, length, length-append, get_or, [], List, take, Err}
 use Rattle.std.proofs.lemmas.List.{take_all}
 use Rattle.std.proofs.lemmas.Result.{err_from_is_err_and}
 use Rattle.nsi_outside.specs.Stream.{WritesAll, WritesFront}
@@ -11,10 +11,10 @@ use Rattle.agent_threads.specs.Made.{HasRunCause}
 use Rattle.agent_threads.specs.Nets.{seats, AtHomes}
 use Rattle.agent_threads.specs.Coming.{IsPlayedBy, IsGroupOver, GroupPasses}
 use Rattle.agent_threads.specs.Promise.{AllCanBeDone}
-use Rattle.agent_threads.proofs.Same.{all_same, still_of, same_twice}
+use Rattle.agent_threads.proofs.Same.{all_same, still_of, same_twice, are_calm}
 use Rattle.agent_threads.proofs.Coming.{played_none, played_all}
 use Rattle.agent_threads.proofs.Told.{on_err, writes_none, writes_more, script_passes, front_passes, group_more, some_of_play, can_at}
-use Rattle.agent_threads.proofs.Causes.{same_error, if_err, write_cause, not_long}
+use Rattle.agent_threads.proofs.Causes.{same_error, if_err, write_cause, not_long, not_disk, if_writing}
 use Rattle.agent_threads.proofs.run.play_all.Goals as goal
 
 pub loop-group-init : goal.loop-group-init
@@ -23,7 +23,7 @@ loop-group-init g c = record {
   net = c.requires.net;
   same = all_same c.args.nodes.now.items;
   within = omega arith;
-  counted = omega arith;
+  counted = refl;
 }
 
 pub play_group-requires-clause-can : goal.play_group-requires-clause-can
@@ -61,7 +61,7 @@ loop-group-preserved g c =
       net = c.in_ok-text.ensures.net;
       same = same_twice c.args.nodes.now.items l.nodes.items c.play_group.new.nodes.items l.invariant.same c.in_ok-text.ensures.same;
       within = c.in_ok-text.ensures.within;
-      counted = omega (arith, c.write_text.ensures.counted, l.invariant.counted);
+      counted = c.in_ok-write_text.ensures.quiet ∙ l.invariant.counted;
     }
 
 pub returns-in_err-text-clause-long : goal.returns-in_err-text-clause-long
@@ -91,8 +91,8 @@ returns-in_err-text-clause-front g c =
     let l = c.loop-group in
     let w = l.invariant.way in
     let h : l.group-index < length c.args.groups.now = omega (arith, c.loop-group-test.true) in
-    on_err c.from_residual.result _ (some_of_play c.args.topology.now c.args.groups.now l.group-index c.group-item.result c.args.nodes.now.items l.nodes.items w.0 l.progress.asks
-    (g.K.Sink.content c.args.out.now) (g.K.Sink.content l.out) (g.K.Sink.content l.out) h l.invariant.same w.1 w.3 (inl refl))
+    on_err c.from_residual.result _ (some_of_play c.args.topology.now c.args.groups.now l.group-index c.group-item.result c.args.nodes.now.items l.nodes.items w.0 l.progress.asks c.args.limit
+    (g.K.Sink.content c.args.out.now) (g.K.Sink.content l.out) (g.K.Sink.content l.out) h l.invariant.same w.1 (omega (arith, w.2, l.invariant.within)) w.3 (inl refl))
 
 pub returns-in_err-write_text-clause-long : goal.returns-in_err-write_text-clause-long
 returns-in_err-write_text-clause-long g c = λ e.
@@ -117,8 +117,9 @@ returns-in_err-write_text-clause-front g c =
     subst (λ (bytes : List ℕ). WritesFront (g.K.Sink.content l.out) (g.K.Sink.content c.write_text.new.out) bytes) (c.deref.ensures.value ∙ u.3) c.in_err-write_text.ensures.front in
     let over : AtHomes l.nodes.items (λ homes. IsGroupOver homes (get_or c.args.groups.now l.group-index c.group-item.result) l.progress.asks (seats l.nodes.items) u.0 news) =
     λ t o routes r. subst (λ (z : Group). IsGroupOver (home_in t routes) z l.progress.asks (seats l.nodes.items) u.0 news) c.group-item.is (u.2 t o routes r) in
-    on_err c.from_residual-in_err-write_text.result _ (some_of_play c.args.topology.now c.args.groups.now l.group-index c.group-item.result c.args.nodes.now.items l.nodes.items w.0 l.progress.asks
-    (g.K.Sink.content c.args.out.now) (g.K.Sink.content l.out) (g.K.Sink.content c.write_text.new.out) h l.invariant.same w.1 w.3 (inr (u.0, news, over, front)))
+    let few : length w.0 + length u.0 ≤ c.args.limit = omega (arith, w.2, u.1, c.in_ok-text.ensures.within) in
+    on_err c.from_residual-in_err-write_text.result _ (some_of_play c.args.topology.now c.args.groups.now l.group-index c.group-item.result c.args.nodes.now.items l.nodes.items w.0 l.progress.asks c.args.limit
+    (g.K.Sink.content c.args.out.now) (g.K.Sink.content l.out) (g.K.Sink.content c.write_text.new.out) h l.invariant.same w.1 (omega (arith, w.2, l.invariant.within)) w.3 (inr (u.0, news, over, few, front)))
 
 pub returns-clause-done : goal.returns-clause-done
 returns-clause-done g c =
@@ -135,3 +136,30 @@ returns-clause-done g c =
       l.invariant.within,
       w.3,
     )
+
+pub returns-in_err-text-clause-whole : goal.returns-in_err-text-clause-whole
+returns-in_err-text-clause-whole g c = λ a e.
+    let l = c.loop-group in
+    let w = l.invariant.way in
+    let start = seats c.args.nodes.now.items in (
+      l.group-index,
+      w.0,
+      seats l.nodes.items,
+      (λ t o routes r. played_all (home_in t routes) (take l.group-index c.args.groups.now) start w.0 l.progress.asks (seats l.nodes.items) (w.1 t o routes r)),
+      omega (arith, w.2, l.invariant.within),
+      w.3,
+    )
+
+pub returns-in_err-write_text-clause-whole : goal.returns-in_err-write_text-clause-whole
+returns-in_err-write_text-clause-whole g c = λ a e.
+    let p = err_from_is_err_and c.from_residual-in_err-write_text.result c.from_residual-in_err-write_text.ensures.1 in
+    absurd (not_disk c.in_err-write_text.field-0.0 a c.in_err-write_text.ensures.cause (same_error c.from_residual-in_err-write_text.result p.0 c.in_err-write_text.field-0.0 _ p.1 p.2 e))
+
+pub returns-in_err-write_text-clause-quiet : goal.returns-in_err-write_text-clause-quiet
+returns-in_err-write_text-clause-quiet g c = λ n.
+    let p = err_from_is_err_and c.from_residual-in_err-write_text.result c.from_residual-in_err-write_text.ensures.1 in
+    if_writing c.in_err-write_text.field-0.0 _ c.in_err-write_text.ensures.cause (λ q. n (p.1 ∙ ap (λ (x : RunFault). Err x) (p.2 ∙ q)))
+    (λ q. c.in_err-write_text.ensures.memory (ap (λ (x : RunFault). Err x) q) ∙ c.loop-group.invariant.counted)
+
+pub returns-clause-calm : goal.returns-clause-calm
+returns-clause-calm g c = are_calm c.args.nodes.now.items c.loop-group.nodes.items c.loop-group.invariant.same

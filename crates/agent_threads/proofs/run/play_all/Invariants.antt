@@ -13,5 +13,5 @@ invariant-loop-group g l = record {
   net : AreNet l.nodes.items;
   same : AreSame l.fn.nodes.items l.nodes.items;
   within : l.progress.events ≤ l.limit;
-  counted : g.K.Sink.faults l.fn.out ≤ g.K.Sink.faults l.out;
+  counted : g.K.Sink.faults l.out ≡ g.K.Sink.faults l.fn.out;
 }
