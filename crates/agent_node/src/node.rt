@@ -1,9 +1,10 @@
 //! One agent of a net, with its journal and its ends of the links.
 
-ghost use Rattle.std.specs.Prelude.{◌≡◌, ◌≤◌, ◌<◌, ◌+◌, ℕ, [], None, Some, false, IfOk, OnOk};
+ghost use Rattle.std.specs.Prelude.{◌≡◌, ◌≤◌, ◌<◌, ◌+◌, ℕ, [], None, Some, false, IfOk, OnOk, is_some};
 ghost use Rattle.std.specs.List.{All};
 ghost use Rattle.nsi_primitive.specs.Printable.{IsPrintableAsk, IsPrintableEvent};
 ghost use Rattle.nsi_primitive.specs.declared.entry.Input.{Input};
+ghost use Rattle.journal_entry.specs.Journal.{MayLeaveSynced};
 ghost use Rattle.agent_state.specs.Entries.{most_entries};
 ghost use Rattle.requester_agent.specs.Setting.{IsRequester};
 ghost use Rattle.requester_agent.specs.Steps.{is_query_ask};
@@ -126,7 +127,8 @@ impl<'t, J: Journal + Drop> Node<'t, J> {
         requires usable { self.old.fault ≡ None }
         requires few { self.old.seat.state.base.taken < most_entries }
         requires later { self.old.seat.state.base.now ≤ to }
-        ensures ok { AtHome self.old (λ h. OnOk result (self.new.seat ≡ ticked h to self.old.seat)) }
+        ensures ok { AtHome self.old
+            (λ h. OnOk result (self.new.seat ≡ ticked h to self.old.seat)) }
         ensures fault { self.new.fault ≡ lack_of result }
         ensures same { IsSameAgent self.old self.new }
         ensures plugs { self.new.plugs ≡ self.old.plugs }
@@ -226,6 +228,9 @@ impl<'t, J: Journal + Drop> Node<'t, J> {
     pub fn into_journal(self) -> J
         ensures meter { J.meter result ≡ self.entry.meter }
         ensures kept { J.kept result ≡ self.entry.kept }
+        ensures left { self.entry.fault ≡ None →
+            MayLeaveSynced J.reading self.entry.kept (J.history result) }
+        ensures tells { is_some self.entry.kept ≡ is_some (J.history result) }
     {
         let Node {
             core,

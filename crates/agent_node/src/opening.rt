@@ -1,8 +1,11 @@
 //! An agent of a net before anything has happened.
 
-ghost use Rattle.std.specs.Prelude.{◌≡◌, ◌≤◌, ◌<◌, ◌==◌, [], ◌∷◌, ◌++◌, None, Some, false, length, map, filter, vec_capacity, IfOk, IfErr, OnOk};
+ghost use Rattle.std.specs.Prelude.{◌≡◌, ◌≤◌, ◌<◌, ◌==◌, [], ◌∷◌, ◌++◌, None, Some, false, length, map, filter, vec_capacity, IfOk, IfErr, OnOk, is_some};
 ghost use Rattle.std.specs.List.{list_any};
 ghost use Rattle.agent_state.specs.State.{blank_agent};
+ghost use Rattle.journal_entry.specs.Journal.{MayLeaveSynced};
+ghost use Rattle.journal_entry.specs.Journals.{recovers};
+ghost use Rattle.journal_entry.specs.Payloads.{batch_of};
 ghost use Rattle.disk_journal.specs.StartOf.{StartsFor, KeepsCounts, Keeps, ReadsNothing};
 ghost use Rattle.agent_node.specs.Openings.{is_provider_of, asks, are_linked, others_of, empty_door, seat_of};
 ghost use Rattle.agent_node.specs.Kept.{AreEnds, plugs_of};
@@ -206,9 +209,12 @@ impl<'t, D: Disk + Drop> Node<'t, DiskJournal<D>> {
         }
     }
 
-    /// Its disk.
+    /// Its disk. Where no call has failed, a crash now leaves the synced entries.
     pub fn into_disk(self) -> D
         ensures meter { D.meter result ≡ self.entry.meter }
+        ensures left { self.entry.fault ≡ None →
+            MayLeaveSynced (recovers batch_of) self.entry.kept (D.history result) }
+        ensures tells { is_some self.entry.kept ≡ is_some (D.history result) }
     {
         let journal = self.into_journal();
         journal.into_disk()

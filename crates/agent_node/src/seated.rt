@@ -8,7 +8,8 @@ ghost use Rattle.stp_topology.specs.Network.{kind_of};
 ghost use Rattle.agent_state.specs.Entries.{most_entries};
 ghost use Rattle.requester_agent.specs.Setting.{IsRequester};
 ghost use Rattle.requester_agent.specs.Steps.{is_query_ask};
-ghost use Rattle.nsi_agent.specs.Steps.{after, may_take};
+ghost use Rattle.nsi_agent.specs.Homes.{Routes, home_in};
+ghost use Rattle.nsi_agent.specs.Steps.{after, is_new, may_take};
 ghost use Rattle.agent_node.specs.Doors.{HasMet, IsPrintableCome, lying, plug_to, crossed};
 ghost use Rattle.agent_node.specs.Seat.{enters, enters_if, enters_now, enters_with, now_at};
 ghost use Rattle.agent_node.specs.Turns.{cleared, takes, takes_all, worked, syncs, pushed};
@@ -207,6 +208,15 @@ impl<'t> Core<'t> {
         }
     }
 
+    /// Whether a message makes an entry.
+    fn is_new(&self, message: &Message) -> bool
+        ensures { (routes : Routes) →
+            let h = home_in self.now.network routes self.now.seat.number in
+            result ≡ is_new h self.now.seat.state message.now }
+    {
+        self.agent.is_new(message)
+    }
+
     /// Takes a parcel that came from that agent.
     fn take(
         &mut self,
@@ -223,7 +233,7 @@ impl<'t> Core<'t> {
         match parcel {
             Parcel::Message(message) => {
                 let identity = message.identity()?;
-                let is_new = self.agent.is_new(&message);
+                let is_new = self.is_new(&message);
                 self.enter_if(alloc, is_new, Input::Got(message), room)?;
                 self.links.queue(from, Parcel::Ack(identity))?;
                 Ok(())
@@ -319,8 +329,10 @@ impl<'t> Core<'t> {
         ensures stays { Stays self.old self.new }
     {
         let now = self.agent.now();
-        let answer = self.enter(alloc, now, Input::Ask { number, ask })?;
-        answer.ok_or(AllocError)
+        match self.enter(alloc, now, Input::Ask { number, ask })? {
+            Some(answer) => Ok(answer),
+            None => unreachable!(),
+        }
     }
 
     /// The connection of a record is ended by force.
@@ -339,7 +351,8 @@ impl<'t> Core<'t> {
     pub fn tick(&mut self, alloc: Global, to: Second) -> Result<(), AllocError>
         requires few { self.old.seat.state.base.taken < most_entries }
         requires later { self.old.seat.state.base.now ≤ to }
-        ensures ok { AtSeat self.old (λ h. OnOk result (self.new.seat ≡ ticked h to self.old.seat)) }
+        ensures ok { AtSeat self.old
+            (λ h. OnOk result (self.new.seat ≡ ticked h to self.old.seat)) }
         ensures stays { Stays self.old self.new }
     {
         let again = self.overdue(alloc)?;

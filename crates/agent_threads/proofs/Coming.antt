@@ -1,13 +1,16 @@
 -- How far a play has come: whatever the rest is played as, it completes the play.
-use Rattle.std.proofs.Common.{ℕ, suc, ◌+◌, ◌-◌, ◌<◌, ◌≤◌, ◌≡◌, true, false, List, [], ◌∷◌, ◌++◌, refl, sym, ap, ◌∙◌, arith, length, drop, get_or, append_assoc, append-nil, length-append, add-one, drop-cons, map}
+use Rattle.std.proofs.Common.{ℕ, suc, ◌+◌, ◌-◌, ◌<◌, ◌≤◌, ◌≡◌, true, false, List, [], ◌∷◌, ◌++◌, refl, sym, ap, ap₂, ◌∙◌, arith, cond, length, drop, get_or, append_assoc, append-nil, length-append, add-one, drop-cons, map}
+use Rattle.std.specs.Prelude.{count_by}
 use Rattle.std.proofs.lemmas.List.{drop_all}
+use Rattle.std.proofs.lemmas.List.Sums.{sum_by-cons, sum_by-append}
+use Rattle.nsi_script.specs.Scripts.{acts_of, is_ask, asks_of}
 use Rattle.nsi_primitive.specs.declared.entry.Event.{Event}
 use Rattle.nsi_script.specs.declared.script.Act.{Act}
 use Rattle.nsi_script.specs.declared.script.Group.{Group}
 use Rattle.nsi_play.specs.Rounds.{Net, Homes, round, events_of, emptied, all_quiet}
 use Rattle.nsi_play.specs.Play.{Played, behind, settles, asks_in, asks_among, acts, acted, begins, ticked_in, group, then_on, plays, ended, IsPlayFrom, PassesFrom}
 use Rattle.nsi_play.proofs.Settling.{behind_twice, settle_quiet, settle_more, group_is, plays_cons, plays_nil, then_on_longer, acts_cons, acts_none}
-use Rattle.agent_threads.specs.Coming.{IsTold, IsBegun, IsSettledBy, IsPlayedBy, IsGroupOver, GroupPasses}
+use Rattle.agent_threads.specs.Coming.{IsTold, IsBegun, IsSettledBy, OverrunsBy, IsPlayedBy, IsGroupOver, GroupPasses}
 
 ---- Rounds
 
@@ -19,6 +22,16 @@ settled_more homes x events y s q = record {
   count = s.count + 1;
   goes = λ most. ap (λ n. settles n homes x) (omega arith) ∙ (s.goes (suc most) ∙ (ap (behind events) (settle_more most homes y q) ∙ behind_twice events (events_of (round homes y)) (settles most homes (emptied (round homes y)))));
 }
+
+pub settled_then : (homes : Homes) (x : Net) (before : List Event) (y : Net) (events : List Event) (z : Net) → IsSettledBy homes x before y → IsSettledBy homes y events z → IsSettledBy homes x (before ++ events) z
+settled_then homes x before y events z s u = record {
+  count = s.count + u.count;
+  goes = λ most. ap (λ n. settles n homes x) (omega arith) ∙ (s.goes (u.count + most) ∙ (ap (behind before) (u.goes most) ∙ behind_twice before events (settles most homes z)));
+}
+
+pub settled_overruns : (homes : Homes) (x : Net) (own : List Event) (y : Net) (before now room : ℕ) → IsSettledBy homes x own y → now ≡ before + length own → OverrunsBy homes y now room → OverrunsBy homes x before room
+settled_overruns homes x own y before now room s is o =
+    (own ++ o.0, o.1, settled_then homes x own y o.0 o.1 s o.2, o.3, omega (arith, is, o.4, length-append own o.0))
 
 -- where all are quiet, the group is over
 pub group_over : (homes : Homes) (g : Group) (next : ℕ) (x : Net) (events : List Event) (y : Net) → IsSettledBy homes (begins g next homes x).net events y → all_quiet homes y ≡ true → IsGroupOver homes g next x ((begins g next homes x).events ++ events) y
@@ -123,6 +136,25 @@ asks_next todo i d h = ap asks_among (drop-cons todo i d h) ∙ (asks_cons (get_
 
 pub asks_end : (todo : List Act) (i : ℕ) → length todo ≤ i → asks_among (drop i todo) ≡ 0
 asks_end todo i h = ap asks_among (drop_all i todo h) ∙ asks_none
+
+-- an act is counted as an ask where it is one
+ask_is : (a : Act) → cond (is_ask a) 1 0 ≡ asks_in a
+ask_is (Act.Ask a ask) = refl
+ask_is (Act.Force a n) = refl
+ask_is (Act.Restart a) = refl
+
+asks_counted : (acts : List Act) → count_by is_ask acts ≡ asks_among acts
+asks_counted [] = sym asks_none
+asks_counted (a ∷ acts) = sum_by-cons (λ z. cond (is_ask z) 1 0) a acts ∙ (ap₂ ◌+◌ (ask_is a) (asks_counted acts) ∙ sym (asks_cons a acts))
+
+asks_append : (acts rest : List Act) → count_by is_ask (acts ++ rest) ≡ asks_among acts + count_by is_ask rest
+asks_append acts rest = sum_by-append (λ z. cond (is_ask z) 1 0) acts rest ∙ ap (λ n. n + count_by is_ask rest) (asks_counted acts)
+
+-- the asks of the groups that are still to be played
+pub asks_later : (groups : List Group) (i : ℕ) (d : Group) → i < length groups → asks_of (drop i groups) ≡ asks_among (get_or groups i d).acts + asks_of (drop (i + 1) groups)
+asks_later groups i d h =
+    ap asks_of (drop-cons groups i d h)
+    ∙ (asks_append (get_or groups i d).acts (acts_of (drop (suc i) groups)) ∙ ap (λ k. asks_among (get_or groups i d).acts + asks_of (drop k groups)) (sym (add-one i)))
 
 -- the ticks
 pub acts_first : (homes : Homes) (more : List Event) (g : Group) (count : ℕ) (net next : Net) → IsTold (map (ticked_in g.at homes) net) [] more next → behind more (acts g.acts count homes next) ≡ begins g count homes net

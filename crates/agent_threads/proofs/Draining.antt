@@ -6,12 +6,13 @@ use Rattle.nsi_primitive.specs.declared.entry.Event.{Event}
 use Rattle.nsi_script.specs.declared.script.Act.{Act}
 use Rattle.agent_node.specs.Seat.{Seat}
 use Rattle.agent_node.specs.Acts.{asked, forced}
-use Rattle.agent_node.specs.Kept.{Kept}
+use Rattle.agent_node.specs.Kept.{Kept, IsSameAgent}
 use Rattle.nsi_play.specs.Rounds.{Net, Homes, events_of, emptied}
 use Rattle.nsi_play.specs.Play.{changes, does, acted}
 use Rattle.agent_threads.specs.Nets.{seats, EachIs, AreSame, AreNet}
 use Rattle.agent_threads.specs.Made.{Does, Drained, tells_at, part_in}
 use Rattle.agent_threads.specs.Coming.{IsTold}
+use Rattle.agent_threads.proofs.Places.{each_map}
 use Rattle.agent_threads.proofs.Same.{does_net, does_same}
 
 pub told_next : (ks : List Kept) (i : ℕ) (d : Kept) (es fs : List Event) → i < length ks → fs ≡ es ++ (get_or ks i d).seat.events → fs ++ events_of (seats (drop (i + 1) ks)) ≡ es ++ events_of (seats (drop i ks))
@@ -40,6 +41,12 @@ drained_net os ns e n = does_net tells_at os ns (drained_does os ns e) n
 
 pub drained_same : (os ns : List Kept) → EachIs Drained os ns → AreSame os ns
 drained_same os ns e = does_same tells_at os ns (drained_does os ns e)
+
+pub drained_agent : (a b : Kept) → Drained a b → IsSameAgent a b
+drained_agent a b d = d.made.same
+
+pub drained_agents : (os ns : List Kept) → EachIs Drained os ns → EachIs IsSameAgent os ns
+drained_agents os ns e = each_map Drained IsSameAgent os ns drained_agent e
 
 pub emptied_events : (net : Net) → events_of (emptied net) ≡ []
 emptied_events [] = refl

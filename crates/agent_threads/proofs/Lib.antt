@@ -9,3 +9,9 @@ pub mod Quiet
 pub mod Causes
 pub mod Coming
 pub mod Told
+pub mod Entering
+pub mod Moving
+pub mod Growing
+pub mod Bounding
+pub mod Going
+pub mod Keeping

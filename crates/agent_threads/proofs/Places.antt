@@ -1,6 +1,6 @@
 -- A loop over the agents of a net, place by place.
 use Rattle.std.proofs.Common.{ℕ, zero, suc, ◌+◌, ◌<◌, ◌≤◌, ◌≡◌, List, [], ◌∷◌, inl, inr, refl, sym, ap, ◌∙◌, subst, arith, length, get_or, slice_set, get_or-set_same, get_or-set_other}
-use Rattle.std.proofs.lemmas.Bool.{cases_eq}
+use Rattle.std.proofs.lemmas.Bool.{cases_eq, cases_lt}
 use Rattle.agent_node.specs.Kept.{Kept}
 use Rattle.agent_threads.specs.Nets.{EachIs}
 
@@ -59,6 +59,26 @@ up_to_end R olds news i u h = by_place R olds news u.len (λ j d l. u.done j d (
 -- what is still to come is as it was
 pub here_is : (R : Kept → Kept → Type 0) (P : Kept → Type 0) (olds news : List Kept) (i : ℕ) (d : Kept) → UpTo R olds news i → P (get_or olds i d) → P (get_or news i d)
 here_is R P olds news i d u p = subst P (sym (u.rest i d (omega arith))) p
+
+---- Where only some had their turn
+
+pub up_to_map : (R S : Kept → Kept → Type 0) (olds news : List Kept) (i : ℕ) → ((o n : Kept) → R o n → S o n) → UpTo R olds news i → UpTo S olds news i
+up_to_map R S olds news i f u = record {
+  len = u.len;
+  done = λ j d h l. f (get_or olds j d) (get_or news j d) (u.done j d h l);
+  rest = u.rest;
+}
+
+-- what is so of each that is as it was is so of all
+pub up_to_all : (S : Kept → Kept → Type 0) (olds news : List Kept) (i : ℕ) → ((k : Kept) → S k k) → UpTo S olds news i → EachIs S olds news
+up_to_all S olds news i r u = by_place S olds news u.len (λ j d l. elim (cases_lt j i) [
+  | inl b ↦ u.done j d b l
+  | inr a ↦ subst (λ (k : Kept). S (get_or olds j d) k) (sym (u.rest j d a)) (r (get_or olds j d))
+])
+
+-- the same behind one call more, of which only this is known
+pub up_to_failed : (S : Kept → Kept → Type 0) (olds news : List Kept) (i : ℕ) (d k : Kept) → ((k : Kept) → S k k) → UpTo S olds news i → i < length news → S (get_or news i d) k → EachIs S olds (slice_set news i k)
+up_to_failed S olds news i d k r u h s = up_to_all S olds (slice_set news i k) (i + 1) r (up_to_next S olds news i d k u h s)
 
 pub each_map : (R S : Kept → Kept → Type 0) (os ns : List Kept) → ((o n : Kept) → R o n → S o n) → EachIs R os ns → EachIs S os ns
 each_map R S [] [] f e = tt

@@ -1,4 +1,4 @@
--- Whether all agents are quiet, and have room.
+-- Whether all agents are quiet.
 use Rattle.std.proofs.Common.{ℕ, ◌+◌, ◌<◌, ◌≤◌, ◌≡◌, Bool, true, false, ◌&&◌, List, sym, ap, ◌∙◌, subst, length, drop, get_or, add-one, drop-cons}
 use Rattle.std.proofs.lemmas.List.{drop_all}
 use Rattle.stp_topology.specs.declared.network.Network.{Network}
@@ -8,7 +8,6 @@ use Rattle.agent_node.specs.Kept.{Kept}
 use Rattle.agent_node.specs.Made.{AtHome}
 use Rattle.nsi_play.specs.Rounds.{Homes, is_quiet_in, all_quiet}
 use Rattle.agent_threads.specs.Nets.{seats, AreOf, AtHomes}
-use Rattle.agent_threads.specs.Made.{HasRoom, HaveRoom}
 use Rattle.agent_threads.proofs.Same.{at_home, network_at}
 
 quiet_at : (homes : Homes) (ks : List Kept) (i : ℕ) (d : Kept) → i < length ks → all_quiet homes (seats (drop i ks)) ≡ (is_quiet_in homes (get_or ks i d).seat && all_quiet homes (seats (drop (i + 1) ks)))
@@ -30,11 +29,3 @@ still_quiet ks i d k q h e f n t o routes r =
 
 pub quiet_end : (homes : Homes) (ks : List Kept) (i : ℕ) → length ks ≤ i → all_quiet homes (seats (drop i ks)) ≡ true
 quiet_end homes ks i h = ap (λ (xs : List Kept). all_quiet homes (seats xs)) (drop_all i ks h)
-
----- Room
-
-pub room_next : (room : ℕ) (ks : List Kept) (i : ℕ) (d : Kept) → i < length ks → HasRoom room (get_or ks i d) → HaveRoom room (drop (i + 1) ks) → HaveRoom room (drop i ks)
-room_next room ks i d h p q = subst (HaveRoom room) (sym (drop-cons ks i d h)) (p, subst (λ n. HaveRoom room (drop n ks)) (add-one i) q)
-
-pub room_end : (room : ℕ) (ks : List Kept) (i : ℕ) → length ks ≤ i → HaveRoom room (drop i ks)
-room_end room ks i h = subst (HaveRoom room) (sym (drop_all i ks h)) tt

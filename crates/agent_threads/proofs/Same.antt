@@ -9,6 +9,7 @@ use Rattle.agent_node.specs.Made.{AtHome}
 use Rattle.nsi_disk.specs.Disk.{Meter}
 use Rattle.agent_threads.specs.Nets.{seats, numbers, EachIs, AreOf, AtHomes, IsSteady, AreSame, AreCalm, AreUsable, IsAbsent, AreApart, IsLinkedToAll, AreWired, AreNet}
 use Rattle.agent_threads.specs.Made.{Does, Stays}
+use Rattle.agent_threads.proofs.Places.{each_map}
 
 -- a fact of one agent, in the topology of all
 pub at_home : (t : Network) (k : Kept) (P : Home → Type 0) → k.network ≡ t → AtHome k P → (routes : Routes) → AreRoutes t routes → P (home_in t routes k.seat.number)
@@ -48,13 +49,38 @@ same_twice (x ∷ xs) [] zs p q = absurd p
 same_twice (x ∷ xs) (y ∷ ys) [] p q = absurd q
 same_twice (x ∷ xs) (y ∷ ys) (z ∷ zs) p q = (steady_trans x y z p.0 q.0, same_twice xs ys zs p.1 q.1)
 
+---- Only the same agents
+
+pub same_agents_twice : (xs ys zs : List Kept) → EachIs IsSameAgent xs ys → EachIs IsSameAgent ys zs → EachIs IsSameAgent xs zs
+same_agents_twice [] [] [] p q = tt
+same_agents_twice [] [] (z ∷ zs) p q = absurd q
+same_agents_twice [] (y ∷ ys) zs p q = absurd p
+same_agents_twice (x ∷ xs) [] zs p q = absurd p
+same_agents_twice (x ∷ xs) (y ∷ ys) [] p q = absurd q
+same_agents_twice (x ∷ xs) (y ∷ ys) (z ∷ zs) p q = (same_trans x y z p.0 q.0, same_agents_twice xs ys zs p.1 q.1)
+
+steady_agent : (a b : Kept) → IsSteady a b → IsSameAgent a b
+steady_agent a b s = record { network = s.network; number = s.number; others = s.others }
+
+pub same_agents : (xs ys : List Kept) → AreSame xs ys → EachIs IsSameAgent xs ys
+same_agents xs ys p = each_map IsSteady IsSameAgent xs ys steady_agent p
+
+stays_agent : (a b : Kept) → Stays a b → IsSameAgent a b
+stays_agent a b s = s.same
+
+pub stays_agents : (xs ys : List Kept) → EachIs Stays xs ys → EachIs IsSameAgent xs ys
+stays_agents xs ys p = each_map Stays IsSameAgent xs ys stays_agent p
+
+pub does_agent : (f : Home → Seat → Seat) (a b : Kept) → Does f a b → IsSameAgent a b
+does_agent f a b d = d.same
+
 pub still_of : (t : Network) (xs ys : List Kept) → AreSame xs ys → AreOf t xs → AreOf t ys
 still_of t [] [] p o = tt
 still_of t [] (y ∷ ys) p o = absurd p
 still_of t (x ∷ xs) [] p o = absurd p
 still_of t (x ∷ xs) (y ∷ ys) p o = (p.0.network ∙ o.0, still_of t xs ys p.1 o.1)
 
-numbers_same : (xs ys : List Kept) → AreSame xs ys → numbers (seats ys) ≡ numbers (seats xs)
+pub numbers_same : (xs ys : List Kept) → AreSame xs ys → numbers (seats ys) ≡ numbers (seats xs)
 numbers_same [] [] e = refl
 numbers_same [] (y ∷ ys) e = absurd e
 numbers_same (x ∷ xs) [] e = absurd e

@@ -12,12 +12,13 @@ use Rattle.agent_node.specs.declared.fault.TurnFault.{TurnFault}
 use Rattle.agent_node.specs.Seat.{Seat, entered, enters, enters_if, enters_now, now_at}
 use Rattle.agent_node.specs.Turns.{lying, cleared, takes, takes_all, works_off, work_then, worked, sync_event, syncs_if, turn_with, turned}
 use Rattle.agent_node.specs.Meetings.{met}
-use Rattle.agent_node.specs.Kept.{Kept}
+use Rattle.agent_node.specs.Kept.{Kept, IsSameAgent}
 use Rattle.agent_node.specs.Made.{IsTurn}
 use Rattle.nsi_play.specs.Rounds.{Net, Homes, events_of, turned_in, turned_all, meets_each, meets_all, met_all, round}
 use Rattle.agent_threads.specs.declared.fault.RoundFault.{RoundFault}
 use Rattle.agent_threads.specs.Nets.{seats, EachIs, AtHomes, AreUsable}
 use Rattle.agent_threads.specs.Made.{HasRoom, HaveRoom, or_else, failure_at, stop_at, first_failure, first_stop, fault_of, HasRisen}
+use Rattle.agent_threads.proofs.Places.{each_map}
 use Rattle.agent_threads.proofs.Same.{at_home, KeepsLinks, steady_of}
 
 pub usable_at : (ks : List Kept) (i : ℕ) (d : Kept) → i < length ks → AreUsable ks → (get_or ks i d).fault ≡ None
@@ -96,6 +97,13 @@ turns_seats room [] (n ∷ ns) e u t o routes r = absurd e
 turns_seats room (o ∷ os) [] e u t p routes r = absurd e
 turns_seats room (o ∷ os) (n ∷ ns) e u t p routes r =
     ap₂ ◌∷◌ (at_home t o (λ h. n.fault ≡ None → n.seat ≡ turned h o.seat) p.0 e.0.ok routes r u.0) (turns_seats room os ns e.1 u.1 t p.1 routes r)
+
+turn_agent : (room : ℕ) (a b : Kept) → IsTurn room a b → IsSameAgent a b
+turn_agent room a b t = t.same
+
+-- also where some turns failed
+pub turns_agents : (room : ℕ) (os ns : List Kept) → EachIs (IsTurn room) os ns → EachIs IsSameAgent os ns
+turns_agents room os ns e = each_map (IsTurn room) IsSameAgent os ns (turn_agent room) e
 
 ---- The fault of a round
 

@@ -2,3 +2,5 @@ pub mod Nets
 pub mod Made
 pub mod Coming
 pub mod Promise
+pub mod Journals
+pub mod Bounds

@@ -4,8 +4,9 @@ ghost use Rattle.std.specs.Prelude.{◌≡◌, None, OnOk, false};
 ghost use Rattle.nsi_primitive.specs.Printable.{IsPrintableAsk};
 ghost use Rattle.requester_agent.specs.Setting.{IsRequester};
 ghost use Rattle.requester_agent.specs.Steps.{is_query_ask};
+ghost use Rattle.agent_node.specs.Kept.{IsSameAgent};
 ghost use Rattle.agent_threads.specs.Nets.{EachIs, AreUsable};
-ghost use Rattle.agent_threads.specs.Made.{Does, asks_at, forces_at, part_in};
+ghost use Rattle.agent_threads.specs.Made.{Does, HasRoom, HaveRoom, asks_at, forces_at, part_in};
 ghost use Rattle.agent_threads.specs.Promise.{CanBeDone, CanAct};
 
 use agent_node::Node;
@@ -14,9 +15,6 @@ use nsi_base::{AgentNo, RecordNo};
 use nsi_primitive::Ask;
 use nsi_script::Act;
 use std::alloc::{AllocError, Global};
-
-/// So many entries an agent takes.
-const MOST_ENTRIES: u64 = 4_194_304;
 
 /// The agent with this number is asked.
 fn ask_one<'t, J: Journal + Drop>(
@@ -27,16 +25,15 @@ fn ask_one<'t, J: Journal + Drop>(
     ask: &Ask,
 ) -> Result<(), AllocError>
     requires usable { node.old.fault ≡ None }
+    requires few { HasRoom 1 node.old }
     requires requester { IsRequester node.old.network agent }
     requires plain { is_query_ask ask.now.what ≡ false }
     requires printable { IsPrintableAsk ask.now }
-    ensures { OnOk result (Does (asks_at agent number ask.now) node.old node.new) }
+    ensures done { OnOk result (Does (asks_at agent number ask.now) node.old node.new) }
+    ensures agent { IsSameAgent node.old node.new }
 {
     if node.number() != agent {
         return Ok(());
-    }
-    if node.taken() >= MOST_ENTRIES {
-        return Err(AllocError);
     }
     let ask = ask.copy()?;
     node.ask(alloc, number, ask)?;
@@ -50,14 +47,13 @@ fn force_one<'t, J: Journal + Drop>(
     agent: AgentNo,
     connection: RecordNo,
 ) -> Result<(), AllocError>
-    requires { node.old.fault ≡ None }
-    ensures { OnOk result (Does (forces_at agent connection) node.old node.new) }
+    requires usable { node.old.fault ≡ None }
+    requires few { HasRoom 1 node.old }
+    ensures done { OnOk result (Does (forces_at agent connection) node.old node.new) }
+    ensures agent { IsSameAgent node.old node.new }
 {
     if node.number() != agent {
         return Ok(());
-    }
-    if node.taken() >= MOST_ENTRIES {
-        return Err(AllocError);
     }
     node.force(alloc, connection)?;
     Ok(())
@@ -71,8 +67,10 @@ fn act_one<'t, J: Journal + Drop>(
     number: u32,
 ) -> Result<(), AllocError>
     requires usable { node.old.fault ≡ None }
+    requires few { HasRoom 1 node.old }
     requires can { CanBeDone node.old.network act.now }
-    ensures { OnOk result (Does (part_in act.now number) node.old node.new) }
+    ensures done { OnOk result (Does (part_in act.now number) node.old node.new) }
+    ensures agent { IsSameAgent node.old node.new }
 {
     match act {
         Act::Ask { agent, ask } => ask_one(alloc, node, *agent, number, ask),
@@ -92,8 +90,10 @@ pub fn act_all<'t, J: Journal + Drop>(
     number: u32,
 ) -> Result<(), AllocError>
     requires usable { AreUsable nodes.old.items }
+    requires few { HaveRoom 1 nodes.old.items }
     requires can { CanAct act.now nodes.old.items }
-    ensures { OnOk result (EachIs (Does (part_in act.now number)) nodes.old.items nodes.new.items) }
+    ensures done { OnOk result (EachIs (Does (part_in act.now number)) nodes.old.items nodes.new.items) }
+    ensures agents { EachIs IsSameAgent nodes.old.items nodes.new.items }
 {
     for node in nodes.iter_mut() {
         act_one(alloc, node, act, number)?;

@@ -1,13 +1,18 @@
 //! A group of a script: ticks, acts, and rounds until all agents are quiet.
 
-ghost use Rattle.std.specs.Prelude.{◌≡◌, ◌<◌, ◌≤◌, ◌+◌, ◌++◌, ℕ, [], List, length, map, None, true, IfOk, IfErr, OnOk, IsErrOf};
+ghost use Rattle.std.specs.Prelude.{◌≡◌, ◌<◌, ◌≤◌, ◌+◌, ◌-◌, ◌++◌, ℕ, [], List, length, map, None, true, false, IfOk, IfErr, OnOk, IsErrOf};
 ghost use Rattle.std.specs.List.{All};
 ghost use Rattle.nsi_primitive.specs.Printable.{IsPrintableEvent};
 ghost use Rattle.nsi_primitive.specs.declared.entry.Event.{Event as EventOf};
+ghost use Rattle.nsi_script.specs.Lines.{greatest_asks};
 ghost use Rattle.nsi_play.specs.Rounds.{round, events_of, all_quiet};
 ghost use Rattle.nsi_play.specs.Play.{asks_among, asks_in, acted, begins, ticked_in};
+ghost use Rattle.quiet_rounds.specs.Bounded.{IsBounded};
+ghost use Rattle.agent_node.specs.Kept.{IsSameAgent};
 ghost use Rattle.agent_threads.specs.Nets.{seats, EachIs, AtHomes, AreSame, AreUsable, AreNet};
 ghost use Rattle.agent_threads.specs.Made.{Does, Drained, tick_to, HasRoom, HaveRoom, HasCause};
+ghost use Rattle.agent_threads.specs.Journals.{TakeMore};
+ghost use Rattle.agent_threads.specs.Bounds.{AreUpTo, AreOfOne, GoOn};
 ghost use Rattle.agent_threads.specs.Coming.{IsTold, IsBegun, IsSettledBy, OverrunsBy};
 ghost use Rattle.agent_threads.specs.Promise.{CanAct, CanDo};
 
@@ -16,26 +21,25 @@ use crate::fault::RoundFault;
 use crate::rounds::{round, settled};
 use agent_node::Node;
 use journal_entry::Journal;
+use least_routes::laws::routes_exist;
 use nsi_base::Second;
 use nsi_primitive::Event;
 use nsi_script::{Act, Group};
+use quiet_rounds::laws::{left_falls, nets_are_bounded};
 use std::alloc::{AllocError, Global};
 
-/// So many entries an agent takes.
-const MOST_ENTRIES: u64 = 4_194_304;
-
-/// An agent's clock goes on. No clock is past the second, and no agent has taken as many entries as it takes.
+/// An agent's clock goes on.
 fn tick_one<'t, J: Journal + Drop>(
     alloc: Global,
     node: &mut Node<'t, J>,
     to: Second,
 ) -> Result<(), AllocError>
-    requires { node.old.fault ≡ None }
-    ensures { OnOk result (Does (tick_to to) node.old node.new) }
+    requires usable { node.old.fault ≡ None }
+    requires few { HasRoom 1 node.old }
+    requires later { node.old.seat.state.base.now ≤ to }
+    ensures done { OnOk result (Does (tick_to to) node.old node.new) }
+    ensures agent { IsSameAgent node.old node.new }
 {
-    if node.now() > to || node.taken() >= MOST_ENTRIES {
-        return Err(AllocError);
-    }
     node.tick(alloc, to)?;
     Ok(())
 }
@@ -45,8 +49,11 @@ fn tick_all<'t, J: Journal + Drop>(
     nodes: &mut Vec<Node<'t, J>>,
     to: Second,
 ) -> Result<(), AllocError>
-    requires { AreUsable nodes.old.items }
-    ensures { OnOk result (EachIs (Does (tick_to to)) nodes.old.items nodes.new.items) }
+    requires usable { AreUsable nodes.old.items }
+    requires few { HaveRoom 1 nodes.old.items }
+    requires later { AreUpTo to nodes.old.items }
+    ensures done { OnOk result (EachIs (Does (tick_to to)) nodes.old.items nodes.new.items) }
+    ensures agents { EachIs IsSameAgent nodes.old.items nodes.new.items }
 {
     for node in nodes.iter_mut() {
         tick_one(alloc, node, to)?;
@@ -64,6 +71,7 @@ fn drain_one<'t, J: Journal + Drop>(
     ensures made { OnOk result (Drained node.old node.new) }
     ensures events { OnOk result (events.new.items ≡ events.old.items ++ node.old.seat.events) }
     ensures printable { OnOk result (All IsPrintableEvent events.new.items) }
+    ensures agent { IsSameAgent node.old node.new }
 {
     let mut own = node.take_events();
     events.append(&mut own)?;
@@ -81,30 +89,12 @@ fn drain<'t, J: Journal + Drop>(
     ensures events { OnOk result
         (events.new.items ≡ events.old.items ++ events_of (seats nodes.old.items)) }
     ensures printable { OnOk result (All IsPrintableEvent events.new.items) }
+    ensures agents { EachIs IsSameAgent nodes.old.items nodes.new.items }
 {
     for node in nodes.iter_mut() {
         drain_one(node, events)?;
     }
     Ok(())
-}
-
-fn has_room<'t, J: Journal + Drop>(node: &Node<'t, J>, room: u64) -> bool
-    ensures { result ≡ true → HasRoom room node.now }
-{
-    room <= MOST_ENTRIES && node.taken() <= MOST_ENTRIES - room
-}
-
-/// Whether each agent has room for so many entries more.
-fn have_room<'t, J: Journal + Drop>(nodes: &[Node<'t, J>], room: u64) -> bool
-    ensures { result ≡ true → HaveRoom room nodes.now }
-{
-    for node in nodes {
-        let has = has_room(node, room);
-        if !has {
-            return false;
-        }
-    }
-    true
 }
 
 /// The ticks, and what has happened then.
@@ -115,6 +105,10 @@ fn tick<'t, J: Journal + Drop>(
     events: &mut Vec<Event>,
 ) -> Result<(), AllocError>
     requires net { AreNet nodes.old.items }
+    requires one { AreOfOne nodes.old.items }
+    requires told { events_of (seats nodes.old.items) ≡ [] }
+    requires few { HaveRoom 1 nodes.old.items }
+    requires later { AreUpTo to nodes.old.items }
     requires printable { All IsPrintableEvent events.old.items }
     ensures ok { AtHomes nodes.old.items (λ homes. OnOk result
         (IsTold (map (ticked_in to homes) (seats nodes.old.items))
@@ -123,7 +117,13 @@ fn tick<'t, J: Journal + Drop>(
     ensures same { OnOk result (AreSame nodes.old.items nodes.new.items) }
     ensures told { OnOk result (events_of (seats nodes.new.items) ≡ []) }
     ensures printable { OnOk result (All IsPrintableEvent events.new.items) }
+    ensures agents { EachIs IsSameAgent nodes.old.items nodes.new.items }
+    ensures taken { OnOk result (TakeMore nodes.old.items nodes.new.items
+        events.old.items events.new.items) }
+    ensures further { OnOk result (GoOn to nodes.old.items nodes.new.items
+        events.old.items events.new.items) }
 {
+    routes_exist();
     tick_all(alloc, nodes, to)?;
     drain(nodes, events)?;
     Ok(())
@@ -139,6 +139,8 @@ fn act<'t, J: Journal + Drop>(
 ) -> Result<(), AllocError>
     requires net { AreNet nodes.old.items }
     requires can { CanAct act.now nodes.old.items }
+    requires told { events_of (seats nodes.old.items) ≡ [] }
+    requires few { HaveRoom 1 nodes.old.items }
     requires printable { All IsPrintableEvent events.old.items }
     ensures ok { AtHomes nodes.old.items (λ homes. OnOk result
         (IsTold (acted act.now number homes (seats nodes.old.items))
@@ -147,22 +149,26 @@ fn act<'t, J: Journal + Drop>(
     ensures same { OnOk result (AreSame nodes.old.items nodes.new.items) }
     ensures told { OnOk result (events_of (seats nodes.new.items) ≡ []) }
     ensures printable { OnOk result (All IsPrintableEvent events.new.items) }
+    ensures agents { EachIs IsSameAgent nodes.old.items nodes.new.items }
+    ensures taken { OnOk result (TakeMore nodes.old.items nodes.new.items
+        events.old.items events.new.items) }
+    ensures further { OnOk result (GoOn 0 nodes.old.items nodes.new.items
+        events.old.items events.new.items) }
 {
+    routes_exist();
     act_all(alloc, nodes, act, number)?;
     drain(nodes, events)?;
     Ok(())
 }
 
-/// The number of the next ask. A run has no more asks than a number can tell.
-fn next_ask(number: u32, act: &Act) -> Result<u32, AllocError>
-    ensures { IfOk result (λ n. n ≡ number + asks_in act.now) }
+/// The number of the next ask.
+fn next_ask(number: u32, act: &Act) -> u32
+    requires { number + asks_in act.now ≤ greatest_asks }
+    ensures { result ≡ number + asks_in act.now }
 {
     match act {
-        Act::Ask { .. } => match number.checked_add(1) {
-            Some(next) => Ok(next),
-            None => Err(AllocError),
-        },
-        _ => Ok(number),
+        Act::Ask { .. } => number + 1,
+        _ => number,
     }
 }
 
@@ -177,7 +183,11 @@ pub fn begin<'t, J: Journal + Drop>(
 ) -> Result<u32, RoundFault>
     requires net { AreNet nodes.old.items }
     requires can { CanDo group.now.acts nodes.old.items }
+    requires asks { number + asks_among group.now.acts ≤ greatest_asks }
     requires none { events.old.items ≡ [] }
+    requires told { events_of (seats nodes.old.items) ≡ [] }
+    requires few { HaveRoom (room + 1) nodes.old.items }
+    requires later { AreUpTo group.now.at nodes.old.items }
     ensures ok { AtHomes nodes.old.items (λ homes. OnOk result
         (IsBegun homes group.now number (seats nodes.old.items)
         events.new.items (seats nodes.new.items))) }
@@ -190,6 +200,11 @@ pub fn begin<'t, J: Journal + Drop>(
     ensures long { AtHomes nodes.old.items (λ homes. IsErrOf result RoundFault.Long →
         room < length (begins group.now number homes (seats nodes.old.items)).events) }
     ensures cause { IfErr result (λ e. HasCause e nodes.new.items) }
+    ensures agents { EachIs IsSameAgent nodes.old.items nodes.new.items }
+    ensures taken { OnOk result (TakeMore nodes.old.items nodes.new.items
+        events.old.items events.new.items) }
+    ensures further { OnOk result (GoOn group.now.at nodes.old.items nodes.new.items
+        events.old.items events.new.items) }
 {
     tick(alloc, nodes, group.at, events)?;
     let mut next = number;
@@ -197,7 +212,7 @@ pub fn begin<'t, J: Journal + Drop>(
         if events.len() as u64 > room {
             return Err(RoundFault::Long);
         }
-        let later = next_ask(next, action)?;
+        let later = next_ask(next, action);
         act(alloc, nodes, action, next, events)?;
         next = later;
     }
@@ -215,9 +230,11 @@ fn step<'t, J: Journal + Drop>(
     room: u64,
 ) -> Result<(), RoundFault>
     requires net { AreNet nodes.old.items }
+    requires one { AreOfOne nodes.old.items }
     requires told { events_of (seats nodes.old.items) ≡ [] }
     requires printable { All IsPrintableEvent events.old.items }
     requires within { length events.old.items ≤ room }
+    requires few { HaveRoom (room - length events.old.items) nodes.old.items }
     ensures ok { AtHomes nodes.old.items (λ homes. OnOk result
         (IsTold (round homes (seats nodes.old.items))
         events.old.items events.new.items (seats nodes.new.items))) }
@@ -230,17 +247,67 @@ fn step<'t, J: Journal + Drop>(
         let more = events_of (round homes (seats nodes.old.items)) in
         room < length events.old.items + length more) }
     ensures cause { IfErr result (λ e. HasCause e nodes.new.items) }
+    ensures agents { EachIs IsSameAgent nodes.old.items nodes.new.items }
+    ensures taken { OnOk result (TakeMore nodes.old.items nodes.new.items
+        events.old.items events.new.items) }
+    ensures further { OnOk result (GoOn 0 nodes.old.items nodes.new.items
+        events.old.items events.new.items) }
 {
+    routes_exist();
     let left = room - events.len() as u64;
-    if !have_room(nodes, left) {
-        return Err(RoundFault::NoMemory);
-    }
     round(alloc, nodes, left)?;
     drain(nodes, events)?;
     if events.len() as u64 > room {
         return Err(RoundFault::Long);
     }
     Ok(())
+}
+
+/// Rounds until something happens or all agents are quiet. It answers whether they are.
+fn advance<'t, J: Journal + Drop>(
+    alloc: Global,
+    nodes: &mut Vec<Node<'t, J>>,
+    events: &mut Vec<Event>,
+    room: u64,
+) -> Result<bool, RoundFault>
+    requires net { AreNet nodes.old.items }
+    requires bounded { IsBounded (seats nodes.old.items) }
+    requires one { AreOfOne nodes.old.items }
+    requires told { events_of (seats nodes.old.items) ≡ [] }
+    requires printable { All IsPrintableEvent events.old.items }
+    requires within { length events.old.items ≤ room }
+    requires few { HaveRoom (room - length events.old.items) nodes.old.items }
+    ensures ok { AtHomes nodes.old.items (λ homes. IfOk result (λ quiet. (own : List EventOf)
+        × (events.new.items ≡ events.old.items ++ own)
+        × IsSettledBy homes (seats nodes.old.items) own (seats nodes.new.items)
+        × (quiet ≡ true → all_quiet homes (seats nodes.new.items) ≡ true))) }
+    ensures more { IfOk result (λ quiet.
+        quiet ≡ false → length events.old.items < length events.new.items) }
+    ensures net { OnOk result (AreNet nodes.new.items) }
+    ensures same { OnOk result (AreSame nodes.old.items nodes.new.items) }
+    ensures told { OnOk result (events_of (seats nodes.new.items) ≡ []) }
+    ensures printable { OnOk result (All IsPrintableEvent events.new.items) }
+    ensures within { OnOk result (length events.new.items ≤ room) }
+    ensures long { AtHomes nodes.old.items (λ homes. IsErrOf result RoundFault.Long →
+        OverrunsBy homes (seats nodes.old.items) (length events.old.items) room) }
+    ensures cause { IfErr result (λ e. HasCause e nodes.new.items) }
+    ensures agents { EachIs IsSameAgent nodes.old.items nodes.new.items }
+    ensures taken { OnOk result (TakeMore nodes.old.items nodes.new.items
+        events.old.items events.new.items) }
+    ensures further { OnOk result (GoOn 0 nodes.old.items nodes.new.items
+        events.old.items events.new.items) }
+{
+    routes_exist();
+    nets_are_bounded();
+    left_falls();
+    while !settled(nodes) {
+        let before = events.len();
+        step(alloc, nodes, events, room)?;
+        if events.len() > before {
+            return Ok(false);
+        }
+    }
+    Ok(true)
 }
 
 /// Rounds until all agents are quiet.
@@ -251,9 +318,12 @@ pub fn settle<'t, J: Journal + Drop>(
     room: u64,
 ) -> Result<(), RoundFault>
     requires net { AreNet nodes.old.items }
+    requires bounded { IsBounded (seats nodes.old.items) }
+    requires one { AreOfOne nodes.old.items }
     requires told { events_of (seats nodes.old.items) ≡ [] }
     requires printable { All IsPrintableEvent events.old.items }
     requires within { length events.old.items ≤ room }
+    requires few { HaveRoom (room - length events.old.items) nodes.old.items }
     ensures ok { AtHomes nodes.old.items (λ homes. OnOk result ((own : List EventOf)
         × (events.new.items ≡ events.old.items ++ own)
         × IsSettledBy homes (seats nodes.old.items) own (seats nodes.new.items)
@@ -266,12 +336,17 @@ pub fn settle<'t, J: Journal + Drop>(
     ensures long { AtHomes nodes.old.items (λ homes. IsErrOf result RoundFault.Long →
         OverrunsBy homes (seats nodes.old.items) (length events.old.items) room) }
     ensures cause { IfErr result (λ e. HasCause e nodes.new.items) }
+    ensures agents { EachIs IsSameAgent nodes.old.items nodes.new.items }
+    ensures taken { OnOk result (TakeMore nodes.old.items nodes.new.items
+        events.old.items events.new.items) }
+    ensures further { OnOk result (GoOn 0 nodes.old.items nodes.new.items
+        events.old.items events.new.items) }
 {
-    for _round in 0..u64::MAX {
-        if settled(nodes) {
-            return Ok(());
-        }
-        step(alloc, nodes, events, room)?;
+    routes_exist();
+    nets_are_bounded();
+    let mut quiet = false;
+    while !quiet {
+        quiet = advance(alloc, nodes, events, room)?;
     }
-    Err(RoundFault::NoMemory)
+    Ok(())
 }

@@ -4,7 +4,10 @@ ghost use Rattle.std.specs.Prelude.{◌≡◌, ◌<◌, ◌+◌, ℕ, [], ◌∷
 ghost use Rattle.std.specs.List.{list_all};
 ghost use Rattle.agent_node.specs.Made.{IsTurn};
 ghost use Rattle.nsi_play.specs.Rounds.{round, events_of, all_quiet};
+ghost use Rattle.agent_node.specs.Kept.{IsSameAgent};
 ghost use Rattle.agent_threads.specs.Nets.{seats, EachIs, AtHomes, AreSame, AreUsable, AreNet};
+ghost use Rattle.agent_threads.specs.Journals.{Grows};
+ghost use Rattle.agent_threads.specs.Bounds.{MovesOn};
 ghost use Rattle.agent_threads.specs.Made.{HaveRoom, failure_at, stop_at, first_failure, first_stop, fault_of, answer, HasRisen};
 
 use crate::fault::RoundFault;
@@ -100,6 +103,11 @@ pub fn round<'t, J: Journal + Drop>(
 
     // Of several faults it is the first agent's that isn't a stop.
     ensures first { OnErr result (result ≡ answer (fault_of nodes.new.items)) }
+    ensures agents { EachIs IsSameAgent nodes.old.items nodes.new.items }
+    ensures grow { AtHomes nodes.old.items (λ homes.
+        OnOk result (EachIs Grows nodes.old.items nodes.new.items)) }
+    ensures moves { AtHomes nodes.old.items (λ homes.
+        OnOk result (EachIs (MovesOn 0) nodes.old.items nodes.new.items)) }
 {
     turn_all(alloc, nodes, room);
     if let Some(fault) = fault_in(nodes) {

@@ -1,14 +1,22 @@
 //! A whole run over agents that stand ready.
 
-ghost use Rattle.std.specs.Prelude.{◌≡◌, ◌<◌, ◌≤◌, ◌+◌, ℕ, [], List, length, IfOk, IfErr, OnOk, OnErr, IsErrOf};
+ghost use Rattle.std.specs.Prelude.{◌≡◌, ◌<◌, ◌≤◌, ◌+◌, ℕ, [], List, length, true, IfOk, IfErr, OnOk, OnErr, IsErrOf};
 ghost use Rattle.std.specs.List.{All};
 ghost use Rattle.nsi_outside.specs.Stream.{WritesAll, WritesFront};
 ghost use Rattle.nsi_primitive.specs.Printable.{IsPrintableEvent};
 ghost use Rattle.nsi_primitive.specs.declared.entry.Event.{Event as EventOf};
 ghost use Rattle.trace_text.specs.Lines.{text_of};
+ghost use Rattle.nsi_script.specs.Fits.{IsRising};
+ghost use Rattle.nsi_script.specs.Lines.{greatest_asks};
+ghost use Rattle.nsi_script.specs.Scripts.{asks_of, seconds_of};
+ghost use Rattle.nsi_play.specs.Rounds.{events_of, all_quiet};
 ghost use Rattle.nsi_play.specs.Play.{asks_among};
-ghost use Rattle.agent_threads.specs.Nets.{seats, AreOf, AtHomes, AreSame, AreCalm, AreNet};
-ghost use Rattle.agent_threads.specs.Made.{run_fault, HasCause, HasRunCause, IsOfWriting};
+ghost use Rattle.quiet_rounds.specs.Bounded.{IsBounded};
+ghost use Rattle.agent_node.specs.Kept.{IsSameAgent};
+ghost use Rattle.agent_threads.specs.Nets.{seats, EachIs, AreOf, AtHomes, AreSame, AreCalm, AreUsable, AreNet};
+ghost use Rattle.agent_threads.specs.Made.{run_fault, HaveRoom, HasCause, HasRunCause, IsOfWriting};
+ghost use Rattle.agent_threads.specs.Journals.{TakeMore, KeepGroup, KeepPlay};
+ghost use Rattle.agent_threads.specs.Bounds.{AreUpTo, AreUnder, AreNumbered, AreReady, GoOn};
 ghost use Rattle.agent_threads.specs.Coming.{IsGroupOver, GroupPasses};
 ghost use Rattle.agent_threads.specs.Promise.{CanDo, CanBePlayed, WritesPlay, WritesTooLong, WritesGroups, WritesSomeOfPlay};
 
@@ -17,10 +25,12 @@ use crate::group::{begin, settle};
 use crate::lines::lines;
 use agent_node::Node;
 use journal_entry::Journal;
+use least_routes::laws::routes_exist;
 use nsi_outside::sink::write_all;
 use nsi_outside::{Sink, SinkError};
 use nsi_primitive::Event;
 use nsi_script::Group;
+use quiet_rounds::laws::nets_are_bounded;
 use std::alloc::Global;
 use stp_topology::Topology;
 
@@ -35,7 +45,12 @@ fn make_group<'t, J: Journal + Drop>(
 ) -> Result<u32, RoundFault>
     requires net { AreNet nodes.old.items }
     requires can { CanDo group.now.acts nodes.old.items }
+    requires asks { number + asks_among group.now.acts ≤ greatest_asks }
     requires none { events.old.items ≡ [] }
+    requires told { events_of (seats nodes.old.items) ≡ [] }
+    requires few { HaveRoom (room + 1) nodes.old.items }
+    requires later { AreUpTo group.now.at nodes.old.items }
+    requires bounded { IsBounded (seats nodes.old.items) }
     ensures ok { AtHomes nodes.old.items (λ homes. OnOk result
         (IsGroupOver homes group.now number (seats nodes.old.items)
         events.new.items (seats nodes.new.items))) }
@@ -47,7 +62,17 @@ fn make_group<'t, J: Journal + Drop>(
     ensures long { AtHomes nodes.old.items (λ homes. IsErrOf result RoundFault.Long →
         GroupPasses room 0 homes group.now number (seats nodes.old.items)) }
     ensures cause { IfErr result (λ e. HasCause e nodes.new.items) }
+    ensures agents { EachIs IsSameAgent nodes.old.items nodes.new.items }
+    ensures taken { OnOk result (TakeMore nodes.old.items nodes.new.items
+        events.old.items events.new.items) }
+    ensures told { OnOk result (events_of (seats nodes.new.items) ≡ []) }
+    ensures quiet { AtHomes nodes.old.items (λ homes.
+        OnOk result (all_quiet homes (seats nodes.new.items) ≡ true)) }
+    ensures further { OnOk result (GoOn group.now.at nodes.old.items nodes.new.items
+        events.old.items events.new.items) }
 {
+    routes_exist();
+    nets_are_bounded();
     let next = begin(alloc, nodes, group, number, events, room)?;
     settle(alloc, nodes, events, room)?;
     Ok(next)
@@ -81,7 +106,14 @@ fn play_group<'t, J: Journal + Drop>(
 ) -> Result<(Vec<u8>, Progress), RunFault>
     requires net { AreNet nodes.old.items }
     requires can { CanDo group.now.acts nodes.old.items }
+    requires asks { before.asks + asks_among group.now.acts ≤ greatest_asks }
     requires within { before.events ≤ limit }
+    requires limit { limit ≤ 2000000 }
+    requires numbers { AreNumbered topology.now nodes.old.items }
+    requires told { events_of (seats nodes.old.items) ≡ [] }
+    requires few { AreUnder before.events nodes.old.items }
+    requires later { AreUpTo group.now.at nodes.old.items }
+    requires bounded { IsBounded (seats nodes.old.items) }
     ensures ok { IfOk result (λ r. (own : List EventOf) × (r.1.events ≡ before.events + length own)
         × AtHomes nodes.old.items (λ homes.
         IsGroupOver homes group.now before.asks (seats nodes.old.items) own (seats nodes.new.items))
@@ -94,6 +126,12 @@ fn play_group<'t, J: Journal + Drop>(
         GroupPasses limit before.events homes group.now before.asks (seats nodes.old.items)) }
     ensures cause { IfErr result (λ e. HasRunCause e nodes.new.items) }
     ensures mild { IsErrOf result RunFault.WriteFault → ⊥ }
+    ensures agents { EachIs IsSameAgent nodes.old.items nodes.new.items }
+    ensures keeps { OnOk result
+        (KeepGroup group.now before.asks nodes.old.items nodes.new.items) }
+    ensures told { OnOk result (events_of (seats nodes.new.items) ≡ []) }
+    ensures few { IfOk result (λ r. AreUnder r.1.events nodes.new.items) }
+    ensures clocks { OnOk result (AreUpTo group.now.at nodes.new.items) }
 {
     let mut events = Vec::new(alloc);
     let room = limit - before.events;
@@ -133,6 +171,10 @@ pub fn play_all<'t, J: Journal + Drop, K: Sink>(
     requires net { AreNet nodes.old.items }
     requires of { AreOf topology.now nodes.old.items }
     requires can { CanBePlayed topology.now groups.now }
+    requires ready { AreReady topology.now nodes.old.items }
+    requires rising { IsRising (seconds_of groups.now) }
+    requires asks { asks_of groups.now ≤ greatest_asks }
+    requires limit { limit ≤ 2000000 }
 
     // What is written is the text of the play.
     ensures done { IfOk result (λ n. WritesPlay topology.now limit groups.now nodes.old.items
@@ -157,7 +199,14 @@ pub fn play_all<'t, J: Journal + Drop, K: Sink>(
     // No fault of a disk is hidden.
     ensures same { OnOk result (AreSame nodes.old.items nodes.new.items) }
     ensures calm { OnOk result (AreCalm nodes.old.items nodes.new.items) }
+    ensures agents { EachIs IsSameAgent nodes.old.items nodes.new.items }
+    ensures usable { OnOk result (AreUsable nodes.new.items) }
+
+    // Each journal has its agent's entries of the play, where nothing was untold before.
+    ensures keeps { OnOk result (KeepPlay groups.now nodes.old.items nodes.new.items) }
 {
+    routes_exist();
+    nets_are_bounded();
     let mut progress = Progress { events: 0, asks: 0 };
     for group in groups {
         let (text, next) = play_group(alloc, topology, nodes, group, progress, limit)?;

@@ -12,6 +12,7 @@ mod modifications;
 mod outside;
 mod paths;
 mod plain_provider;
+mod playing;
 mod provisioning;
 mod rows;
 mod terminating;

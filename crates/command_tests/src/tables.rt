@@ -7,6 +7,7 @@ pub(crate) mod hostile;
 pub(crate) mod kinds;
 pub(crate) mod modifications;
 pub(crate) mod plain_provider;
+pub(crate) mod playing;
 pub(crate) mod provisioning;
 pub(crate) mod rows;
 pub(crate) mod terminating;

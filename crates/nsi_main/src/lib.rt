@@ -59,6 +59,8 @@ fn run_in_memory(rt: &HostRuntime, words: &[String]) -> Status
 }
 
 fn run_over<H: Shelf>(rt: &HostRuntime, words: &[String], shelf: &mut H) -> Status
+where
+    H::Disk: Drop,
     ensures { IsUsageAsNamed (map string_bytes words.now) result }
 {
     let mut input = StdSource::new(rt.reader());

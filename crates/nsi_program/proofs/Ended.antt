@@ -1,5 +1,5 @@
 -- How each command has ended, by what it has written.
-use Rattle.std.proofs.Common.{◌≡◌, ◌<◌, ℕ, ◌⊎◌, inl, inr, List, ◌++◌, Option, Some, None, refl, sym, ap, ◌∙◌, subst, false}
+use Rattle.std.proofs.Common.{◌≡◌, ◌≤◌, ◌<◌, ℕ, ◌⊎◌, inl, inr, List, ◌++◌, length, leb, Bool, true, false, Option, Some, None, Result, Err, refl, sym, ap, ◌∙◌, subst, arith}
 use Rattle.std.specs.Prelude.{IfSome, codes}
 use Rattle.nsi_program.specs.declared.status.Status.{Status}
 use Rattle.nsi_program.specs.declared.words.Command.{Command}
@@ -8,11 +8,22 @@ use Rattle.nsi_script.specs.Load.{load_of}
 use Rattle.nsi_program.specs.Lines.{as_line}
 use Rattle.nsi_program.specs.Check.{Checks, Begins}
 use Rattle.nsi_program.specs.Cut.{IsCutByFault}
-use Rattle.nsi_program.specs.Ends.{usage_promise, load_promise, WithReading, HasEnded, IsCut, IsBroken, IsCutShort, Counts}
+use Rattle.nsi_program.specs.Ends.{usage_promise, load_promise, WithReading, HasEnded, IsCut, IsBroken, IsCutShort, TellsDisks, Counts}
 use Rattle.nsi_program.specs.Phases.{Reading}
-use Rattle.nsi_program.specs.Promise.{Writes, WritesFront, is_told, read_fault_line, promise_of, IsKept}
+use Rattle.nsi_program.specs.Promise.{Writes, WritesFront, is_told, read_fault_line, promise_of, IsKept, NamesFault}
 use Rattle.nsi_program.specs.Writes.{WritesSome, WritesSomeFront}
 use Rattle.nsi_program.proofs.Checks.{some_begins}
+use Rattle.run_command.specs.declared.command.RunEnd.{RunEnd}
+use Rattle.run_command.specs.Runs.{Runs, RunsIf, RunsRead, Breaks}
+use Rattle.run_command.specs.Ends.{IsCutShort as RunIsCutShort}
+use Rattle.nsi_program.specs.RunsTo.{RunsTo, status_of_run}
+use Rattle.nsi_base.specs.Lines.{lines_of}
+use Rattle.nsi_base.specs.Range.{greatest_input}
+use Rattle.stp_topology.specs.declared.fault.TopologyFault.{TopologyFault}
+use Rattle.stp_topology.specs.declared.network.Network.{Network}
+use Rattle.stp_topology.specs.Network.{nothing}
+use Rattle.stp_topology.specs.Text.{read_lines}
+use Rattle.nsi_program.specs.Outcome.{topology_fault}
 use Rattle.nsi_program.proofs.Written.{nothing_some}
 
 -- nothing was written for want of memory
@@ -108,3 +119,48 @@ generated_is command load named status content new own other h = subst (λ (l : 
   where
     same : (a b : Load) → Some (Command.Generate a) ≡ Some (Command.Generate b) → a ≡ b
     same a b h = cc
+
+---- Runs
+
+abbrev runs : ℕ → Option Command
+runs most = Some (Command.Run most)
+
+pub run_ended : (command : Option Command) (most : ℕ) (holds : Holds) (content left new : Option (List ℕ)) (status : Status) → command ≡ runs most
+    → IfSome left (λ bytes. WritesSome (RunsTo most bytes status) content new) → HasEnded command holds content left status new
+run_ended command most holds content left new status e h =
+    let P : Option Command → Type 0 = λ x. HasEnded x holds content left status new in subst P (sym e) (ended content left h)
+  where
+    ended : (content left : Option (List ℕ)) → IfSome left (λ bytes. WritesSome (RunsTo most bytes status) content new) → HasEnded (runs most) holds content left status new
+    ended None left h = (None, refl, tt)
+    ended (Some c) None h = (None, refl, tt)
+    ended (Some c) (Some bytes) h = (Some (status, c ++ h.0), ((status, h.0), h.1, refl), (refl, h.2))
+
+pub run_cut : (command : Option Command) (most : ℕ) (holds : Holds) (content left rest new : Option (List ℕ)) → command ≡ runs most → Writes content new read_fault_line → IsCut command holds content left rest new
+run_cut command most holds content left rest new e w = let P : Option Command → Type 0 = λ x. IsCut x holds content left rest new in subst P (sym e) w
+
+pub run_broken : (command : Option Command) (most : ℕ) (holds : Holds) (content left new : Option (List ℕ)) → command ≡ runs most → IfSome left (λ bytes. WritesSome (Breaks most bytes) content new) → IsBroken command holds content left new
+run_broken command most holds content left new e w = let P : Option Command → Type 0 = λ x. IsBroken x holds content left new in subst P (sym e) w
+
+pub run_cut_short : (command : Option Command) (most : ℕ) (holds : Holds) (content left rest : Option (List ℕ)) (before after : Counts) (new : Option (List ℕ)) → command ≡ runs most
+    → RunIsCutShort most content left before after new → IsCutShort command holds content left rest before after new
+run_cut_short command most holds content left rest before after new e h = let P : Option Command → Type 0 = λ x. IsCutShort x holds content left rest before after new in subst P (sym e) h
+
+-- a faulty topology is all that is told of a run
+run_named : (most : ℕ) (bytes c text : List ℕ) (status : Status) (new : Option (List ℕ)) → RunsTo most bytes status text → new ≡ Some (c ++ text)
+    → (n : ℕ) (fault : TopologyFault) → length bytes ≤ greatest_input → read_lines nothing 0 (lines_of bytes) ≡ Err (n, fault) → (status ≡ Status.BadTopology) × (new ≡ Some (c ++ topology_fault n fault))
+run_named most bytes c text status new r w n fault few h =
+    let P : Bool → Type 0 = λ b. RunsIf b most bytes r.0 text in
+    let Q : Result (Network × ℕ) (ℕ × TopologyFault) → Type 0 = λ x. RunsRead most bytes x r.0 text in
+    let o = subst Q h (subst P (within (length bytes) greatest_input few) r.2) in
+    (r.1 ∙ ap status_of_run o.0, w ∙ ap (λ x. Some (c ++ x)) o.1)
+  where
+    within : (a b : ℕ) → a ≤ b → leb a b ≡ true
+    within a b few = grind arith
+
+pub run_names_fault : (most : ℕ) (content left new : Option (List ℕ)) (status : Status) → IfSome left (λ bytes. WritesSome (RunsTo most bytes status) content new) → NamesFault content left status new
+run_names_fault most None left new status k = tt
+run_names_fault most (Some c) None new status k = tt
+run_names_fault most (Some c) (Some bytes) new status k = λ n fault few h. run_named most bytes c k.0 status new k.1 k.2 n fault few h
+
+pub tells_disks : (command : Option Command) (most : ℕ) (status : Status) → command ≡ runs most → TellsDisks command status → status ≡ Status.Long → ⊥
+tells_disks command most status e t = subst (λ (x : Option Command). TellsDisks x status) e t

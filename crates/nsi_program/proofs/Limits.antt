@@ -6,7 +6,7 @@ use Rattle.std.proofs.lemmas.Bool.Decides.{nat_tests}
 use Rattle.nsi_base.specs.Digits.{number_of, ranged, are_digits, value_from}
 use Rattle.nsi_program.specs.declared.words.Command.{Command}
 use Rattle.nsi_program.specs.declared.words.Load.{Load}
-use Rattle.nsi_program.specs.Words.{command_of, allowed, events_in, provide_with, check_with, generate_with, load_asked}
+use Rattle.nsi_program.specs.Words.{command_of, allowed, events_in, provide_with, run_with, check_with, generate_with, load_asked}
 
 ranged_few : (low high : ℕ) (digits : Bool) (n most : ℕ) → ranged low high digits n ≡ Some most → most ≤ high
 ranged_few low high digits n most e = grind (arith, nat_tests)
@@ -35,7 +35,7 @@ provides most = Some (Command.Provide most)
 -- a limit that the words name is within the greatest
 pub limit_few : (words : List (List ℕ)) (most : ℕ) → command_of words ≡ provides most → most ≤ 2000000
 limit_few [] most e = cc
-limit_few (word ∷ words) most e = by_test (bytes_eq word (codes "provide")) (bytes_eq word (codes "check")) (bytes_eq word (codes "generate")) e
+limit_few (word ∷ words) most e = by_test (bytes_eq word (codes "provide")) (bytes_eq word (codes "run")) (bytes_eq word (codes "check")) (bytes_eq word (codes "generate")) e
   where
     same : (a b : ℕ) → provides a ≡ provides b → a ≡ b
     same a b h = cc
@@ -43,6 +43,10 @@ limit_few (word ∷ words) most e = by_test (bytes_eq word (codes "provide")) (b
     by_limit : (o : Option ℕ) → allowed words ≡ o → provide_with o ≡ provides most → most ≤ 2000000
     by_limit None h e = cc
     by_limit (Some n) h e = let s = same n most e in omega (arith, allowed_few words n h)
+
+    not_run : (o : Option ℕ) → run_with o ≡ provides most → most ≤ 2000000
+    not_run None e = cc
+    not_run (Some n) e = cc
 
     not_check : (ws : List (List ℕ)) → check_with ws ≡ provides most → most ≤ 2000000
     not_check [] e = cc
@@ -52,11 +56,13 @@ limit_few (word ∷ words) most e = by_test (bytes_eq word (codes "provide")) (b
     not_generate None e = cc
     not_generate (Some load) e = cc
 
-    by_test : (b c d : Bool) → cond b (provide_with (allowed words)) (cond c (check_with words) (cond d (generate_with (load_asked words)) None)) ≡ provides most → most ≤ 2000000
-    by_test true c d e = by_limit (allowed words) refl e
-    by_test false true d e = not_check words e
-    by_test false false true e = not_generate (load_asked words) e
-    by_test false false false e = cc
+    by_test : (b r c d : Bool)
+        → cond b (provide_with (allowed words)) (cond r (run_with (allowed words)) (cond c (check_with words) (cond d (generate_with (load_asked words)) None))) ≡ provides most → most ≤ 2000000
+    by_test true r c d e = by_limit (allowed words) refl e
+    by_test false true c d e = not_run (allowed words) e
+    by_test false false true d e = not_check words e
+    by_test false false false true e = not_generate (load_asked words) e
+    by_test false false false false e = cc
 
 -- and it is one
 pub limit_is : (words : List (List ℕ)) (a b : ℕ) → command_of words ≡ provides a → command_of words ≡ provides b → a ≡ b

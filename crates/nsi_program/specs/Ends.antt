@@ -1,7 +1,6 @@
 -- How each command may end, and all that the sink has then.
 use Rattle.std.specs.Prelude.{◌≡◌, ◌≤◌, ◌<◌, ◌⊎◌, ⊤, ℕ, List, ◌++◌, length, take, codes, Option, Some, None, Ok, option_map, IfSome}
 use Rattle.nsi_base.specs.Lines.{lines_of}
-use Rattle.nsi_disk.specs.ShelfCounts.{Raised}
 use Rattle.journal_entry.specs.Payloads.{batch_of}
 use Rattle.journal_entry.specs.Journals.{recovers}
 use Rattle.line_reader.specs.Given.{given_of}
@@ -12,13 +11,16 @@ use Rattle.nsi_program.specs.declared.status.Status.{Status}
 use Rattle.nsi_program.specs.declared.words.Command.{Command}
 use Rattle.nsi_program.specs.declared.words.Load.{Load}
 use Rattle.nsi_program.specs.Check.{Checks, Begins}
+pub use Rattle.run_command.specs.Ends.{Counts, counted, HasRisen, HasDiskFault}
+use Rattle.run_command.specs.Runs.{Begins as RunBegins, Breaks}
+use Rattle.nsi_program.specs.RunsTo.{RunsTo}
 use Rattle.nsi_program.specs.Lines.{as_line}
 use Rattle.nsi_program.specs.Phases.{Reading}
 use Rattle.nsi_program.specs.Outcome.{disk_fault_line}
 use Rattle.nsi_program.specs.Cut.{IsCutByFault, IsFrontOfCut, IsStopped, AnswersThen}
 use Rattle.nsi_base.specs.Range.{greatest_input}
 use Rattle.nsi_program.specs.Promise.{behind_content, promise_of, read_fault_line, Writes, WritesFront, IsKept}
-use Rattle.nsi_program.specs.Writes.{WritesSomeFront}
+use Rattle.nsi_program.specs.Writes.{WritesSome, WritesSomeFront}
 use Rattle.nsi_script.specs.Load.{load_of}
 
 -- words of no form are answered by a fault, whatever the input
@@ -58,6 +60,7 @@ WithReading holds left P = (read : Reading) × IfSome left (λ bytes. IsReading 
 abbrev pub MayEnd : Option Command → (List ℕ → Option (List ℕ)) → Option (List ℕ) → Option (List ℕ) → Option (Status × List ℕ) → Type 0
 MayEnd None holds content left promise = promise ≡ usage_promise content
 MayEnd (Some (Command.Provide most)) holds content left promise = WithReading holds left (λ read. promise ≡ promise_of read most content left)
+MayEnd (Some (Command.Run most)) holds content left promise = Promises (λ bytes end. RunsTo most bytes end.0 end.1) content left promise
 MayEnd (Some Command.Check) holds content left promise = Promises (λ bytes end. Checks bytes end.0 end.1) content left promise
 MayEnd (Some (Command.Generate load)) holds content left promise = promise ≡ load_promise load content
 
@@ -65,24 +68,28 @@ MayEnd (Some (Command.Generate load)) holds content left promise = promise ≡ l
 abbrev pub HasEnded : Option Command → (List ℕ → Option (List ℕ)) → Option (List ℕ) → Option (List ℕ) → Status → Option (List ℕ) → Type 0
 HasEnded command holds content left status new = (promise : Option (Status × List ℕ)) × MayEnd command holds content left promise × IsKept promise status new
 
--- Reading failed. `provide` has answered all lines that ended within what was read, `check` none; `generate` and words of no form read nothing.
+-- Reading failed. `provide` has answered all lines that ended within what was read, `check` and `run` none; `generate` and words of no form read nothing.
 abbrev pub IsCut : Option Command → (List ℕ → Option (List ℕ)) → (content left rest new : Option (List ℕ)) → Type 0
 IsCut None holds content left rest new = ⊥
 IsCut (Some (Command.Provide most)) holds content left rest new = WithReading holds left (λ read. IsCutByFault read most content left rest new)
+IsCut (Some (Command.Run most)) holds content left rest new = Writes content new read_fault_line
 IsCut (Some Command.Check) holds content left rest new = Writes content new read_fault_line
 IsCut (Some (Command.Generate load)) holds content left rest new = ⊥
 
--- The disk failed or stopped. `provide` has answered some first lines, and behind them stands whose disk it was; no other command has a disk.
+-- A disk failed or stopped. `provide` has answered some first lines, `run` has written some first groups, and behind them stands whose disk it was; no
+-- other command has a disk.
 abbrev pub IsBroken : Option Command → (List ℕ → Option (List ℕ)) → (content left new : Option (List ℕ)) → Type 0
 IsBroken (Some (Command.Provide most)) holds content left new =
     WithReading holds left (λ read. IfSome content (λ c. IfSome left (λ bytes. (t : Network) × (provider : ℕ) × Serves (lines_in bytes) t provider
     × (text : List ℕ) × AnswersThen read most (given_of greatest_input bytes) (disk_fault_line (name_of t provider)) text × (new ≡ Some (c ++ text)))))
+IsBroken (Some (Command.Run most)) holds content left new = IfSome left (λ bytes. WritesSome (Breaks most bytes) content new)
 IsBroken _ holds content left new = ⊥
 
 -- Writing was cut short, and no read has failed.
 abbrev pub IsCutInAnswers : Option Command → (List ℕ → Option (List ℕ)) → (content left new : Option (List ℕ)) → Type 0
 IsCutInAnswers None holds content left new = WritesFront content new (as_line (codes "fault usage"))
 IsCutInAnswers (Some (Command.Provide most)) holds content left new = WithReading holds left (λ read. IsStopped read most content left new)
+IsCutInAnswers (Some (Command.Run most)) holds content left new = IfSome left (λ bytes. WritesSomeFront (RunBegins most bytes) content new)
 IsCutInAnswers (Some Command.Check) holds content left new = IfSome left (λ bytes. WritesSomeFront (Begins bytes) content new)
 IsCutInAnswers (Some (Command.Generate load)) holds content left new = WritesFront content new (load_of load.from load.size)
 
@@ -90,6 +97,7 @@ IsCutInAnswers (Some (Command.Generate load)) holds content left new = WritesFro
 abbrev pub IsCutInFault : Option Command → (List ℕ → Option (List ℕ)) → (content left rest new : Option (List ℕ)) → Type 0
 IsCutInFault None holds content left rest new = ⊥
 IsCutInFault (Some (Command.Provide most)) holds content left rest new = WithReading holds left (λ read. IsFrontOfCut read most content left rest new)
+IsCutInFault (Some (Command.Run most)) holds content left rest new = WritesFront content new read_fault_line
 IsCutInFault (Some Command.Check) holds content left rest new = WritesFront content new read_fault_line
 IsCutInFault (Some (Command.Generate load)) holds content left rest new = ⊥
 
@@ -98,24 +106,8 @@ abbrev pub IsCutInDisk : Option Command → (List ℕ → Option (List ℕ)) →
 IsCutInDisk (Some (Command.Provide most)) holds content left new =
     WithReading holds left (λ read. IfSome content (λ c. IfSome left (λ bytes. (t : Network) × (provider : ℕ) × Serves (lines_in bytes) t provider × (k : ℕ)
     × (text : List ℕ) × AnswersThen read most (given_of greatest_input bytes) (take k (disk_fault_line (name_of t provider))) text × (new ≡ Some (c ++ text)))))
+IsCutInDisk (Some (Command.Run most)) holds content left new = IfSome left (λ bytes. WritesSomeFront (Breaks most bytes) content new)
 IsCutInDisk _ holds content left new = ⊥
-
--- the counts of a source, and of the disks of a shelf
-pub record Counts : Type 0 where
-  pub reads : ℕ
-  pub faults : ℕ
-  pub stops : ℕ
-
-abbrev pub counted : (reads faults stops : ℕ) → Counts
-counted reads faults stops = record { reads = reads; faults = faults; stops = stops }
-
--- a count was raised; one that reaches its type's end stands still there
-abbrev pub HasRisen : ℕ → ℕ → Type 0
-HasRisen old new = (by : ℕ) × (0 < by) × Raised old by new
-
--- a disk, or its shelf, has counted a fault or a stop
-abbrev pub HasDiskFault : Counts → Counts → Type 0
-HasDiskFault before after = HasRisen before.faults after.faults ⊎ HasRisen before.stops after.stops
 
 -- Writing was cut short: in the answers, or behind a fault of reading or of the disk, whose counts then rose.
 abbrev pub IsCutShort : Option Command → (List ℕ → Option (List ℕ)) → (content left rest : Option (List ℕ)) → (before after : Counts) → Option (List ℕ) → Type 0
@@ -135,5 +127,11 @@ IsChecked content left status = IfSome content (λ _. IfSome left (λ bytes. len
 abbrev pub ReadsTopology : Option Command → Type 0
 ReadsTopology None = ⊥
 ReadsTopology (Some (Command.Provide most)) = ⊤
+ReadsTopology (Some (Command.Run most)) = ⊤
 ReadsTopology (Some Command.Check) = ⊤
 ReadsTopology (Some (Command.Generate load)) = ⊥
+
+-- A fault of a disk is told: but where `run` has too many events.
+abbrev pub TellsDisks : Option Command → Status → Type 0
+TellsDisks (Some (Command.Run most)) status = status ≡ Status.Long → ⊥
+TellsDisks _ status = ⊤

@@ -19,3 +19,4 @@ pub mod Ends
 pub mod Provided
 pub mod Backed
 pub mod Keeping
+pub mod RunsTo

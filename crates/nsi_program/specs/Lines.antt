@@ -1,10 +1,11 @@
 -- What a line behind the topology is answered.
-use Rattle.std.specs.Prelude.{ℕ, ◌+◌, List, [], ◌∷◌, ◌++◌, nat_le, map, codes, if◌then◌else◌, Option, Some, None}
+use Rattle.std.specs.Prelude.{ℕ, ◌+◌, List, [], ◌++◌, nat_le, map, if◌then◌else◌, Option, Some, None}
 use Rattle.std.specs.List.{concat}
 use Rattle.nsi_primitive.specs.declared.entry.Entry.{Entry}
 use Rattle.nsi_primitive.specs.declared.message.Message.{Message}
 use Rattle.json_primitives.specs.Spelling.{spelling}
 use Rattle.json_primitives.specs.Payload.{payload_spelling}
+pub use Rattle.fault_lines.specs.Lines.{as_line, long_line}
 use Rattle.nsi_program.specs.Payload.{payload_name, payload_key}
 use Rattle.nsi_program.specs.declared.payload.PayloadFault.{PayloadFault}
 use Rattle.provider_agent.specs.Runs.{after_all}
@@ -13,10 +14,6 @@ use Rattle.provider_run.specs.Works.{with_works}
 use Rattle.nsi_program.specs.Receiving.{received}
 use Rattle.nsi_program.specs.Serving.{Serving, Served, points_at}
 use Rattle.nsi_program.specs.declared.receiving.Received.{Received}
-
--- bytes as a line
-abbrev pub as_line : List ℕ → List ℕ
-as_line bytes = bytes ++ 10 ∷ []
 
 -- messages as lines
 abbrev pub lines_of_messages : List Message → List ℕ
@@ -53,6 +50,3 @@ answered (Received.Entry e) s number = entered s e
 -- what a line makes of the provider, and its text, where there aren't too many events
 abbrev pub serve : Serving → ℕ → List ℕ → Option Served
 serve s number line = answered (received s.standing.state line) s number
-
-abbrev pub long_line : List ℕ
-long_line = as_line (codes "fault long")

@@ -2,11 +2,11 @@
 use Rattle.std.specs.Prelude.{◌≡◌, ℕ, ◌+◌, List, [], ◌∷◌, ◌++◌, length, nat_le, if◌then◌else◌, Bool, true, false, codes, decimal, Option, Some, None, Result, Ok, Err}
 use Rattle.stp_topology.specs.declared.network.Network.{Network}
 use Rattle.stp_topology.specs.Network.{first_provider, name_of}
-use Rattle.stp_topology.specs.Faults.{fault_name}
 use Rattle.stp_topology.specs.Text.{of_line}
 use Rattle.stp_topology.specs.declared.fault.TopologyFault.{TopologyFault}
 use Rattle.stp_topology.specs.declared.topology.Taken.{Taken}
-use Rattle.nsi_program.specs.Lines.{serve, as_line, long_line}
+pub use Rattle.fault_lines.specs.Lines.{topology_fault, journal_fault, disk_fault_line}
+use Rattle.nsi_program.specs.Lines.{serve, long_line}
 use Rattle.nsi_program.specs.Serving.{Served, serving_of}
 use Rattle.nsi_program.specs.declared.status.Ending.{Ending}
 use Rattle.nsi_program.specs.declared.status.Status.{Status}
@@ -16,15 +16,6 @@ use Rattle.nsi_program.specs.Phases.{Reading, Phase, in_topology, in_service, St
 pub record Move : Type 0 where
   pub text : List ℕ
   pub step : Step
-
-abbrev pub topology_fault : ℕ → TopologyFault → List ℕ
-topology_fault number fault = as_line (codes "fault topology " ++ decimal number ++ codes " " ++ fault_name fault)
-
-abbrev pub journal_fault : List ℕ → ℕ → List ℕ
-journal_fault name place = as_line (codes "fault journal " ++ name ++ codes " " ++ decimal place)
-
-abbrev pub disk_fault_line : List ℕ → List ℕ
-disk_fault_line name = as_line (codes "fault disk " ++ name)
 
 -- A provider goes on behind the entries of its journal, where they aren't more than there may be events.
 abbrev pub begins_behind : ℕ → Network → ℕ → Reading → Move

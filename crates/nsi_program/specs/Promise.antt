@@ -9,7 +9,7 @@ use Rattle.stp_topology.specs.declared.network.Network.{Network}
 use Rattle.stp_topology.specs.declared.fault.TopologyFault.{TopologyFault}
 use Rattle.stp_topology.specs.Network.{nothing, first_provider}
 use Rattle.stp_topology.specs.Text.{read_lines}
-use Rattle.nsi_program.specs.Lines.{as_line}
+pub use Rattle.fault_lines.specs.Lines.{read_fault_line}
 use Rattle.provider_agent.specs.Setting.{setting_of, own_stp}
 use Rattle.nsi_program.specs.Runs.{events_of, ServesSafely}
 use Rattle.nsi_program.specs.Outcome.{outcome, status_of, topology_fault}
@@ -51,10 +51,6 @@ IsSameEnd old new = IfSome old (λ end. new ≡ Some end)
 abbrev pub IsKept : Option (Status × List ℕ) → Status → Option (List ℕ) → Type 0
 IsKept promise status content = IfSome promise (λ end. (status ≡ end.0) × (content ≡ Some end.1))
 
--- the line of a fault of reading
-abbrev pub read_fault_line : List ℕ
-read_fault_line = as_line (codes "fault read")
-
 -- the program's exit status
 abbrev pub code_of : Status → ℕ
 code_of Status.Done = 0
@@ -63,6 +59,7 @@ code_of Status.ReadFault = 2
 code_of Status.WriteFault = 3
 code_of Status.Usage = 4
 code_of Status.BadTopology = 5
+code_of Status.BadScript = 6
 code_of Status.DiskFault = 7
 code_of Status.Long = 8
 code_of Status.NotAJournal = 10

@@ -23,7 +23,7 @@ joined word = if starts_with nat_eq word (codes "--events=") then events_in (dro
 abbrev pub parted : List ℕ → List ℕ → Option ℕ
 parted option word = if bytes_eq option (codes "--events") then events_in word else None
 
--- how many events the words behind `provide` let be
+-- how many events the words behind `provide` or `run` let be
 abbrev pub allowed : List (List ℕ) → Option ℕ
 allowed [] = Some most_events
 allowed (word ∷ []) = joined word
@@ -33,6 +33,10 @@ allowed (option ∷ word ∷ next ∷ words) = None
 abbrev pub provide_with : Option ℕ → Option Command
 provide_with None = None
 provide_with (Some most) = Some (Command.Provide most)
+
+abbrev pub run_with : Option ℕ → Option Command
+run_with None = None
+run_with (Some most) = Some (Command.Run most)
 
 -- nothing stands behind `check`
 abbrev pub check_with : List (List ℕ) → Option Command
@@ -92,6 +96,7 @@ abbrev pub command_of : List (List ℕ) → Option Command
 command_of [] = None
 command_of (word ∷ words) =
     if bytes_eq word (codes "provide") then provide_with (allowed words)
+    else if bytes_eq word (codes "run") then run_with (allowed words)
     else if bytes_eq word (codes "check") then check_with words
     else if bytes_eq word (codes "generate") then generate_with (load_asked words)
     else None

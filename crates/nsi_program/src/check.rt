@@ -9,10 +9,10 @@ ghost use Rattle.nsi_program.specs.Outcome.{topology_fault};
 ghost use Rattle.nsi_program.specs.Promise.{is_told, read_fault_line, Writes, WritesFront};
 ghost use Rattle.nsi_program.specs.Writes.{WritesSome, WritesSomeFront, CountsFaults, TellsFaults};
 
-use crate::faults::topology_fault;
 use crate::output::{Fault, read_fault, write_text};
 use crate::paths::{answer, count_line};
 use crate::status::Status;
+use fault_lines::topology_fault;
 use line_reader::{ReadError, read_whole};
 use nsi_base::GREATEST_INPUT;
 use nsi_base::line::cut_line;

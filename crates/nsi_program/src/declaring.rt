@@ -14,10 +14,10 @@ ghost use Rattle.nsi_base.specs.Range.{greatest_input};
 ghost use Rattle.nsi_program.specs.declared.output.Halt.TheVariants.{Outside};
 ghost use Rattle.nsi_program.specs.Declares.{DeclaresLine, DeclaresNext, goes_further, HasFaultCounts, ComesTo, LeavesFew};
 
-use crate::faults::topology_fault;
 use crate::output::{Fault, write_text};
 use crate::status::Ending;
 use crate::words::EventLimit;
+use fault_lines::topology_fault;
 use line_reader::{LineReader, Next, ReadError};
 use nsi_base::AgentNo;
 use nsi_outside::{Sink, Source};

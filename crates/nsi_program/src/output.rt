@@ -5,8 +5,8 @@ ghost use Rattle.nsi_program.specs.Outcome.{disk_fault_line};
 ghost use Rattle.nsi_program.specs.Promise.{is_told, read_fault_line, Writes, WritesFront};
 ghost use Rattle.nsi_program.specs.Writes.{CountsFaults};
 
-use crate::faults::disk_fault_text;
 use crate::status::Status;
+use fault_lines::disk_fault_text;
 use nsi_base::Name;
 use nsi_outside::{Sink, SinkError, write_all};
 use std::alloc::Global;

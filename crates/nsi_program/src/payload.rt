@@ -3,7 +3,7 @@
 ghost use Rattle.std.specs.Prelude.{◌≡◌, IfOk};
 ghost use Rattle.nsi_program.specs.Lines.{payload};
 
-use crate::faults::as_line;
+use fault_lines::as_line;
 use json_primitives::{Key, LineFault, print_payload};
 use std::alloc::{AllocError, Global};
 

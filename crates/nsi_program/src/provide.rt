@@ -21,13 +21,13 @@ ghost use Rattle.nsi_program.specs.declared.status.Status.{Status as AStatus};
 ghost use Rattle.stp_topology.specs.Network.{name_of};
 
 use crate::declaring::{Begun, Declaration, declare_all};
-use crate::faults::journal_fault;
 use crate::output::{Fault, Halt, disk_fault, read_fault, write_text};
 use crate::service::Service;
 use crate::serving::{Desk, serve_all};
 use crate::status::{Ending, Status};
 use crate::words::EventLimit;
 use disk_journal::{DiskJournal, StartCause, StartFault};
+use fault_lines::journal_fault;
 use journal_entry::Journal;
 use line_reader::LineReader;
 use nsi_base::{GREATEST_INPUT, Name};

@@ -13,6 +13,7 @@ pub enum Status {
     WriteFault = 3,
     Usage = 4,
     BadTopology = 5,
+    BadScript = 6,
     DiskFault = 7,
     Long = 8,
     NotAJournal = 10,

@@ -1,20 +1,22 @@
 //! The top call.
 
-ghost use Rattle.std.specs.Prelude.{◌≡◌, ℕ, ◌<◌, ◌↔◌, ◌⊎◌, codes, map, string_bytes, true, false, None, Some};
+ghost use Rattle.std.specs.Prelude.{◌≡◌, ℕ, ◌<◌, ◌↔◌, ◌⊎◌, codes, map, string_bytes, true, false, None, Some, IfSome};
 ghost use Rattle.nsi_disk.specs.ShelfCounts.{Raised};
 ghost use Rattle.nsi_program.specs.Backed.{Backs};
 ghost use Rattle.nsi_program.specs.Lines.{as_line};
 ghost use Rattle.nsi_program.specs.Promise.{is_told, read_fault_line, Writes, WritesFront, IsComplete, IsSafe, NamesFault};
 ghost use Rattle.nsi_program.specs.Words.{command_of};
-ghost use Rattle.nsi_program.specs.declared.words.Command.TheVariants.{Provide as ProvideValue, Generate as GenerateValue};
+ghost use Rattle.nsi_program.specs.declared.words.Command.TheVariants.{Provide as ProvideValue, Run as RunValue, Generate as GenerateValue};
 ghost use Rattle.nsi_program.specs.declared.words.Load.{Load};
 ghost use Rattle.nsi_script.specs.Load.{load_of};
-ghost use Rattle.nsi_program.specs.Ends.{HasEnded, IsChecked, IsCut, IsBroken, IsCutShort, WithReading, counted, HasDiskFault, ReadsTopology};
+ghost use Rattle.run_command.specs.Runs.{KeepsRun};
+ghost use Rattle.nsi_program.specs.Ends.{HasEnded, IsChecked, IsCut, IsBroken, IsCutShort, WithReading, counted, HasDiskFault, ReadsTopology, TellsDisks};
 
 use crate::check::check;
 use crate::generating::generate;
 use crate::output::{Fault, write_text};
 use crate::provide::provide;
+use crate::running::run;
 use crate::status::Status;
 use crate::words::{Command, command_of};
 use nsi_disk::Shelf;
@@ -24,7 +26,7 @@ use std::alloc::Global;
 /// Runs the command that the words name, on the bytes of the input. The words are those behind the program's name.
 ///
 /// `provide` reads as it goes: a line is answered before the next one is read. A line of more than 65,536 bytes is
-/// refused; an input of more than 67,108,864 bytes is answered up to there. `check` reads the whole input first,
+/// refused; an input of more than 67,108,864 bytes is answered up to there. `check` and `run` read the whole input first,
 /// `generate` none.
 pub fn top_plain<S: Source, K: Sink, H: Shelf>(
     alloc: Global,
@@ -33,6 +35,8 @@ pub fn top_plain<S: Source, K: Sink, H: Shelf>(
     out: &mut K,
     shelf: &mut H,
 ) -> Status
+where
+    H::Disk: Drop,
     // The words, the bytes and the journal say how it ends and all that is written.
     ensures ends { is_told result ≡ true →
         HasEnded (command_of (map string_bytes words.now)) (H.holds shelf.old) (K.content out.old)
@@ -86,11 +90,17 @@ pub fn top_plain<S: Source, K: Sink, H: Shelf>(
         → Backs (H.holds shelf.old) (H.holds shelf.new) (K.content out.old) (S.left input.old)
         (K.content out.new) }
 
-    // No fault is swallowed, and none is told as want of memory; but a failed read is, or a failed disk, where there is no memory for its line.
+    // With Done the disk of each agent of `run` reads as its journal of the play, where the shelf told what it held.
+    ensures journals { (most : ℕ) → command_of (map string_bytes words.now) ≡ Some (RunValue most) →
+        result ≡ Status.Done → IfSome (S.left input.old)
+        (λ bytes. KeepsRun bytes (H.holds shelf.old) (H.holds shelf.new)) }
+
+    // No fault is swallowed, and none is told as want of memory; but a failed read is, or a failed disk, where there is no memory for
+    // its line. In the round of `run` that has too many events another agent's disk may have failed too.
     ensures quiet_in { is_told result ≡ true → S.faults input.new ≡ S.faults input.old }
     ensures quiet_out { is_told result ≡ true → K.faults out.new ≡ K.faults out.old }
     ensures quiet_disk { is_told result ≡ true →
-        Raised (H.faults shelf.old) 0 (H.faults shelf.new)
+        TellsDisks (command_of (map string_bytes words.now)) result → Raised (H.faults shelf.old) 0 (H.faults shelf.new)
         × Raised (H.stops shelf.old) 0 (H.stops shelf.new) }
     ensures reading { result ≡ Status.ReadFault → K.faults out.new ≡ K.faults out.old }
     ensures memory { result ≡ Status.NoMemory → K.faults out.new ≡ K.faults out.old }
@@ -100,6 +110,7 @@ pub fn top_plain<S: Source, K: Sink, H: Shelf>(
     };
     match &command {
         Command::Provide(most) => provide(alloc, *most, input, out, shelf),
+        Command::Run(most) => run(alloc, *most, input, out, shelf),
         Command::Check => check(alloc, input, out),
         Command::Generate(load) => generate(alloc, *load, out),
     }

@@ -73,6 +73,8 @@ enum Choice {
 pub enum Command {
     /// One provider answers lines, in no more events than that.
     Provide(EventLimit),
+    /// All agents play a script, in no more events than that.
+    Run(EventLimit),
     Check,
     /// A topology and a script are made.
     Generate(Load),
@@ -86,6 +88,9 @@ pub(crate) fn command_of(words: &[String]) -> Option<Command>
     if command.as_str() == "provide" {
         let most = allowed(options)?;
         Some(Command::Provide(most))
+    } else if command.as_str() == "run" {
+        let most = allowed(options)?;
+        Some(Command::Run(most))
     } else if command.as_str() == "check" && options.is_empty() {
         Some(Command::Check)
     } else if command.as_str() == "generate" {
@@ -96,7 +101,7 @@ pub(crate) fn command_of(words: &[String]) -> Option<Command>
     }
 }
 
-/// How many events the words behind `provide` let be.
+/// How many events the words behind `provide` or `run` let be.
 fn allowed(options: &[String]) -> Option<EventLimit>
     ensures { result ≡ allowed (map string_bytes options.now) }
 {

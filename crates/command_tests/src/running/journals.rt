@@ -2,6 +2,7 @@
 
 mod crashes;
 mod kept;
+mod played;
 mod wrong;
 
 use super::{behind_topology, in_full};

@@ -62,9 +62,16 @@ fn bad_topologies_are_refused(rt: HostRuntime) -> Result<(), Fail> {
 }
 
 /// Words that name no command, or an option in no form of it.
-const WORDS: [&str; 29] = [
+const WORDS: [&str; 36] = [
     "",
     "run --workers 0",
+    "run 3",
+    "run --",
+    "run --events",
+    "run --events 0",
+    "run --events=2000001",
+    "run --summary",
+    "run run",
     "Provide",
     "provide provide",
     "provide check",

@@ -6,10 +6,20 @@ use Rattle.nsi_play.specs.Play.{behind, acts, asks_in, acted, ticked_in}
 use Rattle.agent_threads.specs.Nets.{seats}
 use Rattle.agent_threads.specs.Coming.{IsTold}
 use Rattle.agent_threads.specs.Promise.{CanBeDone}
-use Rattle.agent_threads.proofs.Same.{still_of, same_twice}
+use Rattle.agent_threads.proofs.Same.{still_of, same_twice, same_agents, same_agents_twice}
 use Rattle.agent_threads.proofs.Coming.{acts_first, acts_next, acts_end, asks_next, asks_end}
 use Rattle.agent_threads.proofs.Told.{act_at}
+use Rattle.agent_threads.proofs.Growing.{more_then}
+use Rattle.agent_threads.proofs.Going.{room_less, room_after, go_then, go_count}
 use Rattle.agent_threads.proofs.group.begin.Goals as goal
+
+pub tick-requires-clause-one : goal.tick-requires-clause-one
+tick-requires-clause-one g c =
+    let can = c.requires.can in
+    record { network = can.network; of = can.of }
+
+pub tick-requires-clause-few : goal.tick-requires-clause-few
+tick-requires-clause-few g c = room_less (c.args.room + 1) 1 c.args.nodes.now.items (omega arith) c.requires.few
 
 pub loop-action-init : goal.loop-action-init
 loop-action-init g c = record {
@@ -20,6 +30,8 @@ loop-action-init g c = record {
   net = c.in_ok-tick.ensures.net;
   same = c.in_ok-tick.ensures.same;
   told = c.in_ok-tick.ensures.told;
+  taken = c.in_ok-tick.ensures.taken;
+  further = c.in_ok-tick.ensures.further;
   printable = c.in_ok-tick.ensures.printable;
 }
 
@@ -37,6 +49,23 @@ act-requires-clause-can g c =
       can = subst (λ (a : Act). CanBeDone can.network a) is one;
     }
 
+pub next_ask-later-requires : goal.next_ask-later-requires
+next_ask-later-requires g c =
+    let l = c.loop-action in
+    let todo = c.args.group.now.acts in
+    let d = c.action-item.result in
+    let here : l.action-index < length todo = omega (arith, c.loop-action-test.true, ap length c.items-action-items.ensures) in
+    let is : d ≡ get_or todo l.action-index d = c.action-item.is ∙ ap (λ (xs : List Act). get_or xs l.action-index d) c.items-action-items.ensures in
+    omega (arith, ap asks_in is, asks_next todo l.action-index d here, l.invariant.asks, c.requires.asks)
+
+pub act-requires-clause-few : goal.act-requires-clause-few
+act-requires-clause-few g c =
+    let l = c.loop-action in
+    let f = l.invariant.further in
+    let count = go_count c.args.group.now.at c.args.nodes.now.items l.nodes.items c.args.events.now.items l.events.items f in
+    room_after c.args.group.now.at (c.args.room + 1) 1 (length f.own) c.args.nodes.now.items l.nodes.items
+    (omega (arith, count, ap length c.requires.none, c.if-len-room.false)) f.each c.requires.few
+
 pub loop-action-preserved : goal.loop-action-preserved
 loop-action-preserved g c =
     let l = c.loop-action in
@@ -44,7 +73,7 @@ loop-action-preserved g c =
     let d = c.action-item.result in
     let here : l.action-index < length todo = omega (arith, c.loop-action-test.true, ap length c.items-action-items.ensures) in
     let is : d ≡ get_or todo l.action-index d = c.action-item.is ∙ ap (λ (xs : List Act). get_or xs l.action-index d) c.items-action-items.ensures in
-    let later = c.in_ok-later.ensures ∙ ap (λ (a : Act). l.next + asks_in a) is in
+    let later = c.next_ask-later.ensures ∙ ap (λ (a : Act). l.next + asks_in a) is in
     record {
       way = λ t o routes r.
           let now = still_of t c.args.nodes.now.items l.nodes.items l.invariant.same o in
@@ -56,6 +85,8 @@ loop-action-preserved g c =
       net = c.in_ok-act.ensures.net;
       same = same_twice c.args.nodes.now.items l.nodes.items c.act.new.nodes.items l.invariant.same c.in_ok-act.ensures.same;
       told = c.in_ok-act.ensures.told;
+      taken = more_then c.args.nodes.now.items l.nodes.items c.act.new.nodes.items c.args.events.now.items l.events.items c.act.new.events.items l.invariant.same l.invariant.told l.invariant.taken c.in_ok-act.ensures.taken;
+      further = go_then c.args.group.now.at c.args.nodes.now.items l.nodes.items c.act.new.nodes.items c.args.events.now.items l.events.items c.act.new.events.items l.invariant.same l.invariant.further c.in_ok-act.ensures.further;
       printable = c.in_ok-act.ensures.printable;
     }
 
@@ -69,3 +100,15 @@ pub returns-clause-next : goal.returns-clause-next
 returns-clause-next g c =
     let l = c.loop-action in
     omega (arith, l.invariant.asks, asks_end c.args.group.now.acts l.action-index (omega (arith, c.loop-action-test.false, ap length c.items-action-items.ensures)))
+
+pub returns-then-len-room-clause-agents : goal.returns-then-len-room-clause-agents
+returns-then-len-room-clause-agents g c = same_agents c.args.nodes.now.items c.loop-action.nodes.items c.loop-action.invariant.same
+
+pub returns-then-len-room-2-clause-agents : goal.returns-then-len-room-2-clause-agents
+returns-then-len-room-2-clause-agents g c = same_agents c.args.nodes.now.items c.loop-action.nodes.items c.loop-action.invariant.same
+
+pub returns-clause-agents : goal.returns-clause-agents
+returns-clause-agents g c = same_agents c.args.nodes.now.items c.loop-action.nodes.items c.loop-action.invariant.same
+
+pub returns-in_err-act-clause-agents : goal.returns-in_err-act-clause-agents
+returns-in_err-act-clause-agents g c = same_agents_twice c.args.nodes.now.items c.loop-action.nodes.items c.act.new.nodes.items (same_agents c.args.nodes.now.items c.loop-action.nodes.items c.loop-action.invariant.same) c.in_err-act.ensures.agents

@@ -4,6 +4,8 @@ use Rattle.nsi_primitive.specs.Printable.{IsPrintableEvent}
 use Rattle.nsi_play.specs.Rounds.{events_of}
 use Rattle.nsi_play.specs.Play.{behind, acts, asks_among, begins}
 use Rattle.agent_threads.specs.Nets.{seats, AtHomes, AreNet, AreSame}
+use Rattle.agent_threads.specs.Journals.{TakeMore}
+use Rattle.agent_threads.specs.Bounds.{GoOn}
 use Rattle.agent_threads.proofs.group.begin.Given as goal
 
 abbrev pub invariant-loop-action : goal.invariant-loop-action
@@ -13,5 +15,7 @@ invariant-loop-action g l = record {
   net : AreNet l.nodes.items;
   same : AreSame l.fn.nodes.items l.nodes.items;
   told : events_of (seats l.nodes.items) ≡ [];
+  taken : TakeMore l.fn.nodes.items l.nodes.items l.fn.events.items l.events.items;
+  further : GoOn l.group.at l.fn.nodes.items l.nodes.items l.fn.events.items l.events.items;
   printable : All IsPrintableEvent l.events.items;
 }

@@ -1,11 +1,12 @@
-use Rattle.std.proofs.Common.{◌≡◌, ◌<◌, ◌++◌, ◌∙◌, refl, ap, arith, length, List, subst, sym}
+use Rattle.std.proofs.Common.{◌≡◌, ◌<◌, ◌++◌, ◌∙◌, refl, ap, arith, length, List, subst, sym, slice_set}
 use Rattle.std.specs.Prelude.{None}
-use Rattle.agent_node.specs.Kept.{Kept}
+use Rattle.agent_node.specs.Kept.{Kept, IsSameAgent}
 use Rattle.agent_threads.specs.Nets.{EachIs}
 use Rattle.agent_threads.specs.Made.{Drained}
-use Rattle.agent_threads.proofs.Places.{UpTo, up_to_none, up_to_next, up_to_end, here_is}
+use Rattle.agent_threads.proofs.Places.{UpTo, up_to_none, up_to_next, up_to_end, here_is, len_set, up_to_map, up_to_failed, each_map}
+use Rattle.agent_threads.proofs.Same.{same_self}
 use Rattle.agent_threads.proofs.Turning.{usable_at, whole_again}
-use Rattle.agent_threads.proofs.Draining.{told_next, told_end}
+use Rattle.agent_threads.proofs.Draining.{told_next, told_end, drained_agent}
 use Rattle.agent_threads.proofs.group.drain.Goals as goal
 
 pub loop-node-init : goal.loop-node-init
@@ -49,3 +50,22 @@ pub returns-clause-events : goal.returns-clause-events
 returns-clause-events g c =
     let l = c.loop-node in
     told_end c.args.nodes.now.items l.node-index l.events.items (omega (arith, c.loop-node-test.false, l.auto.node-items, l.invariant.up.len)) ∙ l.invariant.told
+
+pub returns-in_err-drain_one-clause-agents : goal.returns-in_err-drain_one-clause-agents
+returns-in_err-drain_one-clause-agents g c =
+    let l = c.loop-node in
+    let here : l.node-index < length l.node-items = omega (arith, c.loop-node-test.true, l.auto.node-items) in
+    let last = slice_set l.node-items l.node-index c.drain_one.new.node in
+    let e : length last ≡ length c.args.nodes.now.items = len_set l.node-items l.node-index c.drain_one.new.node ∙ l.invariant.up.len in
+    let all : EachIs IsSameAgent c.args.nodes.now.items last =
+    up_to_failed IsSameAgent c.args.nodes.now.items l.node-items l.node-index c.node-item.result c.drain_one.new.node same_self
+    (up_to_map (Drained) IsSameAgent c.args.nodes.now.items l.node-items l.node-index (drained_agent) l.invariant.up) here c.in_err-drain_one.ensures.agent in
+    subst (λ (ks : List Kept). EachIs IsSameAgent c.args.nodes.now.items ks) (sym (whole_again last c.args.nodes.now.items c.args.nodes.now.len e (omega (arith, c.deref_mut-node-items.ensures.len, ap length c.deref_mut-node-items.ensures.value)))) all
+
+pub returns-clause-agents : goal.returns-clause-agents
+returns-clause-agents g c =
+    let l = c.loop-node in
+    let e : length l.node-items ≡ length c.args.nodes.now.items = l.invariant.up.len in
+    let all = up_to_end (Drained) c.args.nodes.now.items l.node-items l.node-index l.invariant.up (omega (arith, c.loop-node-test.false, l.auto.node-items, l.invariant.up.len)) in
+    subst (λ (ks : List Kept). EachIs IsSameAgent c.args.nodes.now.items ks) (sym (whole_again l.node-items c.args.nodes.now.items c.args.nodes.now.len e (omega (arith, c.deref_mut-node-items.ensures.len, ap length c.deref_mut-node-items.ensures.value))))
+    (each_map (Drained) IsSameAgent c.args.nodes.now.items l.node-items (drained_agent) all)

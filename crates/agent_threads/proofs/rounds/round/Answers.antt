@@ -5,8 +5,10 @@ use Rattle.nsi_play.specs.Rounds.{met_all}
 use Rattle.agent_threads.specs.declared.fault.RoundFault.{RoundFault}
 use Rattle.agent_threads.specs.Nets.{seats}
 use Rattle.agent_threads.specs.Made.{fault_of}
-use Rattle.agent_threads.proofs.Same.{links_same, still_apart, still_wired, same_twice, stays_same, stays_usable}
-use Rattle.agent_threads.proofs.Turning.{turns_links, turns_seats, turns_long, turns_disk, turns_stopped, all_usable, same_err, events_round, met_round}
+use Rattle.agent_threads.proofs.Same.{links_same, still_apart, still_wired, same_twice, stays_same, stays_usable, same_agents_twice, stays_agents}
+use Rattle.agent_threads.proofs.Turning.{turns_links, turns_agents, turns_seats, turns_long, turns_disk, turns_stopped, all_usable, same_err, events_round, met_round}
+use Rattle.agent_threads.proofs.Growing.{grow_twice, turns_grow, met_grow}
+use Rattle.agent_threads.proofs.Going.{turns_move, met_move, move_twice}
 use Rattle.agent_threads.proofs.rounds.round.Goals as goal
 
 pub returns-in-Some-clause-long : goal.returns-in-Some-clause-long
@@ -60,3 +62,26 @@ returns-clause-same g c =
     let news = c.meet_all.new.nodes.items in
     let links = turns_links c.args.room c.args.nodes.now.items mids c.turn_all.ensures (all_usable mids (ap fault_of (sym c.deref.ensures.value) ∙ (sym c.fault_in.ensures ∙ c.in_default.is))) in
     same_twice c.args.nodes.now.items mids news (links_same c.args.nodes.now.items mids links) (stays_same mids news c.meet_all.ensures.each)
+
+pub returns-in-Some-clause-agents : goal.returns-in-Some-clause-agents
+returns-in-Some-clause-agents g c = turns_agents c.args.room c.args.nodes.now.items c.turn_all.new.nodes.items c.turn_all.ensures
+
+pub returns-clause-agents : goal.returns-clause-agents
+returns-clause-agents g c =
+    same_agents_twice c.args.nodes.now.items c.turn_all.new.nodes.items c.meet_all.new.nodes.items (turns_agents c.args.room c.args.nodes.now.items c.turn_all.new.nodes.items c.turn_all.ensures) (stays_agents c.turn_all.new.nodes.items c.meet_all.new.nodes.items c.meet_all.ensures.each)
+
+pub returns-clause-grow : goal.returns-clause-grow
+returns-clause-grow g c = λ t o routes r.
+    let olds = c.args.nodes.now.items in
+    let mids = c.turn_all.new.nodes.items in
+    let news = c.meet_all.new.nodes.items in
+    let usable = all_usable mids (ap fault_of (sym c.deref.ensures.value) ∙ (sym c.fault_in.ensures ∙ c.in_default.is)) in
+    grow_twice olds mids news (turns_grow c.args.room olds mids c.turn_all.ensures usable t o routes r) (met_grow mids news c.meet_all.ensures.each c.meet_all.ensures.all)
+
+pub returns-clause-moves : goal.returns-clause-moves
+returns-clause-moves g c = λ t o routes r.
+    let olds = c.args.nodes.now.items in
+    let mids = c.turn_all.new.nodes.items in
+    let news = c.meet_all.new.nodes.items in
+    let usable = all_usable mids (ap fault_of (sym c.deref.ensures.value) ∙ (sym c.fault_in.ensures ∙ c.in_default.is)) in
+    move_twice 0 olds mids news (turns_move c.args.room olds mids c.turn_all.ensures usable t o routes r) (met_move mids news c.meet_all.ensures.each c.meet_all.ensures.all)

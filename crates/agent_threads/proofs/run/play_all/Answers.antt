@@ -1,4 +1,4 @@
-use Rattle.std.proofs.Common.{ℕ, ◌<◌, ◌≤◌, ◌≡◌, ◌+◌, ◌++◌, ◌∙◌, inl, inr, sym, refl, ap, subst, arith, length, length-append, get_or, [], List, take, Err}
+use Rattle.std.proofs.Common.{ℕ, ◌<◌, ◌≤◌, ◌+◌, ◌++◌, ◌∙◌, inl, inr, sym, refl, ap, subst, arith, length, length-append, get_or, [], List, take, Err}
 use Rattle.std.proofs.lemmas.List.{take_all}
 use Rattle.std.proofs.lemmas.Result.{err_from_is_err_and}
 use Rattle.nsi_outside.specs.Stream.{WritesAll, WritesFront}
@@ -11,10 +11,16 @@ use Rattle.agent_threads.specs.Made.{HasRunCause}
 use Rattle.agent_threads.specs.Nets.{seats, AtHomes}
 use Rattle.agent_threads.specs.Coming.{IsPlayedBy, IsGroupOver, GroupPasses}
 use Rattle.agent_threads.specs.Promise.{AllCanBeDone}
-use Rattle.agent_threads.proofs.Same.{all_same, still_of, same_twice, are_calm}
-use Rattle.agent_threads.proofs.Coming.{played_none, played_all}
+use Rattle.agent_threads.proofs.Same.{all_same, still_of, same_twice, are_calm, same_agents, same_agents_twice}
+use Rattle.agent_threads.proofs.Coming.{played_none, played_all, asks_later}
 use Rattle.agent_threads.proofs.Told.{on_err, writes_none, writes_more, script_passes, front_passes, group_more, some_of_play, can_at}
 use Rattle.agent_threads.proofs.Causes.{same_error, if_err, write_cause, not_long, not_disk, if_writing}
+use Rattle.agent_threads.specs.Journals.{KeepGroup, KeepGroups}
+use Rattle.agent_threads.proofs.Keeping.{groups_none, groups_more, play_kept}
+use Rattle.agent_threads.specs.Bounds.{AreUpTo, AreOfOne}
+use Rattle.quiet_rounds.specs.Bounded.{IsBounded}
+use Rattle.agent_threads.proofs.Bounding.{played_bounded}
+use Rattle.agent_threads.proofs.Going.{anyhow, up_to_later, still_numbered, rising_at}
 use Rattle.agent_threads.proofs.run.play_all.Goals as goal
 
 pub loop-group-init : goal.loop-group-init
@@ -22,6 +28,11 @@ loop-group-init g c = record {
   way = ([], (λ t o routes r. played_none (home_in t routes) (seats c.args.nodes.now.items)), refl, writes_none c.args.topology.now (g.K.Sink.content c.args.out.now));
   net = c.requires.net;
   same = all_same c.args.nodes.now.items;
+  keeps = groups_none c.args.nodes.now.items;
+  told = λ none. none;
+  few = c.requires.ready.none;
+  asks = omega arith;
+  clocks = λ d h. up_to_later 0 (get_or c.args.groups.now 0 d).at c.args.nodes.now.items (omega arith) c.requires.ready.clocks;
   within = omega arith;
   counted = refl;
 }
@@ -35,6 +46,25 @@ play_group-requires-clause-can g c =
       of = still_of c.args.topology.now c.args.nodes.now.items l.nodes.items l.invariant.same c.requires.of;
       can = subst (λ (z : Group). AllCanBeDone c.args.topology.now z.acts) (sym c.group-item.is) (can_at c.args.topology.now c.args.groups.now l.group-index c.group-item.result h c.requires.can);
     }
+
+pub play_group-requires-clause-asks : goal.play_group-requires-clause-asks
+play_group-requires-clause-asks g c =
+    let l = c.loop-group in
+    let h : l.group-index < length c.args.groups.now = omega (arith, c.loop-group-test.true) in
+    let d = c.group-item.result in
+    omega (arith, ap (λ (z : Group). asks_among z.acts) c.group-item.is, asks_later c.args.groups.now l.group-index d h, l.invariant.asks, c.requires.asks)
+
+pub play_group-requires-clause-numbers : goal.play_group-requires-clause-numbers
+play_group-requires-clause-numbers g c = still_numbered c.args.topology.now c.args.nodes.now.items c.loop-group.nodes.items c.loop-group.invariant.same c.requires.ready.numbers
+
+pub play_group-requires-clause-told : goal.play_group-requires-clause-told
+play_group-requires-clause-told g c = c.loop-group.invariant.told c.requires.ready.told
+
+pub play_group-requires-clause-later : goal.play_group-requires-clause-later
+play_group-requires-clause-later g c =
+    let l = c.loop-group in
+    let h : l.group-index < length c.args.groups.now = omega (arith, c.loop-group-test.true) in
+    subst (λ (z : Group). AreUpTo z.at l.nodes.items) (sym c.group-item.is) (l.invariant.clocks c.group-item.result h)
 
 pub loop-group-preserved : goal.loop-group-preserved
 loop-group-preserved g c =
@@ -60,6 +90,16 @@ loop-group-preserved g c =
       );
       net = c.in_ok-text.ensures.net;
       same = same_twice c.args.nodes.now.items l.nodes.items c.play_group.new.nodes.items l.invariant.same c.in_ok-text.ensures.same;
+      keeps = subst (λ (n : ℕ). KeepGroups (take (l.group-index + 1) c.args.groups.now) n c.args.nodes.now.items c.play_group.new.nodes.items) (sym next)
+          (groups_more c.args.groups.now l.group-index d l.progress.asks c.args.nodes.now.items l.nodes.items c.play_group.new.nodes.items h l.invariant.same l.invariant.told l.invariant.keeps
+          (subst (λ (z : Group). KeepGroup z l.progress.asks l.nodes.items c.play_group.new.nodes.items) c.group-item.is c.in_ok-text.ensures.keeps));
+      told = λ none. c.in_ok-text.ensures.told;
+      few = c.in_ok-text.ensures.few;
+      asks = omega (arith, next, asks_later c.args.groups.now l.group-index d h, l.invariant.asks);
+      clocks = λ e next.
+          let later : d.at ≤ (get_or c.args.groups.now (l.group-index + 1) e).at =
+          subst (λ (z : Group). z.at ≤ (get_or c.args.groups.now (l.group-index + 1) e).at) (sym c.group-item.is) (rising_at c.args.groups.now l.group-index d e next c.requires.rising) in
+          up_to_later d.at (get_or c.args.groups.now (l.group-index + 1) e).at c.play_group.new.nodes.items later c.in_ok-text.ensures.clocks;
       within = c.in_ok-text.ensures.within;
       counted = c.in_ok-write_text.ensures.quiet ∙ l.invariant.counted;
     }
@@ -163,3 +203,30 @@ returns-in_err-write_text-clause-quiet g c = λ n.
 
 pub returns-clause-calm : goal.returns-clause-calm
 returns-clause-calm g c = are_calm c.args.nodes.now.items c.loop-group.nodes.items c.loop-group.invariant.same
+
+pub returns-in_err-text-clause-agents : goal.returns-in_err-text-clause-agents
+returns-in_err-text-clause-agents g c = same_agents_twice c.args.nodes.now.items c.loop-group.nodes.items c.play_group.new.nodes.items (same_agents c.args.nodes.now.items c.loop-group.nodes.items c.loop-group.invariant.same) c.in_err-text.ensures.agents
+
+pub returns-in_err-write_text-clause-agents : goal.returns-in_err-write_text-clause-agents
+returns-in_err-write_text-clause-agents g c = same_agents_twice c.args.nodes.now.items c.loop-group.nodes.items c.play_group.new.nodes.items (same_agents c.args.nodes.now.items c.loop-group.nodes.items c.loop-group.invariant.same) c.in_ok-text.ensures.agents
+
+pub returns-clause-agents : goal.returns-clause-agents
+returns-clause-agents g c = same_agents c.args.nodes.now.items c.loop-group.nodes.items c.loop-group.invariant.same
+
+pub returns-clause-keeps : goal.returns-clause-keeps
+returns-clause-keeps g c =
+    let l = c.loop-group in
+    play_kept c.args.groups.now l.progress.asks c.args.nodes.now.items l.nodes.items
+    (subst (λ (gs : List Group). KeepGroups gs l.progress.asks c.args.nodes.now.items l.nodes.items) (take_all l.group-index c.args.groups.now (omega (arith, c.loop-group-test.false))) l.invariant.keeps)
+
+pub returns-clause-usable : goal.returns-clause-usable
+returns-clause-usable g c = c.loop-group.invariant.net.usable
+
+pub play_group-requires-clause-bounded : goal.play_group-requires-clause-bounded
+play_group-requires-clause-bounded g c =
+    let l = c.loop-group in
+    let w = l.invariant.way in
+    let start = c.args.nodes.now.items in
+    let one : AreOfOne start = record { network = c.args.topology.now; of = c.requires.of } in
+    anyhow c.routes_exist.ensures.exist start (IsBounded (seats l.nodes.items)) one
+    (λ t o routes r. played_bounded c.nets_are_bounded.ensures.plays (home_in t routes) (take l.group-index c.args.groups.now) (seats start) w.0 l.progress.asks (seats l.nodes.items) (w.1 t o routes r) c.requires.ready.bounded)

@@ -4,7 +4,7 @@ use Rattle.nsi_program.specs.declared.words.Command.{Command}
 use Rattle.nsi_program.specs.Words.{command_of}
 use Rattle.nsi_program.specs.Promise.{promise_of, IsKept, IsComplete, IsSafe}
 use Rattle.nsi_program.proofs.Declared.{is_complete, is_safe, names_fault}
-use Rattle.nsi_program.proofs.Ended.{provide_ended, with_reading, check_ended, usage_ended, provide_cut, provide_broken, provide_cut_short, check_cut, check_cut_short, usage_cut_short, generate_ended, generate_cut_short, generated_is}
+use Rattle.nsi_program.proofs.Ended.{provide_ended, with_reading, check_ended, usage_ended, provide_cut, provide_broken, provide_cut_short, check_cut, check_cut_short, usage_cut_short, generate_ended, generate_cut_short, generated_is, run_ended, run_cut, run_broken, run_cut_short, run_names_fault, tells_disks}
 use Rattle.nsi_program.proofs.Limits.{limit_few, limit_is}
 use Rattle.nsi_program.proofs.top.top_plain.Goals as goal
 
@@ -100,3 +100,34 @@ pub returns-in-Generate-clause-generated : goal.returns-in-Generate-clause-gener
 returns-in-Generate-clause-generated g c = λ load named told.
     generated_is _ c.in-Generate.load load c.generate.result (g.K.Sink.content c.args.out.now) (g.K.Sink.content c.generate.new.out)
     (named_by (map string_bytes c.args.words.now) c.command_of.result c.in-Some.command (Command.Generate c.in-Generate.load) c.command_of.ensures c.in-Some.is c.in-Generate.is) named (c.generate.ensures.told told)
+
+pub returns-in-Run-clause-ends : goal.returns-in-Run-clause-ends
+returns-in-Run-clause-ends g c = λ told.
+    run_ended _ c.in-Run.most (g.H.Shelf.holds c.args.shelf.now) (g.K.Sink.content c.args.out.now) (g.S.Source.left c.args.input.now) (g.K.Sink.content c.run.new.out) c.run.result
+    (named_by (map string_bytes c.args.words.now) c.command_of.result c.in-Some.command (Command.Run c.in-Run.most) c.command_of.ensures c.in-Some.is c.in-Run.is) (c.run.ensures.ends told)
+
+pub returns-in-Run-clause-cut : goal.returns-in-Run-clause-cut
+returns-in-Run-clause-cut g c = λ failed.
+    run_cut _ c.in-Run.most (g.H.Shelf.holds c.args.shelf.now) (g.K.Sink.content c.args.out.now) (g.S.Source.left c.args.input.now) (g.S.Source.left c.run.new.input) (g.K.Sink.content c.run.new.out)
+    (named_by (map string_bytes c.args.words.now) c.command_of.result c.in-Some.command (Command.Run c.in-Run.most) c.command_of.ensures c.in-Some.is c.in-Run.is) (c.run.ensures.alone failed)
+
+pub returns-in-Run-clause-broken : goal.returns-in-Run-clause-broken
+returns-in-Run-clause-broken g c = λ failed.
+    run_broken _ c.in-Run.most (g.H.Shelf.holds c.args.shelf.now) (g.K.Sink.content c.args.out.now) (g.S.Source.left c.args.input.now) (g.K.Sink.content c.run.new.out)
+    (named_by (map string_bytes c.args.words.now) c.command_of.result c.in-Some.command (Command.Run c.in-Run.most) c.command_of.ensures c.in-Some.is c.in-Run.is) (c.run.ensures.broken failed)
+
+pub returns-in-Run-clause-unfinished : goal.returns-in-Run-clause-unfinished
+returns-in-Run-clause-unfinished g c = λ failed.
+    run_cut_short _ c.in-Run.most (g.H.Shelf.holds c.args.shelf.now) (g.K.Sink.content c.args.out.now) (g.S.Source.left c.args.input.now) (g.S.Source.left c.run.new.input) _ _ (g.K.Sink.content c.run.new.out)
+    (named_by (map string_bytes c.args.words.now) c.command_of.result c.in-Some.command (Command.Run c.in-Run.most) c.command_of.ensures c.in-Some.is c.in-Run.is) (c.run.ensures.unfinished failed)
+
+pub returns-in-Run-clause-bad_topology : goal.returns-in-Run-clause-bad_topology
+returns-in-Run-clause-bad_topology g c = λ _ told. run_names_fault c.in-Run.most _ _ _ _ (c.run.ensures.ends told)
+
+pub returns-in-Run-clause-quiet_disk : goal.returns-in-Run-clause-quiet_disk
+returns-in-Run-clause-quiet_disk g c = λ told disks.
+    c.run.ensures.quiet_disk told
+    (tells_disks _ c.in-Run.most c.run.result (named_by (map string_bytes c.args.words.now) c.command_of.result c.in-Some.command (Command.Run c.in-Run.most) c.command_of.ensures c.in-Some.is c.in-Run.is) disks)
+
+pub returns-in-Run-clause-journals : goal.returns-in-Run-clause-journals
+returns-in-Run-clause-journals g c = λ most named done. c.run.ensures.journals done

@@ -1,0 +1,8 @@
+mod Rows
+pub mod Roles
+pub mod Facts
+pub mod Pairs
+pub mod Views
+pub mod Cutting
+pub mod Requesters
+pub mod Aggregators

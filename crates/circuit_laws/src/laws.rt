@@ -1,0 +1,33 @@
+//! The laws of circuits in runs. Each function is its contract.
+
+ghost use Rattle.circuit_laws.specs.Laws.{ViewsHavePhases, ChildrenHavePhases, ViewsAreInStep, ChildrenAreInStep, ViewsAreBacked, ChildrenAreBacked, ViewsKnowTheirOwn, ChildrenKnowTheirOwn};
+
+use nsi_world::laws::sent;
+
+/// In every run, by the phase of a view that a requester has, or an aggregator of a child, one reads off where the record of the agent that
+/// it asks stands, whatever cut of either is taken.
+pub fn phases()
+    ensures views { ViewsHavePhases }
+    ensures children { ChildrenHavePhases }
+{}
+
+/// The versions that such a view has as committed are the record's, or all but its last.
+pub fn steps()
+    ensures views { ViewsAreInStep }
+    ensures children { ChildrenAreInStep }
+{}
+
+/// Each version that such a view has as committed has a commit of its own that was sent, and confirmed; and the record has it as committed by
+/// what is synced.
+pub fn backing()
+    ensures views { ViewsAreBacked }
+    ensures children { ChildrenAreBacked }
+{
+    sent();
+}
+
+/// No two such views know one connection.
+pub fn known()
+    ensures views { ViewsKnowTheirOwn }
+    ensures children { ChildrenKnowTheirOwn }
+{}

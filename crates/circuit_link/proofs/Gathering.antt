@@ -1,0 +1,135 @@
+-- What records do by themselves, gathered: one of them, or each in order; and whose answers stand among what is said.
+use Rattle.std.proofs.Common.{ℕ, zero, suc, ◌≡◌, ◌<◌, Bool, true, false, List, [], ◌∷◌, ◌++◌, length, Contains, ◌⊎◌, inl, inr, refl, sym, ap, ◌∙◌, subst, arith, slice_set, get_or-set_same, get_or-set_other}
+use Rattle.std.proofs.lemmas.Bool.{cases_eq}
+use Rattle.std.proofs.lemmas.List.{length-set}
+use Rattle.std.proofs.lemmas.List.Elements.{Contains-append_left, Contains-append_right, Contains-append_cases}
+use Rattle.nsi_primitive.specs.declared.message.Body.{Body}
+use Rattle.nsi_primitive.specs.declared.message.Header.{Header}
+use Rattle.nsi_primitive.specs.declared.message.Message.{Message}
+use Rattle.record_index.proofs.Members.{nothing_in}
+use Rattle.connection_record.specs.declared.record.Record.{Record}
+use Rattle.connection_record.specs.declared.moves.Reply.{Reply}
+use Rattle.connection_record.specs.Courses.{answering, Course}
+use Rattle.connection_record.specs.Replies.{addressed}
+use Rattle.connection_record.specs.Speaking.{is_answering}
+use Rattle.connection_record.proofs.Acts.{answering_append}
+use Rattle.agent_state.specs.State.{no_record, record_at}
+use Rattle.circuit_link.specs.Children.{about, header_of}
+use Rattle.circuit_link.specs.Serving.{Tells, TakeCourses}
+use Rattle.circuit_link.proofs.Abouts.{about_cases, about_left, about_right, addressed_in, addressed_of, said_under}
+use Rattle.circuit_link.proofs.Answering.{nothing_answered}
+
+---- What is said
+
+pub tells_addressed : (name owner : List ℕ) (replies : List Reply) → Tells name owner replies (addressed name owner replies)
+tells_addressed name owner replies =
+    record { only = λ parent c b i. addressed_in name owner parent c replies b i; all = λ c b i. addressed_of name owner c replies b i }
+
+-- none of the messages is an answer
+abbrev pub AnswersNothing : List Message → Type 0
+AnswersNothing ms = (m : Message) → Contains ms m → is_answering m.body ≡ false
+
+pub no_answer_there : (h : Header) (ms : List Message) (b : Body) → AnswersNothing ms → Contains (about h ms) b → ⊥
+no_answer_there h ms b n i = let w = said_under h b ms i in both w.answering (n w.message w.there)
+  where
+    both : {t : Bool} → t ≡ true → t ≡ false → ⊥
+    both {t} p q = absurd (let e : true ≡ false = sym p ∙ q in cc)
+
+-- answers, then what is no answer, then notices
+pub tells_spoken : (name owner : List ℕ) (replies notices : List Reply) (asked : List Message) → AnswersNothing asked →
+    Tells name owner (replies ++ notices) (addressed name owner replies ++ (asked ++ addressed name owner notices))
+tells_spoken name owner replies notices asked n = record { only = λ parent c b i. first parent c b (about_cases (header_of parent name c) (addressed name owner replies) (asked ++ addressed name owner notices) b i); all = λ c b i. back c b (both c b i) }
+  where
+    left : (parent : List ℕ) (c : ℕ) (b : Body) → (owner ≡ parent) × Contains (answering c replies) b → (owner ≡ parent) × Contains (answering c (replies ++ notices)) b
+    left parent c b (o, j) = (o, subst (λ w. Contains w b) (sym (answering_append c replies notices)) (Contains-append_left (answering c replies) (answering c notices) b j))
+
+    right : (parent : List ℕ) (c : ℕ) (b : Body) → (owner ≡ parent) × Contains (answering c notices) b → (owner ≡ parent) × Contains (answering c (replies ++ notices)) b
+    right parent c b (o, j) = (o, subst (λ w. Contains w b) (sym (answering_append c replies notices)) (Contains-append_right (answering c replies) (answering c notices) b j))
+
+    second : (parent : List ℕ) (c : ℕ) (b : Body) → Contains (about (header_of parent name c) asked) b ⊎ Contains (about (header_of parent name c) (addressed name owner notices)) b → (owner ≡ parent) × Contains (answering c (replies ++ notices)) b
+    second parent c b (inl j) = absurd (no_answer_there (header_of parent name c) asked b n j)
+    second parent c b (inr j) = right parent c b (addressed_in name owner parent c notices b j)
+
+    first : (parent : List ℕ) (c : ℕ) (b : Body) → Contains (about (header_of parent name c) (addressed name owner replies)) b ⊎ Contains (about (header_of parent name c) (asked ++ addressed name owner notices)) b →
+        (owner ≡ parent) × Contains (answering c (replies ++ notices)) b
+    first parent c b (inl j) = left parent c b (addressed_in name owner parent c replies b j)
+    first parent c b (inr j) = second parent c b (about_cases (header_of parent name c) asked (addressed name owner notices) b j)
+
+    both : (c : ℕ) (b : Body) → Contains (answering c (replies ++ notices)) b → Contains (answering c replies) b ⊎ Contains (answering c notices) b
+    both c b i = Contains-append_cases (answering c replies) (answering c notices) b (subst (λ w. Contains w b) (answering_append c replies notices) i)
+
+    back : (c : ℕ) (b : Body) → Contains (answering c replies) b ⊎ Contains (answering c notices) b → Contains (about (header_of owner name c) (addressed name owner replies ++ (asked ++ addressed name owner notices))) b
+    back c b (inl j) = about_left (header_of owner name c) (addressed name owner replies) (asked ++ addressed name owner notices) b (addressed_of name owner c replies b j)
+    back c b (inr j) =
+        about_right (header_of owner name c) (addressed name owner replies) (asked ++ addressed name owner notices) b
+        (about_right (header_of owner name c) asked (addressed name owner notices) b (addressed_of name owner c notices b j))
+
+---- Courses
+
+pub no_courses : (name : List ℕ) (rs : List Record) → TakeCourses name rs rs []
+unfolding about
+no_courses name rs =
+    record {
+      long = refl;
+      said = λ n. [];
+      each = λ n. Course.rests (record_at n rs);
+      all = λ n c b l i. absurd (nothing_answered c b [] refl i);
+      only = λ parent c b i. absurd (nothing_in b i);
+    }
+
+-- one record in its place
+pub one_course : (name : List ℕ) (rs : List Record) (n : ℕ) (q : Record) (said : List Reply) (out : List Message) → n < length rs → Course (record_at n rs) q said → Tells name (record_at n rs).owner said out →
+    TakeCourses name rs (slice_set rs n q) out
+one_course name rs n q said out l course tells =
+    record {
+      long = length-set rs n q;
+      said = λ k. said_at k (cases_eq k n);
+      each = λ k. each_of k (cases_eq k n);
+      all = λ k c b _ i. all_of k c b (cases_eq k n) i;
+      only = λ parent c b i. let w = tells.only parent c b i in (n, w.0, here (cases_eq n n) c b w.1);
+    }
+  where
+    said_at : (k : ℕ) → (k ≡ n) ⊎ (k ≡ n → ⊥) → List Reply
+    said_at k (inl e) = said
+    said_at k (inr e) = []
+
+    each_of : (k : ℕ) (w : (k ≡ n) ⊎ (k ≡ n → ⊥)) → Course (record_at k rs) (record_at k (slice_set rs n q)) (said_at k w)
+    each_of k (inl e) = subst (λ j. Course (record_at j rs) (record_at j (slice_set rs n q)) said) (sym e) (subst (λ r. Course (record_at n rs) r said) (sym (get_or-set_same rs n q no_record l)) course)
+    each_of k (inr e) = subst (λ r. Course (record_at k rs) r []) (sym (get_or-set_other rs n k q no_record e)) (Course.rests (record_at k rs))
+
+    all_of : (k c : ℕ) (b : Body) (w : (k ≡ n) ⊎ (k ≡ n → ⊥)) → Contains (answering c (said_at k w)) b → Contains (about (header_of (record_at k rs).owner name c) out) b
+    all_of k c b (inl e) i = subst (λ j. Contains (about (header_of (record_at j rs).owner name c) out) b) (sym e) (tells.all c b i)
+    all_of k c b (inr e) i = absurd (nothing_answered c b [] refl i)
+
+    here : (w : (n ≡ n) ⊎ (n ≡ n → ⊥)) (c : ℕ) (b : Body) → Contains (answering c said) b → Contains (answering c (said_at n w)) b
+    here (inl e) c b i = i
+    here (inr e) c b i = absurd (e refl)
+
+-- the first of all, and those behind it
+pub more_courses : (name : List ℕ) (r q : Record) (said : List Reply) (front : List Message) (rs qs : List Record) (out : List Message) → Course r q said → Tells name r.owner said front → TakeCourses name rs qs out →
+    TakeCourses name (r ∷ rs) (q ∷ qs) (front ++ out)
+more_courses name r q said front rs qs out course tells rest =
+    record {
+      long = ap suc rest.long;
+      said = said_at;
+      each = each_of;
+      all = all_of;
+      only = λ parent c b i. only_of parent c b (about_cases (header_of parent name c) front out b i);
+    }
+  where
+    said_at : ℕ → List Reply
+    said_at zero = said
+    said_at (suc n) = rest.said n
+
+    each_of : (n : ℕ) → Course (record_at n (r ∷ rs)) (record_at n (q ∷ qs)) (said_at n)
+    each_of zero = course
+    each_of (suc n) = rest.each n
+
+    all_of : (n c : ℕ) (b : Body) → n < length (r ∷ rs) → Contains (answering c (said_at n)) b → Contains (about (header_of (record_at n (r ∷ rs)).owner name c) (front ++ out)) b
+    all_of zero c b l i = about_left (header_of r.owner name c) front out b (tells.all c b i)
+    all_of (suc n) c b l i = about_right (header_of (record_at n rs).owner name c) front out b (rest.all n c b (omega (arith, l)) i)
+
+    only_of : (parent : List ℕ) (c : ℕ) (b : Body) → Contains (about (header_of parent name c) front) b ⊎ Contains (about (header_of parent name c) out) b →
+        (n : ℕ) × ((record_at n (r ∷ rs)).owner ≡ parent) × Contains (answering c (said_at n)) b
+    only_of parent c b (inl i) = let w = tells.only parent c b i in (zero, w.0, w.1)
+    only_of parent c b (inr i) = let w = rest.only parent c b i in (suc w.0, w.1, w.2)

@@ -1,0 +1,72 @@
+-- A request that isn't refused, at an agent of any kind that is asked.
+use Rattle.std.proofs.Common.{ℕ, ◌≡◌, false, not, List, Option, Some, None, refl, sym, ap, ◌∙◌, subst, arith, bytes_eq}
+use Rattle.std.proofs.lemmas.Option.{get_or_from_slice_get, slice_get_within}
+use Rattle.nsi_primitive.specs.Messages.{kind_of, connection_of}
+use Rattle.nsi_primitive.specs.declared.kind.ErrorName.{ErrorName}
+use Rattle.nsi_primitive.specs.declared.message.Body.{Body}
+use Rattle.nsi_primitive.specs.declared.message.Message.{Message}
+use Rattle.nsi_primitive.specs.declared.message.ReserveRequest.{ReserveRequest}
+use Rattle.child_connection.specs.Holding.{is_reservation}
+use Rattle.connection_record.specs.declared.record.Record.{Record}
+use Rattle.connection_record.specs.Refusal.{refusal, record_refusal, first_refusal, unnamed_refusal, refused_if, or_else, about as refusal_about, place_of, points_of}
+use Rattle.connection_record.specs.Unrefused.{IsTakenAt}
+use Rattle.connection_record.proofs.Unrefused.{unrefused_agent, unrefused_at, first_criteria}
+use Rattle.agent_state.specs.State.{no_record, record_at}
+use Rattle.circuit_link.specs.Children.{Child}
+use Rattle.circuit_link.specs.Serving.{IsAbout, IsFirst}
+
+second_none : (a b : Option ErrorName) → or_else a b ≡ None → b ≡ None
+second_none None b h = h
+second_none (Some x) b h = absurd (cc)
+
+-- the record that a request names
+pub record IsFound (name : List ℕ) (m : Message) (id : ℕ) (d : Child) : Type 0 where
+  pub place : ℕ
+  pub found : place_of id m.header.requester d.records ≡ Some place
+  pub about : IsAbout name m place d
+
+pub found_by : (name : List ℕ) (stp_of : List ℕ → Option ℕ) (m : Message) (id : ℕ) (d : Child) → connection_of m.body ≡ Some id → refusal name stp_of d.records m ≡ None → IsFound name m id d
+found_by name stp_of m id d c r =
+    let t : IsTakenAt m d.records id = unrefused_at name stp_of d.records m id c r in
+    let here : record_at t.place d.records ≡ t.own = get_or_from_slice_get d.records t.place t.own no_record t.there in
+    record {
+      place = t.place;
+      found = t.found;
+      about =
+          record {
+            within = slice_get_within d.records t.place t.own t.there;
+            provider = unrefused_agent name stp_of d.records m r;
+            owner = ap (λ y. y.owner) here ∙ t.owner;
+            id = id;
+            names = c;
+            its_id = ap (λ y. y.id) here ∙ t.named;
+            unrefused = subst (λ y. record_refusal m.body y ≡ None) (sym here) t.unrefused;
+          };
+    }
+
+-- what a first reserve that isn't refused asks
+pub first_by : (name : List ℕ) (stp_of : List ℕ → Option ℕ) (rs : List Record) (m : Message) (q : ReserveRequest) → m.body ≡ Body.Reserve q → q.connection ≡ None → refusal name stp_of rs m ≡ None →
+    IsFirst name m × (points_of stp_of q ≡ None → ⊥)
+unfolding refusal unnamed_refusal connection_of
+first_by name stp_of rs m q b c r = (record { provider = unrefused_agent name stp_of rs m r; reserve = q; body = b; unnamed = c; asks = λ e. first_criteria stp_of q unrefused e }, λ e. pointless unrefused e)
+  where
+    unnamed : refusal_about (connection_of m.body) m.header.requester stp_of rs m.body ≡ None
+    unnamed = second_none (refused_if (not (bytes_eq m.header.provider name)) ErrorName.WrongProvider) (refusal_about (connection_of m.body) m.header.requester stp_of rs m.body) r
+
+    unrefused : first_refusal stp_of q ≡ None
+    unrefused = sym (ap (λ o. refusal_about o m.header.requester stp_of rs (Body.Reserve q)) c) ∙ sym (ap (λ z. refusal_about (connection_of z) m.header.requester stp_of rs z) b) ∙ unnamed
+
+    pointless : first_refusal stp_of q ≡ None → points_of stp_of q ≡ None → ⊥
+    pointless h e = grind (arith, h, e)
+
+-- a request without a connection that is no reserve isn't the reservation's
+pub unnamed_kind : (body : Body) → connection_of body ≡ None → ((q : ReserveRequest) → body ≡ Body.Reserve q → ⊥) → is_reservation (kind_of body) ≡ false
+unfolding connection_of is_reservation
+unnamed_kind (Body.Reserve q) c n = absurd (n q refl)
+unnamed_kind (Body.ReserveCommit id) c n = absurd (cc)
+unnamed_kind (Body.ReserveAbort id) c n = absurd (cc)
+unnamed_kind _ c n = refl
+
+pub reserve_unnamed : (body : Body) (q : ReserveRequest) → body ≡ Body.Reserve q → connection_of body ≡ None → q.connection ≡ None
+unfolding connection_of
+reserve_unnamed body q e c = sym (ap connection_of e) ∙ c

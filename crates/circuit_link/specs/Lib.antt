@@ -1,0 +1,6 @@
+pub mod Sides
+pub mod Links
+pub mod Children
+pub mod Mates
+pub mod Serving
+pub mod Laws

@@ -1,0 +1,9 @@
+pub mod Backing
+pub mod Serving
+pub mod Minding
+pub mod Requesters
+pub mod Plain
+pub mod Parenting
+pub mod Overseeing
+pub mod Aggregators
+pub mod Starting

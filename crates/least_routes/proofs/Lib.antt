@@ -1,0 +1,6 @@
+mod Deciding
+mod Marking
+mod Levels
+mod Following
+mod Offering
+mod Ways

@@ -1,0 +1,64 @@
+-- The counts of a shelf that disks were given back to.
+use Rattle.std.proofs.Common.{ℕ, zero, suc, ◌+◌, ◌<◌, ◌≤◌, ◌-◌, ◌≡◌, inl, inr, refl, arith, List, [], ◌∷◌}
+use Rattle.nsi_disk.specs.ShelfCounts.{Raised}
+use Rattle.agent_node.specs.Kept.{Kept}
+use Rattle.agent_threads.specs.Nets.{AreCalm}
+use Rattle.agent_threads.specs.Made.{HasFailed}
+use Rattle.agent_threads.specs.declared.fault.RunFault.{RunFault}
+use Rattle.net_run.specs.Begun.{faults_among, stops_among}
+use Rattle.net_run.specs.Shelves.{HasRisen, HasBroken, IsStartFault}
+
+pub raised_none : (a : ℕ) → Raised a 0 a
+raised_none a = inl (omega arith)
+
+pub raised_twice : (a x b y c : ℕ) → Raised a x b → Raised b y c → Raised a (x + y) c
+raised_twice a x b y c (inl p) (inl q) = inl (omega (arith, p, q))
+raised_twice a x b y c (inl p) (inr q) = inr (omega (arith, p, q.0), omega (arith, p, q.1))
+raised_twice a x b y c (inr p) (inl q) = inr (omega (arith, p.0), omega (arith, p.1, q))
+raised_twice a x b y c (inr p) (inr q) = inr (omega (arith, p.0), omega (arith, p.1, q.1))
+
+pub raised_up : (a x b : ℕ) → Raised a x b → a ≤ b
+raised_up a x b (inl p) = omega (arith, p)
+raised_up a x b (inr p) = p.1
+
+pub risen_then : (a b c : ℕ) → HasRisen a b → b ≤ c → HasRisen a c
+risen_then a b c (x, h, inl p) q = (c - a, omega (arith, h, p, q), inl (omega (arith, h, p, q)))
+risen_then a b c (x, h, inr p) q = (x, h, inr (p.0, omega (arith, p.1, q)))
+
+pub risen_after : (a b c : ℕ) → a ≤ b → HasRisen b c → HasRisen a c
+risen_after a b c q (x, h, inl p) = (c - a, omega (arith, h, p, q), inl (omega (arith, h, p, q)))
+risen_after a b c q (x, h, inr p) = ((b - a) + x, omega (arith, h), inr (omega (arith, p.0, q), omega (arith, p.1, q)))
+
+pub risen_more : (a b : ℕ) → a < b → HasRisen a b
+risen_more a b h = (b - a, omega (arith, h), inl (omega (arith, h)))
+
+-- why a start failed, seen from before it and from behind it
+pub start_fault : (most f g h s r q : ℕ) (e : RunFault) → IsStartFault most f g s r e → g ≤ h → r ≤ q → IsStartFault most f h s q e
+start_fault most f g h s r q RunFault.Long i x y = i
+start_fault most f g h s r q RunFault.WriteFault i x y = i
+start_fault most f g h s r q (RunFault.DiskFault a) (l, inl b) x y = (l, inl (risen_then f g h b x))
+start_fault most f g h s r q (RunFault.DiskFault a) (l, inr b) x y = (l, inr (risen_then s r q b y))
+start_fault most f g h s r q RunFault.NoMemory i x y = (omega (arith, i.0, x), omega (arith, i.1, y))
+
+---- Agents
+
+pub calm_faults : (xs ys : List Kept) → AreCalm xs ys → faults_among ys ≡ faults_among xs
+calm_faults [] [] c = refl
+calm_faults [] (y ∷ ys) c = absurd c
+calm_faults (x ∷ xs) [] c = absurd c
+calm_faults (x ∷ xs) (y ∷ ys) c = omega (arith, c.0.faults, calm_faults xs ys c.1)
+
+pub calm_stops : (xs ys : List Kept) → AreCalm xs ys → stops_among ys ≡ stops_among xs
+calm_stops [] [] c = refl
+calm_stops [] (y ∷ ys) c = absurd c
+calm_stops (x ∷ xs) [] c = absurd c
+calm_stops (x ∷ xs) (y ∷ ys) c = omega (arith, c.0.stops, calm_stops xs ys c.1)
+
+pub some_failed : (a : ℕ) (ks : List Kept) → HasFailed a ks → 0 < faults_among ks + stops_among ks
+some_failed a [] h = absurd h
+some_failed a (k ∷ ks) (inl p) = omega (arith, p.1)
+some_failed a (k ∷ ks) (inr p) = omega (arith, some_failed a ks p)
+
+pub broken_by : (x y f g s r : ℕ) → 0 < x + y → Raised f x g → Raised s y r → HasBroken f g s r
+broken_by zero y f g s r h p q = inr (y, omega (arith, h), q)
+broken_by (suc x) y f g s r h p q = inl (suc x, omega arith, p)

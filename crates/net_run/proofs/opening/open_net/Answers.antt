@@ -1,0 +1,17 @@
+use Rattle.std.proofs.Common.{length}
+use Rattle.net_run.specs.Begun.{faults_among, stops_among}
+use Rattle.net_run.proofs.Beginning.{opened_are}
+use Rattle.net_run.proofs.Counting.{raised_up, start_fault}
+use Rattle.net_run.proofs.opening.open_net.Goals as goal
+
+pub returns-in-Ok-clause-opened : goal.returns-in-Ok-clause-opened
+returns-in-Ok-clause-opened g c =
+    opened_are c.args.topology.now c.in_ok-joints.joints.items c.begin_all.new.nodes.items c.in_ok-joints.ensures.paired c.begin_all.ensures.begun c.in-Ok.ensures.all
+
+pub returns-in-Err-clause-cause : goal.returns-in-Err-clause-cause
+returns-in-Err-clause-cause g c =
+    let nodes = c.begin_all.new.nodes.items in
+    start_fault (length c.args.topology.now.agents) (g.H.Shelf.faults c.args.shelf.now) (g.H.Shelf.faults c.begin_all.new.shelf) (g.H.Shelf.faults c.close_net.new.shelf)
+    (g.H.Shelf.stops c.args.shelf.now) (g.H.Shelf.stops c.begin_all.new.shelf) (g.H.Shelf.stops c.close_net.new.shelf) c.in-Err.fault c.in-Err.ensures.cause
+    (raised_up (g.H.Shelf.faults c.begin_all.new.shelf) (faults_among nodes) (g.H.Shelf.faults c.close_net.new.shelf) c.close_net.ensures.faults)
+    (raised_up (g.H.Shelf.stops c.begin_all.new.shelf) (stops_among nodes) (g.H.Shelf.stops c.close_net.new.shelf) c.close_net.ensures.stops)

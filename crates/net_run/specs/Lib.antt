@@ -1,0 +1,5 @@
+pub mod Joints
+pub mod Begun
+pub mod Shelves
+pub mod Worlds
+pub mod Journals

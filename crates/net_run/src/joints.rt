@@ -1,0 +1,184 @@
+//! The ends of all links of a net.
+
+ghost use Rattle.std.specs.Prelude.{◌≡◌, ◌==◌, ◌≤◌, ◌<◌, [], true, length, IfOk, OnOk};
+ghost use Rattle.std.specs.List.{All, list_any};
+ghost use Rattle.net_run.specs.Joints.{ArePaired, IsShutJoint, IsSplit, AreOwn};
+
+use agent_link::{Incoming, Outgoing, link};
+use agent_node::opening::others;
+use nsi_base::{AgentNo, List};
+use std::alloc::{AllocError, Global};
+use stp_topology::Topology;
+
+/// An agent's ends of both ways of its link to another one.
+#[derive(Drop)]
+pub struct Joint {
+    pub at: AgentNo,
+    pub other: AgentNo,
+    pub out: Outgoing,
+    pub inc: Incoming,
+}
+
+/// The number of an agent at its place.
+pub fn agent_at(place: usize) -> AgentNo
+    requires { place ≤ 63 }
+    ensures { result ≡ place }
+{
+    match AgentNo::new(place as u16) {
+        Some(agent) => agent,
+        None => unreachable!(),
+    }
+}
+
+/// Makes a link of each way between two agents.
+fn join(alloc: Global, a: AgentNo, b: AgentNo, joints: &mut Vec<Joint>) -> Result<(), AllocError>
+    requires apart { b < a }
+    requires paired { ArePaired joints.old.items }
+    requires shut { All IsShutJoint joints.old.items }
+    ensures paired { OnOk result (ArePaired joints.new.items) }
+    ensures shut { OnOk result (All IsShutJoint joints.new.items) }
+{
+    let (there, known_there) = link(alloc, List::new(alloc))?;
+    let (back, known_back) = link(alloc, List::new(alloc))?;
+    joints.push(Joint {
+        at: a,
+        other: b,
+        out: there,
+        inc: known_back,
+    })?;
+    joints.push(Joint {
+        at: b,
+        other: a,
+        out: back,
+        inc: known_there,
+    })?;
+    Ok(())
+}
+
+/// Joins an agent with those before it that it has links to.
+fn join_earlier(
+    alloc: Global,
+    topology: &Topology,
+    agent: AgentNo,
+    joints: &mut Vec<Joint>,
+) -> Result<(), AllocError>
+    requires within { agent < length topology.now.agents }
+    requires paired { ArePaired joints.old.items }
+    requires shut { All IsShutJoint joints.old.items }
+    ensures paired { OnOk result (ArePaired joints.new.items) }
+    ensures shut { OnOk result (All IsShutJoint joints.new.items) }
+{
+    for other in others(alloc, topology, agent)? {
+        if other.get() < agent.get() {
+            join(alloc, agent, other, joints)?;
+        }
+    }
+    Ok(())
+}
+
+/// Joins each two agents that have a link.
+pub fn join_all(alloc: Global, topology: &Topology) -> Result<Vec<Joint>, AllocError>
+    ensures paired { IfOk result (λ joints. ArePaired joints.items) }
+    ensures shut { IfOk result (λ joints. All IsShutJoint joints.items) }
+{
+    let mut joints = Vec::new(alloc);
+    for place in 0..topology.agents() {
+        join_earlier(alloc, topology, agent_at(place), &mut joints)?;
+    }
+    Ok(joints)
+}
+
+/// An agent's ends of its links with those that these go to, and the ends of others.
+#[derive(Drop)]
+struct Split {
+    others: Vec<AgentNo>,
+    outgoing: Vec<Outgoing>,
+    incoming: Vec<Incoming>,
+    rest: Vec<Joint>,
+}
+
+fn take_out(alloc: Global, agent: AgentNo, joints: Vec<Joint>) -> Result<Split, AllocError>
+    requires { All IsShutJoint joints.items }
+    ensures { IfOk result (λ s. IsSplit agent s.others.items s.outgoing.items s.incoming.items
+        s.rest.items [] joints.items) }
+{
+    let mut others = Vec::new(alloc);
+    let mut outgoing = Vec::new(alloc);
+    let mut incoming = Vec::new(alloc);
+    let mut rest = Vec::new(alloc);
+    for joint in joints {
+        if joint.at == agent {
+            let Joint {
+                at: _,
+                other,
+                out,
+                inc,
+            } = joint;
+            others.push(other)?;
+            outgoing.push(out)?;
+            incoming.push(inc)?;
+        } else {
+            rest.push(joint)?;
+        }
+    }
+    Ok(Split {
+        others,
+        outgoing,
+        incoming,
+        rest,
+    })
+}
+
+fn has_agent(agents: &[AgentNo], a: AgentNo) -> bool
+    ensures { result ≡ list_any (λ c. c == a) agents.now }
+{
+    agents.iter().any(|agent| *agent == a)
+}
+
+fn are_same(own: &[AgentNo], others: &[AgentNo]) -> bool
+    ensures { result ≡ true → own.now ≡ others.now }
+{
+    match (own.split_first(), others.split_first()) {
+        (Some((a, own)), Some((b, others))) => *a == *b && are_same(own, others),
+        (None, None) => true,
+        _ => false,
+    }
+}
+
+/// An agent's ends of its links, and the ends of others.
+#[derive(Drop)]
+pub struct Own {
+    pub outgoing: List<Outgoing>,
+    pub incoming: List<Incoming>,
+    pub rest: Vec<Joint>,
+}
+
+/// Takes an agent's ends from among all. They go to those that it has links to, in order.
+pub fn own_ends(
+    alloc: Global,
+    topology: &Topology,
+    agent: AgentNo,
+    joints: Vec<Joint>,
+) -> Result<Own, AllocError>
+    requires within { agent < length topology.now.agents }
+    requires shut { All IsShutJoint joints.items }
+    ensures { IfOk result (λ own. AreOwn topology.now agent own.outgoing own.incoming
+        own.rest.items joints.items) }
+{
+    let others = others(alloc, topology, agent)?;
+    let split = take_out(alloc, agent, joints)?;
+    if has_agent(&others, agent) || !are_same(&split.others, &others) {
+        return Err(AllocError);
+    }
+    let Split {
+        others: _,
+        outgoing,
+        incoming,
+        rest,
+    } = split;
+    Ok(Own {
+        outgoing: List::from_items(outgoing),
+        incoming: List::from_items(incoming),
+        rest,
+    })
+}

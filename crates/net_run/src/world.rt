@@ -1,0 +1,84 @@
+//! A whole run over the disks of a shelf.
+
+ghost use Rattle.std.specs.Prelude.{◌≡◌, ◌≤◌, ◌<◌, ℕ, length, IfOk, OnOk, OnErr, IsErrOf};
+ghost use Rattle.nsi_script.specs.Fits.{Fits};
+ghost use Rattle.net_run.specs.Worlds.{WritesPlay, WritesTooLong, WritesGroups, WritesSomeOfPlay};
+ghost use Rattle.net_run.specs.Journals.{HoldsJournals};
+ghost use Rattle.net_run.specs.Shelves.{HasBroken, IsQuiet};
+
+use crate::closing::close_net;
+use crate::opening::open_net;
+use agent_threads::{RunFault, play_all};
+use least_routes::laws::routes_exist;
+use nsi_disk::Shelf;
+use nsi_outside::Sink;
+use nsi_play::laws::one_play;
+use nsi_script::Script;
+use quiet_rounds::laws::nets_are_bounded;
+use std::alloc::Global;
+use stp_topology::Topology;
+
+/// Plays the groups of a script with the agents of a topology, whose journals are kept on the disks of their names and begin
+/// empty. Each group's events are written in its end. It answers how many events there were. The disks are given back, however
+/// the run ends.
+pub fn run_world<K: Sink, H: Shelf>(
+    alloc: Global,
+    topology: &Topology,
+    script: &Script,
+    limit: u64,
+    shelf: &mut H,
+    out: &mut K,
+) -> Result<u64, RunFault>
+where
+    H::Disk: Drop,
+    requires limit { limit ≤ 2000000 }
+    requires fits { Fits topology.now script.now }
+
+    // What is written is the text of the play.
+    ensures done { IfOk result (λ n. WritesPlay topology.now limit script.now.groups
+        (K.content out.old) (K.content out.new) n) }
+
+    // It is too long only where the play passes the limit, and then the groups that fit were written.
+    ensures long { IsErrOf result RunFault.Long → WritesTooLong topology.now limit script.now.groups
+        (K.content out.old) (K.content out.new) }
+
+    // Another fault comes only from outside. Where a disk has failed, whole groups were written; else a front of them.
+    ensures broken { (a : ℕ) → IsErrOf result (RunFault.DiskFault a) →
+        (a < length topology.now.agents) × WritesGroups topology.now limit script.now.groups
+        (K.content out.old) (K.content out.new) }
+    ensures front { OnErr result (WritesSomeOfPlay topology.now limit script.now.groups
+        (K.content out.old) (K.content out.new)) }
+    ensures disk { (a : ℕ) → IsErrOf result (RunFault.DiskFault a) →
+        HasBroken (H.faults shelf.old) (H.faults shelf.new)
+        (H.stops shelf.old) (H.stops shelf.new) }
+    ensures write { IsErrOf result RunFault.WriteFault → K.faults out.old < K.faults out.new }
+
+    // No fault is swallowed.
+    ensures calm { OnOk result (IsQuiet (H.faults shelf.old) (H.faults shelf.new)
+        (H.stops shelf.old) (H.stops shelf.new)) }
+    ensures quiet { (IsErrOf result RunFault.WriteFault → ⊥) →
+        K.faults out.new ≡ K.faults out.old }
+
+    // The disk of each agent reads as its journal of the play.
+    ensures journals { OnOk result (HoldsJournals topology.now script.now.groups
+        (H.holds shelf.old) (H.holds shelf.new)) }
+{
+    topology.laws();
+    routes_exist();
+    one_play();
+    nets_are_bounded();
+    let mut nodes = match open_net(alloc, topology, shelf) {
+        Ok(nodes) => nodes,
+        Err(fault) => return Err(fault),
+    };
+    let played = play_all(
+        alloc,
+        topology,
+        &mut nodes,
+        script.groups.items(),
+        limit,
+        out,
+    );
+    close_net(nodes, topology, shelf);
+    played
+}

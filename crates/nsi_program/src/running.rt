@@ -1,0 +1,79 @@
+//! The command `run`, as the program tells how it ends.
+
+ghost use Rattle.std.specs.Prelude.{◌≡◌, ◌<◌, ◌≤◌, ◌⊎◌, true, false, IfSome};
+ghost use Rattle.run_command.specs.Ends.{IsCutShort as IsRunCutShort, is_told as is_told_end};
+ghost use Rattle.run_command.specs.Runs.{KeepsRun, Breaks as BreaksRun};
+ghost use Rattle.nsi_disk.specs.ShelfCounts.{Raised};
+ghost use Rattle.nsi_program.specs.Ends.{counted, HasDiskFault};
+ghost use Rattle.nsi_program.specs.Promise.{is_told, read_fault_line, Writes};
+ghost use Rattle.nsi_program.specs.RunsTo.{RunsTo, status_of_run};
+ghost use Rattle.nsi_program.specs.Writes.{WritesSome};
+
+use crate::status::Status;
+use crate::words::EventLimit;
+use nsi_disk::Shelf;
+use nsi_outside::{Sink, Source};
+use run_command::RunEnd;
+use std::alloc::Global;
+
+/// The status of the end of a run.
+fn status_of(end: RunEnd) -> Status
+    ensures status { result ≡ status_of_run end }
+    ensures told { is_told result ≡ is_told_end end }
+    ensures not_usage { result ≡ Status.Usage → ⊥ }
+    ensures done { result ≡ Status.Done → end ≡ RunEnd.Done }
+{
+    match end {
+        RunEnd::Done => Status::Done,
+        RunEnd::BadTopology => Status::BadTopology,
+        RunEnd::BadScript => Status::BadScript,
+        RunEnd::Long => Status::Long,
+        RunEnd::ReadFault => Status::ReadFault,
+        RunEnd::WriteFault => Status::WriteFault,
+        RunEnd::DiskFault => Status::DiskFault,
+        RunEnd::NoMemory => Status::NoMemory,
+    }
+}
+
+/// The command `run`.
+pub(crate) fn run<S: Source, K: Sink, H: Shelf>(
+    alloc: Global,
+    most: EventLimit,
+    input: &mut S,
+    out: &mut K,
+    shelf: &mut H,
+) -> Status
+where
+    H::Disk: Drop,
+    ensures ends { is_told result ≡ true → IfSome (S.left input.old)
+        (λ bytes. WritesSome (RunsTo most bytes result) (K.content out.old) (K.content out.new)) }
+    ensures not_usage { result ≡ Status.Usage → ⊥ }
+    ensures read_fault { result ≡ Status.ReadFault → S.faults input.old < S.faults input.new }
+    ensures alone { result ≡ Status.ReadFault →
+        Writes (K.content out.old) (K.content out.new) read_fault_line }
+    ensures write_fault { result ≡ Status.WriteFault → K.faults out.old < K.faults out.new }
+    ensures disk_fault { result ≡ Status.DiskFault →
+        HasDiskFault
+        (counted (S.faults input.old) (H.faults shelf.old) (H.stops shelf.old))
+        (counted (S.faults input.new) (H.faults shelf.new) (H.stops shelf.new)) }
+    ensures broken { result ≡ Status.DiskFault → IfSome (S.left input.old)
+        (λ bytes. WritesSome (BreaksRun most bytes) (K.content out.old) (K.content out.new)) }
+    ensures unfinished { (result ≡ Status.WriteFault) ⊎ (result ≡ Status.NoMemory) →
+        IsRunCutShort most (K.content out.old) (S.left input.old)
+        (counted (S.faults input.old) (H.faults shelf.old) (H.stops shelf.old))
+        (counted (S.faults input.new) (H.faults shelf.new) (H.stops shelf.new))
+        (K.content out.new) }
+    ensures quiet_in { is_told result ≡ true → S.faults input.new ≡ S.faults input.old }
+    ensures quiet_out { is_told result ≡ true → K.faults out.new ≡ K.faults out.old }
+    ensures quiet_disk { is_told result ≡ true → (result ≡ Status.Long → ⊥) →
+        Raised (H.faults shelf.old) 0 (H.faults shelf.new)
+        × Raised (H.stops shelf.old) 0 (H.stops shelf.new) }
+    ensures reading { result ≡ Status.ReadFault → K.faults out.new ≡ K.faults out.old }
+    ensures memory { result ≡ Status.NoMemory → K.faults out.new ≡ K.faults out.old }
+    ensures journals { result ≡ Status.Done → IfSome (S.left input.old)
+        (λ bytes. KeepsRun bytes (H.holds shelf.old) (H.holds shelf.new)) }
+{
+    let limit = most.get();
+    let end = run_command::run(alloc, limit, input, out, shelf);
+    status_of(end)
+}

@@ -1,0 +1,10 @@
+pub mod Greatest
+pub mod Ends
+pub mod Meeting
+pub mod Bounding
+pub mod Calm
+pub mod Parcels
+pub mod Falling
+pub mod Staying
+pub mod Ending
+pub mod Playing

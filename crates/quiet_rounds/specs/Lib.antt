@@ -1,0 +1,4 @@
+pub mod Bounded
+pub mod Left
+pub mod Enough
+pub mod Laws

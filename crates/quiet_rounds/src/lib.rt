@@ -1,0 +1,4 @@
+//! Rounds without events come to an end.
+#![tactic(auto)]
+
+pub mod laws;

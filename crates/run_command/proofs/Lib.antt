@@ -1,0 +1,4 @@
+pub mod Closing
+pub mod Wholes
+pub mod Running
+pub mod Inputs

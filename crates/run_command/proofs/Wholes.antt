@@ -1,0 +1,98 @@
+-- A play is a safe run that asks the whole script, and comes to rest; so is each front of it a safe run.
+use Rattle.std.proofs.Common.{ℕ, zero, suc, ◌≡◌, ◌≤◌, List, [], ◌∷◌, ◌++◌, length, take, refl, arith}
+use Rattle.std.specs.List.{All}
+use Rattle.std.proofs.lemmas.List.Elements.{All-nil, All-cons, All-head, All-tail, All-append}
+use Rattle.nsi_primitive.specs.declared.entry.Event.{Event}
+use Rattle.stp_topology.specs.declared.network.Network.{Network}
+use Rattle.stp_topology.specs.Laws.{IsWellFormed}
+use Rattle.stp_topology.specs.Sound.{IsSound}
+use Rattle.nsi_script.specs.declared.script.Act.{Act}
+use Rattle.nsi_script.specs.declared.script.Group.{Group}
+use Rattle.nsi_script.specs.declared.script.Script.{Script}
+use Rattle.nsi_script.specs.Fits.{Fits, IsActOf, IsRising}
+use Rattle.nsi_script.specs.Scripts.{acts_of, seconds_of}
+use Rattle.nsi_agent.specs.Homes.{Routes, AreRoutes, home_in}
+use Rattle.nsi_play.specs.Rounds.{Net}
+use Rattle.nsi_play.specs.Play.{IsPlay}
+use Rattle.nsi_world.specs.Worlds.{empty}
+use Rattle.nsi_world.specs.Runs.{AreAllowed, asks_of, numbered}
+use Rattle.nsi_world.specs.Laws.{PlayIsRun, PlayRests, AsksWhole}
+use Rattle.safe_runs.specs.Laws.{EveryRunIsSafe, EveryPlayIsSafe}
+use Rattle.settled_play.specs.Settled.{PlayLeavesNone}
+use Rattle.run_command.specs.Runs.{IsSafeRun, IsWholeRun}
+
+-- a play of no more events than that is such a run
+abbrev pub PlaysRun : ℕ → Network → List Group → Type 0
+PlaysRun limit t script =
+    (events : List Event) (last : Net) → IsPlay t script events last → length events ≤ limit → (routes : Routes) → AreRoutes t routes → IsWholeRun t routes script events
+
+-- the laws of plays
+pub record PlayLaws : Type 0 where
+  pub is_run : PlayIsRun
+  pub rests : PlayRests
+  pub asks : AsksWhole
+  pub safe : EveryPlayIsSafe
+  pub over : PlayLeavesNone
+
+pub plays_run : PlayLaws → (limit : ℕ) (t : Network) (s : Script) → limit ≤ 2000000 → IsSound t → IsWellFormed t → Fits t s → PlaysRun limit t s.groups
+plays_run laws limit t s few sound well fits = λ events last play within routes r.
+    record {
+      run = record {
+        run = laws.is_run t routes s.groups events last well fits.rising fits.acts (play routes r) (omega (arith, few, within));
+        safe = laws.safe t routes s.groups events last well fits.rising fits.acts (play routes r) (omega (arith, few, within));
+      };
+      asks = laws.asks t routes s.groups events last well fits.rising fits.acts (play routes r);
+      rests = laws.rests t routes s.groups events last well fits.rising fits.acts (play routes r);
+      over = laws.over t routes s.groups events last sound well r fits.rising fits.acts (play routes r);
+    }
+
+---- Some first groups
+
+rising_take : (n : ℕ) (gs : List Group) → IsRising (seconds_of gs) → IsRising (seconds_of (take n gs))
+rising_take zero gs r = tt
+rising_take (suc n) [] r = tt
+rising_take (suc zero) (g ∷ gs) r = tt
+rising_take (suc (suc n)) (g ∷ []) r = tt
+rising_take (suc (suc n)) (g ∷ (h ∷ gs)) r = (r.0, rising_take (suc n) (h ∷ gs) r.1)
+
+module _ (P : Act → Type 0) where
+  parts : (xs ys : List Act) → All P (xs ++ ys) → All P xs × All P ys
+  parts [] ys h = (All-nil P, h)
+  parts (x ∷ xs) ys h = let rest = parts xs ys (All-tail P x (xs ++ ys) h) in (All-cons P x xs (All-head P x (xs ++ ys) h) rest.0, rest.1)
+
+  acts_take : (n : ℕ) (gs : List Group) → All P (acts_of gs) → All P (acts_of (take n gs))
+  acts_take zero gs h = All-nil P
+  acts_take (suc n) [] h = All-nil P
+  acts_take (suc n) (g ∷ gs) h = let p = parts g.acts (acts_of gs) h in All-append P g.acts (acts_of (take n gs)) p.0 (acts_take n gs p.1)
+
+-- the play of some first groups is a safe run
+abbrev pub FrontsRun : ℕ → Network → List Group → Type 0
+FrontsRun limit t script =
+    (groups : ℕ) (events : List Event) (last : Net) → IsPlay t (take groups script) events last → length events ≤ limit → (routes : Routes) → AreRoutes t routes → IsSafeRun t routes events
+
+pub fronts_run : PlayLaws → (limit : ℕ) (t : Network) (s : Script) → limit ≤ 2000000 → IsWellFormed t → Fits t s → FrontsRun limit t s.groups
+fronts_run laws limit t s few well fits = λ groups events last play within routes r.
+    let rising = rising_take groups s.groups fits.rising in
+    let acts = acts_take (IsActOf t) groups s.groups fits.acts in
+    record {
+      run = laws.is_run t routes (take groups s.groups) events last well rising acts (play routes r) (omega (arith, few, within));
+      safe = laws.safe t routes (take groups s.groups) events last well rising acts (play routes r) (omega (arith, few, within));
+    }
+
+---- No events
+
+-- where nothing has happened, a run is safe
+abbrev pub NothingRuns : Type 0
+NothingRuns = (t : Network) (routes : Routes) → IsSafeRun t routes []
+
+nothing_allowed : (t : Network) (routes : Routes) → AreAllowed (home_in t routes) empty []
+unfolding AreAllowed
+nothing_allowed t routes = tt
+
+nothing_asked : asks_of [] ≡ numbered 0 []
+unfolding asks_of numbered
+nothing_asked = refl
+
+pub nothing_runs : EveryRunIsSafe → NothingRuns
+nothing_runs safe = λ t routes.
+    record { run = record { allowed = nothing_allowed t routes; wishes = []; asked = nothing_asked }; safe = safe t routes [] (nothing_allowed t routes) }

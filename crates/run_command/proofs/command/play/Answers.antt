@@ -1,0 +1,43 @@
+use Rattle.std.proofs.Common.{ℕ, Result, Err, ◌≡◌, ap}
+use Rattle.agent_threads.specs.declared.fault.RunFault.{RunFault}
+use Rattle.run_command.proofs.Running.{settled_run, failing_run, fails_not_done}
+use Rattle.run_command.proofs.Wholes.{PlayLaws, plays_run, fronts_run}
+use Rattle.run_command.proofs.command.play.Goals as goal
+
+pub returns-in-Ok-clause-played : goal.returns-in-Ok-clause-played
+returns-in-Ok-clause-played g c =
+    let laws : PlayLaws =
+    record { is_run = c.play_runs.ensures.whole; rests = c.play_runs.ensures.rests; asks = c.asks_whole.ensures; safe = c.every_play_safe_at_each_agent.ensures; over = c.settled.ensures.each } in
+    settled_run c.args.topology.now c.args.limit c.args.script.now.groups _ (g.K.Sink.content c.run_world.new.out) _ _ _ _ _ _ (c.in-Ok.ensures.quiet (λ e. cc)) c.tell_events.result
+    (plays_run laws c.args.limit c.args.topology.now c.args.script.now c.requires.limit c.facts.ensures c.laws.ensures c.requires.fits)
+    c.in-Ok.events c.in-Ok.ensures.done c.tell_events.ensures c.in-Ok.ensures.calm
+
+pub returns-in-Ok-clause-journals : goal.returns-in-Ok-clause-journals
+returns-in-Ok-clause-journals g c = λ done. c.in-Ok.ensures.journals
+
+abbrev Failed : RunFault → Result ℕ RunFault
+Failed f = Err f
+
+same_fault : (f h : RunFault) → Failed f ≡ Failed h → f ≡ h
+same_fault f h e = cc
+
+pub returns-in-Err-clause-played : goal.returns-in-Err-clause-played
+returns-in-Err-clause-played g c =
+    let o = c.in-Err.ensures in
+    let laws : PlayLaws =
+    record { is_run = c.play_runs.ensures.whole; rests = c.play_runs.ensures.rests; asks = c.asks_whole.ensures; safe = c.every_play_safe_at_each_agent.ensures; over = c.settled.ensures.each } in
+    failing_run c.args.topology.now c.args.limit c.args.script.now.groups _ (g.K.Sink.content c.run_world.new.out) _ _ _ _ _ _ c.fail.result
+    (fronts_run laws c.args.limit c.args.topology.now c.args.script.now c.requires.limit c.laws.ensures c.requires.fits)
+    c.in-Err.fault
+    (record {
+      long = λ e. o.long (ap (λ f. Err f) e);
+      broken = λ agent e. (o.broken agent (ap (λ f. Err f) e)).1;
+      disk = λ agent e. o.disk agent (ap (λ f. Err f) e);
+      front = o.front;
+      write = λ e. o.write (ap (λ f. Err f) e);
+      quiet = λ n. o.quiet (λ e. n (same_fault c.in-Err.fault RunFault.WriteFault e));
+    })
+    c.fail.ensures
+
+pub returns-in-Err-clause-journals : goal.returns-in-Err-clause-journals
+returns-in-Err-clause-journals g c = λ done. absurd (fails_not_done c.args.topology.now c.in-Err.fault c.fail.result _ _ _ _ c.fail.ensures done)

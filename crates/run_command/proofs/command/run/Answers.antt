@@ -1,0 +1,26 @@
+use Rattle.std.proofs.Common.{inl, Ok, Err, ap}
+use Rattle.run_command.specs.declared.command.RunEnd.{RunEnd}
+use Rattle.run_command.proofs.Wholes.{nothing_runs}
+use Rattle.run_command.proofs.Running.{kinds}
+use Rattle.run_command.proofs.Inputs.{nothing_begun, long_begun}
+use Rattle.run_command.proofs.command.run.Goals as goal
+
+pub returns-in-Ok-None-clause-unfinished : goal.returns-in-Ok-None-clause-unfinished
+returns-in-Ok-None-clause-unfinished g c = λ _.
+    inl (
+      c.in-Ok-None.ensures.quiet,
+      long_begun c.args.limit (g.S.Source.left c.args.input.now) (g.K.Sink.content c.args.out.now) (g.K.Sink.content c.close.new.out) (c.in-Ok-None.ensures.long (ap (λ o. Ok o) c.in-Ok-None.field-0-is)) c.close.ensures.front,
+    )
+
+pub returns-in-Err-NoMemory-clause-unfinished : goal.returns-in-Err-NoMemory-clause-unfinished
+returns-in-Err-NoMemory-clause-unfinished g c = λ _.
+    inl (
+      c.in-Err-NoMemory.ensures.memory (ap (λ e. Err e) c.in-Err-NoMemory.field-0-is),
+      nothing_begun (nothing_runs c.every_run_safe_at_each_agent.ensures) c.args.limit (g.S.Source.left c.args.input.now) (g.K.Sink.content c.args.out.now),
+    )
+
+pub returns-in-Ok-None-clause-journals : goal.returns-in-Ok-None-clause-journals
+returns-in-Ok-None-clause-journals g c = λ done. absurd (kinds RunEnd.Long c.close.result c.close.ensures.kind (λ d. cc) done)
+
+pub returns-in-Err-Failed-clause-journals : goal.returns-in-Err-Failed-clause-journals
+returns-in-Err-Failed-clause-journals g c = λ done. absurd (kinds RunEnd.ReadFault c.close-in-Err-Failed.result c.close-in-Err-Failed.ensures.kind (λ d. cc) done)

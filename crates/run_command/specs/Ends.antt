@@ -1,0 +1,113 @@
+-- How a run ends, and what stands then.
+use Rattle.std.specs.Prelude.{◌≡◌, ◌<◌, ◌⊎◌, ℕ, Bool, true, false, List, ◌++◌, take, length, Option, Some, IfSome}
+use Rattle.nsi_disk.specs.ShelfCounts.{Raised}
+use Rattle.nsi_outside.specs.Stream.{WritesAll, WritesFront}
+use Rattle.stp_topology.specs.declared.network.Network.{Network}
+use Rattle.stp_topology.specs.Network.{name_of}
+use Rattle.nsi_script.specs.declared.script.Group.{Group}
+use Rattle.fault_lines.specs.Lines.{disk_fault_line, long_line, read_fault_line}
+use Rattle.agent_threads.specs.declared.fault.RunFault.{RunFault}
+use Rattle.run_command.specs.declared.command.RunEnd.{RunEnd}
+use Rattle.run_command.specs.Runs.{Plays, BeginsPlay, BreaksPlay, Runs, Begins, Breaks}
+
+-- an end that is neither want of memory nor a fault of reading, writing or a disk
+abbrev pub is_told : RunEnd → Bool
+is_told RunEnd.NoMemory = false
+is_told RunEnd.ReadFault = false
+is_told RunEnd.WriteFault = false
+is_told RunEnd.DiskFault = false
+is_told _ = true
+
+-- where the sink tells, a text of which it holds was appended
+abbrev pub WritesSome : (List ℕ → Type 0) → Option (List ℕ) → Option (List ℕ) → Type 0
+WritesSome P old new = IfSome old (λ c. (text : List ℕ) × P text × (new ≡ Some (c ++ text)))
+
+-- where the sink tells, a front of a text of which it holds was appended
+abbrev pub WritesSomeFront : (List ℕ → Type 0) → Option (List ℕ) → Option (List ℕ) → Type 0
+WritesSomeFront P old new = IfSome old (λ c. (text : List ℕ) × (k : ℕ) × P text × (new ≡ Some (c ++ take k text)))
+
+---- Counts
+
+-- the counts of a source, and of the disks of a shelf
+pub record Counts : Type 0 where
+  pub reads : ℕ
+  pub faults : ℕ
+  pub stops : ℕ
+
+abbrev pub counted : (reads faults stops : ℕ) → Counts
+counted reads faults stops = record { reads = reads; faults = faults; stops = stops }
+
+-- a count was raised; one that reaches its type's end stands still there
+abbrev pub HasRisen : ℕ → ℕ → Type 0
+HasRisen old new = (by : ℕ) × (0 < by) × Raised old by new
+
+-- a disk, or its shelf, has counted a fault or a stop
+abbrev pub HasDiskFault : Counts → Counts → Type 0
+HasDiskFault before after = HasRisen before.faults after.faults ⊎ HasRisen before.stops after.stops
+
+---- Runs that were cut short
+
+-- Writing was cut short: in the run, or behind a fault of reading or of a disk, whose counts then rose.
+abbrev pub IsCutShort : ℕ → (content left : Option (List ℕ)) → (before after : Counts) → Option (List ℕ) → Type 0
+IsCutShort limit content left before after new =
+    ((after.reads ≡ before.reads) × IfSome left (λ bytes. WritesSomeFront (Begins limit bytes) content new)) ⊎ ((before.reads < after.reads) × WritesFront content new read_fault_line)
+    ⊎ (HasDiskFault before after × IfSome left (λ bytes. WritesSomeFront (Breaks limit bytes) content new))
+
+---- Steps of a run
+
+-- an end that a line tells
+pub record IsTold (end : RunEnd) : Type 0 where
+  pub write : end ≡ RunEnd.WriteFault → ⊥
+  pub memory : end ≡ RunEnd.NoMemory → ⊥
+
+-- a text is written at last; or a front of it, where writing fails or memory is wanting
+pub record Closes (text : List ℕ) (own end : RunEnd) (old new : Option (List ℕ)) (faults_before faults_after : ℕ) : Type 0 where
+  pub kind : (end ≡ own) ⊎ ((end ≡ RunEnd.WriteFault) ⊎ (end ≡ RunEnd.NoMemory))
+  pub told : end ≡ own → WritesAll old new text
+  pub front : WritesFront old new text
+  pub write : end ≡ RunEnd.WriteFault → faults_before < faults_after
+  pub quiet : (end ≡ RunEnd.WriteFault → ⊥) → faults_after ≡ faults_before
+
+-- a disk that has failed is that of an agent of the topology
+abbrev pub IsOfAgent : Network → RunFault → Type 0
+IsOfAgent t (RunFault.DiskFault agent) = agent < length t.agents
+IsOfAgent t fault = Unit {0}
+
+-- nothing more is written
+pub record EndsSilently (own end : RunEnd) (old new : Option (List ℕ)) (faults_before faults_after : ℕ) : Type 0 where
+  pub is : end ≡ own
+  pub same : new ≡ old
+  pub still : faults_after ≡ faults_before
+
+-- why a play has failed is told, but where writing has failed or memory is wanting
+abbrev pub FailsAs : Network → RunFault → RunEnd → (old new : Option (List ℕ)) → (faults_before faults_after : ℕ) → Type 0
+FailsAs t RunFault.Long end old new before after = Closes long_line RunEnd.Long end old new before after
+FailsAs t RunFault.WriteFault end old new before after = EndsSilently RunEnd.WriteFault end old new before after
+FailsAs t (RunFault.DiskFault agent) end old new before after = Closes (disk_fault_line (name_of t agent)) RunEnd.DiskFault end old new before after
+FailsAs t RunFault.NoMemory end old new before after = EndsSilently RunEnd.NoMemory end old new before after
+
+-- the counts of the shelf's disks haven't risen
+abbrev pub IsQuiet : Counts → Counts → Type 0
+IsQuiet before after = Raised before.faults 0 after.faults × Raised before.stops 0 after.stops
+
+-- What a run has come to that writes one of these texts, or these where a disk has failed: how it has ended, what the sink has taken, and which counts have
+-- risen.
+pub record HasRun (Texts : RunEnd → List ℕ → Type 0) (Fronts Broken : List ℕ → Type 0) (old new : Option (List ℕ)) (before after : Counts) (faults_before faults_after : ℕ) (end : RunEnd) : Type 0 where
+  pub ends : is_told end ≡ true → WritesSome (Texts end) old new
+  pub broken : end ≡ RunEnd.DiskFault → WritesSome Broken old new
+  pub disk : end ≡ RunEnd.DiskFault → HasDiskFault before after
+  pub unfinished :
+      (end ≡ RunEnd.WriteFault) ⊎ (end ≡ RunEnd.NoMemory)
+      → WritesSomeFront Fronts old new ⊎ (HasDiskFault before after × WritesSomeFront Broken old new)
+  pub write : end ≡ RunEnd.WriteFault → faults_before < faults_after
+  pub quiet : (end ≡ RunEnd.WriteFault → ⊥) → faults_after ≡ faults_before
+  pub quiet_disk : is_told end ≡ true → (end ≡ RunEnd.Long → ⊥) → IsQuiet before after
+  pub read : end ≡ RunEnd.ReadFault → ⊥
+
+-- a script is played
+abbrev pub HasPlayed : ℕ → Network → List Group → (old new : Option (List ℕ)) → (before after : Counts) → (faults_before faults_after : ℕ) → RunEnd → Type 0
+HasPlayed limit t script = HasRun (Plays limit t script) (BeginsPlay limit t script) (BreaksPlay limit t script)
+
+-- an input is read
+abbrev pub HasRead : ℕ → List ℕ → (old new : Option (List ℕ)) → (before after : Counts) → (faults_before faults_after : ℕ) → RunEnd → Type 0
+HasRead limit bytes = HasRun (Runs limit bytes) (Begins limit bytes) (Breaks limit bytes)

@@ -1,0 +1,143 @@
+-- What the command `run` writes.
+use Rattle.std.specs.Prelude.{◌≡◌, ◌≤◌, ◌<◌, ◌⊎◌, ℕ, ◌+◌, Bool, true, false, List, [], ◌++◌, length, take, nat_le, codes, decimal, Option, Result, Ok, Err}
+use Rattle.std.specs.List.{All}
+use Rattle.nsi_base.specs.Lines.{lines_of}
+use Rattle.nsi_base.specs.Range.{greatest_input}
+use Rattle.nsi_primitive.specs.declared.entry.Event.{Event}
+use Rattle.stp_topology.specs.declared.fault.TopologyFault.{TopologyFault}
+use Rattle.stp_topology.specs.declared.network.Network.{Network}
+use Rattle.stp_topology.specs.Network.{nothing, name_of}
+use Rattle.stp_topology.specs.Text.{read_lines, behind_lines}
+use Rattle.nsi_script.specs.declared.fault.ScriptFault.{ScriptFault}
+use Rattle.nsi_script.specs.declared.script.Group.{Group}
+use Rattle.nsi_script.specs.declared.script.Script.{Script}
+use Rattle.nsi_script.specs.Text.{script_of}
+use Rattle.nsi_agent.specs.Homes.{Routes, AreRoutes, home_in}
+use Rattle.nsi_play.specs.Play.{IsPlay, Passes}
+use Rattle.nsi_play.specs.Rounds.{Net}
+use Rattle.nsi_world.specs.Worlds.{empty, said}
+use Rattle.nsi_world.specs.Runs.{IsRun, world_after, asks_of, numbered}
+use Rattle.nsi_world.specs.Scripts.{wishes_of}
+use Rattle.nsi_world.specs.Laws.{IsAtRest}
+use Rattle.safe_runs.specs.Safe.{IsSafeAtEachAgent}
+use Rattle.settled_play.specs.Settled.{IsDone}
+use Rattle.trace_text.specs.Lines.{text_of}
+use Rattle.net_run.specs.Journals.{HoldsJournals}
+use Rattle.fault_lines.specs.Lines.{as_line, topology_fault, script_fault, disk_fault_line, long_line}
+use Rattle.run_command.specs.declared.command.RunEnd.{RunEnd}
+
+-- how many events the run has
+abbrev pub settled_line : ℕ → List ℕ
+settled_line n = as_line (codes "settled " ++ decimal n)
+
+---- Plays
+
+-- events that are a run, which is safe at each agent
+pub record IsSafeRun (t : Network) (routes : Routes) (events : List Event) : Type 0 where
+  pub run : IsRun (home_in t routes) events
+  pub safe : IsSafeAtEachAgent t routes events
+
+-- the play of some first groups of a script, which has no more events than that, and is such a run whichever legs are those of the least paths
+pub record IsTextOf (limit : ℕ) (t : Network) (script : List Group) (groups : ℕ) (events : List Event) : Type 0 where
+  pub last : Net
+  pub play : IsPlay t (take groups script) events last
+  pub run : (routes : Routes) → AreRoutes t routes → IsSafeRun t routes events
+  pub within : length events ≤ limit
+
+-- These events are a run that is safe at each agent and asks the whole script, in order. In the world that they make each journal is synced whole, no work
+-- waits, and each message that was said was got and acknowledged.
+pub record IsWholeRun (t : Network) (routes : Routes) (script : List Group) (events : List Event) : Type 0 where
+  pub run : IsSafeRun t routes events
+  pub asks : asks_of events ≡ numbered 0 (wishes_of script)
+  pub rests : (a : ℕ) → a < length t.agents → IsAtRest (home_in t routes) (world_after empty events) a
+  pub over : (a : ℕ) → a < length t.agents → All (IsDone t (home_in t routes) (world_after empty events) a) (said (home_in t routes) (world_after empty events) a)
+
+-- the whole play, which is such a run whichever legs are those of the least paths, and behind it how many events it has
+pub record IsSettled (limit : ℕ) (t : Network) (script : List Group) (text : List ℕ) : Type 0 where
+  pub events : List Event
+  pub last : Net
+  pub play : IsPlay t script events last
+  pub run : (routes : Routes) → AreRoutes t routes → IsWholeRun t routes script events
+  pub within : length events ≤ limit
+  pub spelled : text ≡ text_of t events ++ settled_line (length events)
+
+-- as many groups as make no more events than that, and behind them that there are more
+pub record IsTooLong (limit : ℕ) (t : Network) (script : List Group) (text : List ℕ) : Type 0 where
+  pub groups : ℕ
+  pub events : List Event
+  pub first : IsTextOf limit t script groups events
+  pub passes : Passes limit t (take (groups + 1) script)
+  pub spelled : text ≡ text_of t events ++ long_line
+
+-- some first groups of the play, and that text behind them
+pub record StartsPlay (limit : ℕ) (t : Network) (script : List Group) (behind : Network → List ℕ) (text : List ℕ) : Type 0 where
+  pub groups : ℕ
+  pub events : List Event
+  pub first : IsTextOf limit t script groups events
+  pub spelled : text ≡ text_of t events ++ behind t
+
+-- some first groups of the play, and behind them whose disk has failed
+abbrev pub BreaksPlay : ℕ → Network → List Group → List ℕ → Type 0
+BreaksPlay limit t script text = (agent : ℕ) × StartsPlay limit t script (λ u. disk_fault_line (name_of u agent)) text
+
+abbrev pub no_text : Network → List ℕ
+no_text t = []
+
+abbrev pub Plays : ℕ → Network → List Group → RunEnd → List ℕ → Type 0
+Plays limit t script RunEnd.Done text = IsSettled limit t script text
+Plays limit t script RunEnd.Long text = IsTooLong limit t script text
+Plays limit t script end text = ⊥
+
+-- all that a play writes, or some first groups of it
+abbrev pub BeginsPlay : ℕ → Network → List Group → List ℕ → Type 0
+BeginsPlay limit t script text = ((end : RunEnd) × Plays limit t script end text) ⊎ StartsPlay limit t script no_text text
+
+---- Inputs
+
+abbrev pub RunsScript : ℕ → Network → Result Script (ℕ × ScriptFault) → RunEnd → List ℕ → Type 0
+RunsScript limit t (Ok script) end text = Plays limit t script.groups end text
+RunsScript limit t (Err e) end text = (end ≡ RunEnd.BadScript) × (text ≡ script_fault e.0 e.1)
+
+-- the script stands behind the topology's lines
+abbrev pub script_behind : List ℕ → Network × ℕ → Result Script (ℕ × ScriptFault)
+script_behind bytes read = script_of read.0 (read.1 + 1) (behind_lines read.1 bytes)
+
+abbrev pub RunsRead : ℕ → List ℕ → Result (Network × ℕ) (ℕ × TopologyFault) → RunEnd → List ℕ → Type 0
+RunsRead limit bytes (Ok read) end text = RunsScript limit read.0 (script_behind bytes read) end text
+RunsRead limit bytes (Err e) end text = (end ≡ RunEnd.BadTopology) × (text ≡ topology_fault e.0 e.1)
+
+abbrev pub RunsIf : (fits : Bool) → ℕ → List ℕ → RunEnd → List ℕ → Type 0
+RunsIf true limit bytes end text = RunsRead limit bytes (read_lines nothing 0 (lines_of bytes)) end text
+RunsIf false limit bytes end text = (end ≡ RunEnd.Long) × (text ≡ long_line)
+
+-- how `run` ends on these bytes, where there may be so many events, and all that it writes
+abbrev pub Runs : ℕ → List ℕ → RunEnd → List ℕ → Type 0
+Runs limit bytes end text = RunsIf (nat_le (length bytes) greatest_input) limit bytes end text
+
+---- Runs that were cut short
+
+-- the bytes are a topology and a script
+pub record AreRead (bytes : List ℕ) (t : Network) (script : List Group) : Type 0 where
+  pub lines : ℕ
+  pub whole : Script
+  pub topology : read_lines nothing 0 (lines_of bytes) ≡ Ok (t, lines)
+  pub behind : script_behind bytes (t, lines) ≡ Ok whole
+  pub groups : whole.groups ≡ script
+
+-- where the bytes are a topology and a script, something of these
+abbrev pub OfRead : List ℕ → (Network → List Group → Type 0) → Type 0
+OfRead bytes P = (t : Network) × (script : List Group) × AreRead bytes t script × P t script
+
+-- some first groups of the play, and behind them whose disk has failed
+abbrev pub Breaks : ℕ → List ℕ → List ℕ → Type 0
+Breaks limit bytes text = OfRead bytes (λ t script. BreaksPlay limit t script text)
+
+-- all that a run writes, or some first groups of its play
+abbrev pub Begins : ℕ → List ℕ → List ℕ → Type 0
+Begins limit bytes text = ((end : RunEnd) × Runs limit bytes end text) ⊎ OfRead bytes (λ t script. StartsPlay limit t script no_text text)
+
+---- Journals
+
+-- the bytes are a topology and a script, and what is held under the name of each agent reads as its journal of the play
+abbrev pub KeepsRun : List ℕ → (old new : List ℕ → Option (List ℕ)) → Type 0
+KeepsRun bytes old new = OfRead bytes (λ t script. HoldsJournals t script old new)

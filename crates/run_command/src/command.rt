@@ -1,0 +1,265 @@
+//! A topology and a script come in, and every step of every agent goes out.
+
+ghost use Rattle.std.specs.Prelude.{◌≡◌, ◌≤◌, ◌<◌, ◌+◌, ◌⊎◌, ℕ, true, length, IfSome};
+ghost use Rattle.nsi_base.specs.Range.{greatest_input};
+ghost use Rattle.nsi_outside.specs.Stream.{WritesAll};
+ghost use Rattle.stp_topology.specs.Network.{name_of};
+ghost use Rattle.nsi_script.specs.Fits.{Fits};
+ghost use Rattle.fault_lines.specs.Lines.{topology_fault, script_fault, disk_fault_line, read_fault_line};
+ghost use Rattle.run_command.specs.Ends.{is_told, WritesSome, IsCutShort, IsQuiet, HasDiskFault, IsTold, Closes, IsOfAgent, FailsAs, HasPlayed, HasRead, counted};
+ghost use Rattle.run_command.specs.Reading.{IsDeclared};
+ghost use Rattle.net_run.specs.Journals.{HoldsJournals};
+ghost use Rattle.run_command.specs.Runs.{Runs, Breaks, KeepsRun, settled_line};
+
+use crate::reading::{Declared, read_declared};
+use crate::texts::settled_line;
+use agent_threads::RunFault;
+use fault_lines::{disk_fault_text, script_fault, topology_fault};
+use line_reader::{ReadError, read_whole};
+use net_run::run_world;
+use nsi_base::{AgentNo, GREATEST_INPUT};
+use nsi_disk::Shelf;
+use nsi_outside::{Sink, SinkError, Source, write_all};
+use nsi_script::{Script, ScriptFault, ScriptRefusal, read_script};
+use nsi_world::laws::{asks_whole, play_runs};
+use safe_runs::laws::{every_play_safe_at_each_agent, every_run_safe_at_each_agent};
+use settled_play::laws::settled;
+use std::alloc::Global;
+use stp_topology::{Topology, TopologyFault, TopologyRefusal};
+
+/// How a run ends.
+#[derive(Clone, Copy, Debug, PartialEq, Eq)]
+pub enum RunEnd {
+    /// All agents are settled behind the last group.
+    Done,
+    BadTopology,
+    BadScript,
+    /// The input is too long, or there are too many events.
+    Long,
+    ReadFault,
+    WriteFault,
+    /// An agent's disk failed or stopped.
+    DiskFault,
+    NoMemory,
+}
+
+/// Writes a text with which a run ends.
+fn close<K: Sink>(out: &mut K, text: &[u8], end: RunEnd) -> RunEnd
+    requires { IsTold end }
+    ensures { Closes text.now end result (K.content out.old) (K.content out.new) (K.faults out.old)
+        (K.faults out.new) }
+{
+    match write_all(out, text) {
+        Ok(()) => end,
+        Err(SinkError::Failed) => RunEnd::WriteFault,
+        Err(SinkError::NoMemory) => RunEnd::NoMemory,
+    }
+}
+
+/// Writes the first faulty line of the topology.
+fn bad_topology<K: Sink>(alloc: Global, out: &mut K, line: u32, fault: TopologyFault) -> RunEnd
+    ensures { Closes (topology_fault line fault) RunEnd.BadTopology result
+        (K.content out.old) (K.content out.new) (K.faults out.old) (K.faults out.new) }
+{
+    match topology_fault(alloc, u64::from(line), fault) {
+        Ok(text) => close(out, &text, RunEnd::BadTopology),
+        Err(_) => RunEnd::NoMemory,
+    }
+}
+
+/// Writes the first faulty line of the script.
+fn bad_script<K: Sink>(alloc: Global, out: &mut K, line: u32, fault: ScriptFault) -> RunEnd
+    ensures { Closes (script_fault line fault) RunEnd.BadScript result
+        (K.content out.old) (K.content out.new) (K.faults out.old) (K.faults out.new) }
+{
+    match script_fault(alloc, u64::from(line), fault) {
+        Ok(text) => close(out, &text, RunEnd::BadScript),
+        Err(_) => RunEnd::NoMemory,
+    }
+}
+
+/// Writes how many events the run has.
+fn tell_events<K: Sink>(alloc: Global, out: &mut K, events: u64) -> RunEnd
+    ensures { Closes (settled_line events) RunEnd.Done result
+        (K.content out.old) (K.content out.new) (K.faults out.old) (K.faults out.new) }
+{
+    match settled_line(alloc, events) {
+        Ok(text) => close(out, &text, RunEnd::Done),
+        Err(_) => RunEnd::NoMemory,
+    }
+}
+
+/// Writes whose disk has failed.
+fn broken<K: Sink>(alloc: Global, out: &mut K, topology: &Topology, agent: AgentNo) -> RunEnd
+    requires { agent < length topology.now.agents }
+    ensures { Closes (disk_fault_line (name_of topology.now agent)) RunEnd.DiskFault result
+        (K.content out.old) (K.content out.new) (K.faults out.old) (K.faults out.new) }
+{
+    match disk_fault_text(alloc, topology.name(agent)) {
+        Ok(text) => close(out, &text, RunEnd::DiskFault),
+        Err(_) => RunEnd::NoMemory,
+    }
+}
+
+/// Tells why a play has failed.
+fn fail<K: Sink>(alloc: Global, out: &mut K, topology: &Topology, fault: &RunFault) -> RunEnd
+    requires { IsOfAgent topology.now fault.now }
+    ensures { FailsAs topology.now fault.now result (K.content out.old) (K.content out.new)
+        (K.faults out.old) (K.faults out.new) }
+{
+    match *fault {
+        RunFault::Long => close(out, b"fault long\n", RunEnd::Long),
+        RunFault::WriteFault => RunEnd::WriteFault,
+        RunFault::DiskFault(agent) => broken(alloc, out, topology, agent),
+        RunFault::NoMemory => RunEnd::NoMemory,
+    }
+}
+
+/// Plays a script.
+fn play<K: Sink, H: Shelf>(
+    alloc: Global,
+    limit: u64,
+    topology: &Topology,
+    script: &Script,
+    out: &mut K,
+    shelf: &mut H,
+) -> RunEnd
+where
+    H::Disk: Drop,
+    requires limit { limit ≤ 2000000 }
+    requires fits { Fits topology.now script.now }
+    ensures played { HasPlayed limit topology.now script.now.groups
+        (K.content out.old) (K.content out.new)
+        (counted 0 (H.faults shelf.old) (H.stops shelf.old))
+        (counted 0 (H.faults shelf.new) (H.stops shelf.new))
+        (K.faults out.old) (K.faults out.new) result }
+    ensures journals { result ≡ RunEnd.Done → HoldsJournals topology.now script.now.groups
+        (H.holds shelf.old) (H.holds shelf.new) }
+{
+    topology.facts();
+    topology.laws();
+    play_runs();
+    asks_whole();
+    every_play_safe_at_each_agent();
+    settled();
+    match run_world(alloc, topology, script, limit, shelf, out) {
+        Ok(events) => tell_events(alloc, out, events),
+        Err(fault) => fail(alloc, out, topology, &fault),
+    }
+}
+
+/// Reads the script that stands behind a topology, and plays it.
+fn run_script<K: Sink, H: Shelf>(
+    alloc: Global,
+    limit: u64,
+    bytes: &[u8],
+    declared: &Declared<'_>,
+    out: &mut K,
+    shelf: &mut H,
+) -> RunEnd
+where
+    H::Disk: Drop,
+    requires limit { limit ≤ 2000000 }
+    requires size { length bytes.now ≤ greatest_input }
+    requires declared { IsDeclared bytes.now declared.now }
+    requires behind { declared.now.lines + length declared.now.behind.now ≤ length bytes.now }
+    ensures read { HasRead limit bytes.now (K.content out.old) (K.content out.new)
+        (counted 0 (H.faults shelf.old) (H.stops shelf.old))
+        (counted 0 (H.faults shelf.new) (H.stops shelf.new))
+        (K.faults out.old) (K.faults out.new) result }
+    ensures journals { result ≡ RunEnd.Done →
+        KeepsRun bytes.now (H.holds shelf.old) (H.holds shelf.new) }
+{
+    every_run_safe_at_each_agent();
+    match read_script(
+        alloc,
+        declared.behind,
+        declared.lines + 1,
+        &declared.topology,
+    ) {
+        Ok(script) => play(alloc, limit, &declared.topology, &script, out, shelf),
+        Err(ScriptRefusal::Fault { line, fault }) => bad_script(alloc, out, line, fault),
+        Err(ScriptRefusal::NoMemory) => RunEnd::NoMemory,
+    }
+}
+
+/// Reads a topology and a script, and plays it.
+fn run_bytes<K: Sink, H: Shelf>(
+    alloc: Global,
+    limit: u64,
+    bytes: &[u8],
+    out: &mut K,
+    shelf: &mut H,
+) -> RunEnd
+where
+    H::Disk: Drop,
+    requires limit { limit ≤ 2000000 }
+    requires size { length bytes.now ≤ greatest_input }
+    ensures read { HasRead limit bytes.now (K.content out.old) (K.content out.new)
+        (counted 0 (H.faults shelf.old) (H.stops shelf.old))
+        (counted 0 (H.faults shelf.new) (H.stops shelf.new))
+        (K.faults out.old) (K.faults out.new) result }
+    ensures journals { result ≡ RunEnd.Done →
+        KeepsRun bytes.now (H.holds shelf.old) (H.holds shelf.new) }
+{
+    every_run_safe_at_each_agent();
+    match read_declared(alloc, bytes) {
+        Ok(declared) => run_script(alloc, limit, bytes, &declared, out, shelf),
+        Err(TopologyRefusal::Fault { line, fault }) => bad_topology(alloc, out, line, fault),
+        Err(TopologyRefusal::NoMemory) => RunEnd::NoMemory,
+    }
+}
+
+/// Plays the script that stands in the input behind a topology, with at most so many events. The whole input is read first, and each group's
+/// events are written in its end. Journals begin empty.
+pub fn run<S: Source, K: Sink, H: Shelf>(
+    alloc: Global,
+    limit: u64,
+    input: &mut S,
+    out: &mut K,
+    shelf: &mut H,
+) -> RunEnd
+where
+    H::Disk: Drop,
+    requires { limit ≤ 2000000 }
+    // The bytes say how it ends and all that is written.
+    ensures ends { is_told result ≡ true → IfSome (S.left input.old)
+        (λ bytes. WritesSome (Runs limit bytes result) (K.content out.old) (K.content out.new)) }
+
+    // A fault comes only from outside, and leaves whole groups or a front of them.
+    ensures read_fault { result ≡ RunEnd.ReadFault → S.faults input.old < S.faults input.new }
+    ensures alone { result ≡ RunEnd.ReadFault →
+        WritesAll (K.content out.old) (K.content out.new) read_fault_line }
+    ensures write_fault { result ≡ RunEnd.WriteFault → K.faults out.old < K.faults out.new }
+    ensures disk_fault { result ≡ RunEnd.DiskFault →
+        HasDiskFault
+        (counted (S.faults input.old) (H.faults shelf.old) (H.stops shelf.old))
+        (counted (S.faults input.new) (H.faults shelf.new) (H.stops shelf.new)) }
+    ensures broken { result ≡ RunEnd.DiskFault → IfSome (S.left input.old)
+        (λ bytes. WritesSome (Breaks limit bytes) (K.content out.old) (K.content out.new)) }
+    ensures unfinished { (result ≡ RunEnd.WriteFault) ⊎ (result ≡ RunEnd.NoMemory) →
+        IsCutShort limit (K.content out.old) (S.left input.old)
+        (counted (S.faults input.old) (H.faults shelf.old) (H.stops shelf.old))
+        (counted (S.faults input.new) (H.faults shelf.new) (H.stops shelf.new))
+        (K.content out.new) }
+
+    // No fault is swallowed, and none is told as want of memory; but in the round that has too many events another disk may have failed.
+    ensures quiet_in { is_told result ≡ true → S.faults input.new ≡ S.faults input.old }
+    ensures quiet_out { (result ≡ RunEnd.WriteFault → ⊥) → K.faults out.new ≡ K.faults out.old }
+    ensures quiet_disk { is_told result ≡ true → (result ≡ RunEnd.Long → ⊥) →
+        IsQuiet
+        (counted (S.faults input.old) (H.faults shelf.old) (H.stops shelf.old))
+        (counted (S.faults input.new) (H.faults shelf.new) (H.stops shelf.new)) }
+
+    // With Done each agent's disk reads as its journal of the play, where the shelf told what it held.
+    ensures journals { result ≡ RunEnd.Done → IfSome (S.left input.old)
+        (λ bytes. KeepsRun bytes (H.holds shelf.old) (H.holds shelf.new)) }
+{
+    every_run_safe_at_each_agent();
+    match read_whole(alloc, input, GREATEST_INPUT) {
+        Ok(Some(bytes)) => run_bytes(alloc, limit, &bytes, out, shelf),
+        Ok(None) => close(out, b"fault long\n", RunEnd::Long),
+        Err(ReadError::Failed) => close(out, b"fault read\n", RunEnd::ReadFault),
+        Err(ReadError::NoMemory) => RunEnd::NoMemory,
+    }
+}

@@ -1,0 +1,8 @@
+//! The command `run`: all agents of a topology play a script, and each of their steps is written.
+#![tactic(auto)]
+
+mod command;
+mod reading;
+mod texts;
+
+pub use command::{RunEnd, run};

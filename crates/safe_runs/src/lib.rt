@@ -1,0 +1,4 @@
+//! Every run is safe at each agent: capacities hold, refusals for bandwidth are honest, committed versions rise, and what is synced stays.
+#![tactic(auto)]
+
+pub mod laws;

@@ -1,0 +1,11 @@
+mod Finding
+mod Waiting
+mod Links
+mod Steps
+mod Moves
+mod Pairs
+mod Meetings
+mod Journals
+mod Rounds
+mod Plays
+mod Leaving

@@ -1,0 +1,185 @@
+-- All agents at the end of a play.
+use Rattle.std.proofs.Common.{ℕ, zero, suc, ◌+◌, ◌≡◌, ◌&&◌, Bool, true, false, List, [], ◌∷◌, ◌++◌, is_none, inl, inr, refl, sym, ap, ◌∙◌, subst, map, append_assoc, append-nil}
+use Rattle.std.specs.List.{Contains}
+use Rattle.std.proofs.lemmas.Bool.{cases_Bool}
+use Rattle.std.proofs.lemmas.List.Elements.{All-nil}
+use Rattle.nsi_primitive.specs.declared.entry.Event.{Event}
+use Rattle.stp_topology.specs.declared.network.Network.{Network}
+use Rattle.agent_state.specs.State.{blank_agent}
+use Rattle.nsi_agent.specs.Homes.{Role, provides, aggregates, requests, Routes, home_in}
+use Rattle.nsi_agent.specs.Steps.{work_of}
+use Rattle.nsi_agent.specs.Told.{goes_on, told}
+use Rattle.nsi_script.specs.declared.script.Act.{Act}
+use Rattle.nsi_script.specs.declared.script.Group.{Group}
+use Rattle.agent_node.specs.Acts.{is_quiet}
+use Rattle.agent_node.specs.Doors.{Door, others, all_idle}
+use Rattle.agent_node.specs.Openings.{agents, others_of, empty_door, doors_of, seat_of}
+use Rattle.nsi_play.specs.Openings.{opening}
+use Rattle.nsi_play.specs.Rounds.{Net, Homes, round, events_of, emptied, is_quiet_in, all_quiet}
+use Rattle.nsi_play.specs.Play.{Played, behind, after_round, settles, does, acted, asks_in, asks_among, acts, ticked_in, begins, group, plays}
+use Rattle.nsi_play.proofs.Settling.{settle_quiet, settle_more, settle_stop, group_is, plays_cons, plays_nil, acts_cons, acts_none, then_over, then_stopped}
+use Rattle.nsi_world.specs.Nets.{numbers, IsTold}
+use Rattle.settled_play.proofs.Finding.{door_all, none_there}
+use Rattle.settled_play.proofs.Links.{Given, Goes, IsLinked, agents_within}
+use Rattle.settled_play.proofs.Steps.{IsDoor, IsInHand}
+use Rattle.settled_play.proofs.Moves.{mapped_from, move_ticked, move_does}
+use Rattle.settled_play.proofs.Journals.{GoesOn}
+use Rattle.settled_play.proofs.Rounds.{SitsIn, PairIn, HasMetAll, Rests, act_rests, round_rests}
+
+-- where the play has come to
+abbrev pub Comes : Network → Routes → List Event → Played → Type 0
+Comes t routes past p = Rests t routes (past ++ p.events) p.net
+
+comes_over : (t : Network) (routes : Routes) (past : List Event) (x : Net) (b : Bool) → Rests t routes past x → Comes t routes past (record { events = []; net = x; is_over = b })
+comes_over t routes past x b r = subst (λ es. Rests t routes es x) (sym (append-nil past)) r
+
+comes_more : (t : Network) (routes : Routes) (past es : List Event) (p : Played) → Comes t routes (past ++ es) p → Comes t routes past (behind es p)
+comes_more t routes past es p r = subst (λ fs. Rests t routes fs p.net) (append_assoc past es p.events) r
+
+---- Acts
+
+acts_come : (t : Network) (routes : Routes) (past : List Event) (todo : List Act) (count : ℕ) (x : Net) → Rests t routes past x → Comes t routes past (acts todo count (home_in t routes) x)
+acts_come t routes past [] count x r = subst (Comes t routes past) (sym (acts_none count (home_in t routes) x)) (comes_over t routes past x true r)
+acts_come t routes past (a ∷ rest) count x r =
+    let homes : Homes = home_in t routes in
+    let y : Net = acted a count homes x in
+    let n : ℕ = count + asks_in a in
+    subst (Comes t routes past) (sym (acts_cons a rest count homes x))
+    (comes_more t routes past (events_of y) (acts rest n homes (emptied y)) (acts_come t routes (past ++ events_of y) rest n (emptied y) (act_rests t routes past (does a count homes) x (λ js s h. move_does t routes s.number a count js s h) r)))
+
+begins_is : (g : Group) (count : ℕ) (homes : Homes) (x : Net) → begins g count homes x ≡ after_round (map (ticked_in g.at homes) x) (acts g.acts count homes)
+unfolding begins
+begins_is g count homes x = refl
+
+begins_come : (t : Network) (routes : Routes) → Given t routes → (past : List Event) (g : Group) (count : ℕ) (x : Net) → Rests t routes past x → Comes t routes past (begins g count (home_in t routes) x)
+begins_come t routes given past g count x r =
+    let homes : Homes = home_in t routes in
+    let y : Net = map (ticked_in g.at homes) x in
+    subst (Comes t routes past) (sym (begins_is g count homes x))
+    (comes_more t routes past (events_of y) (acts g.acts count homes (emptied y))
+    (acts_come t routes (past ++ events_of y) g.acts count (emptied y) (act_rests t routes past (ticked_in g.at homes) x (λ js s h. move_ticked t routes given s.number g.at js s h) r)))
+
+---- The end
+
+-- all are quiet
+pub record Ends (t : Network) (routes : Routes) (past : List Event) (p : Played) : Type 0 where
+  pub rests : Rests t routes (past ++ p.events) p.net
+  pub quiet : all_quiet (home_in t routes) p.net ≡ true
+
+ends_more : (t : Network) (routes : Routes) (past es : List Event) (p : Played) → Ends t routes (past ++ es) p → Ends t routes past (behind es p)
+ends_more t routes past es p h = record { rests = comes_more t routes past es p h.rests; quiet = h.quiet }
+
+never : {X : Type 0} (b : Bool) → b ≡ false → b ≡ true → X
+never b p q = absurd (cc)
+
+settles_end : (t : Network) (routes : Routes) → Given t routes → (past : List Event) (most : ℕ) (x : Net) → Rests t routes past x → (settles most (home_in t routes) x).is_over ≡ true → Ends t routes past (settles most (home_in t routes) x)
+settles_end t routes given past zero x r over = let homes : Homes = home_in t routes in elim (cases_Bool (all_quiet homes x)) [
+  | inl q ↦ subst (Ends t routes past) (sym (settle_quiet 0 homes x q)) (record { rests = comes_over t routes past x true r; quiet = q })
+  | inr q ↦ never false refl (sym (ap (λ (p : Played). p.is_over) (settle_stop homes x q)) ∙ over)
+]
+settles_end t routes given past (suc most) x r over = let homes : Homes = home_in t routes in elim (cases_Bool (all_quiet homes x)) [
+  | inl q ↦ subst (Ends t routes past) (sym (settle_quiet (suc most) homes x q)) (record { rests = comes_over t routes past x true r; quiet = q })
+  | inr q ↦
+      let y : Net = round homes x in
+      let more = settle_more most homes x q in
+      subst (Ends t routes past) (sym more)
+      (ends_more t routes past (events_of y) (settles most homes (emptied y)) (settles_end t routes given (past ++ events_of y) most (emptied y) (round_rests t routes given past x r) (sym (ap (λ (p : Played). p.is_over) more) ∙ over)))
+]
+
+group_end : (t : Network) (routes : Routes) → Given t routes → (past : List Event) (most : ℕ) (g : Group) (count : ℕ) (x : Net) → Rests t routes past x → (group most g count (home_in t routes) x).is_over ≡ true
+    → Ends t routes past (group most g count (home_in t routes) x)
+group_end t routes given past most g count x r over =
+    let homes : Homes = home_in t routes in
+    let b : Played = begins g count homes x in
+    let same = group_is most g count homes x in
+    subst (Ends t routes past) (sym same)
+    (ends_more t routes past b.events (settles most homes b.net) (settles_end t routes given (past ++ b.events) most b.net (begins_come t routes given past g count x r) (sym (ap (λ (p : Played). p.is_over) same) ∙ over)))
+
+pub plays_end : (t : Network) (routes : Routes) → Given t routes → (past : List Event) (most : ℕ) (gs : List Group) (count : ℕ) (x : Net) → Rests t routes past x → all_quiet (home_in t routes) x ≡ true
+    → (plays most gs count (home_in t routes) x).is_over ≡ true → Ends t routes past (plays most gs count (home_in t routes) x)
+plays_end t routes given past most [] count x r quiet over = subst (Ends t routes past) (sym (plays_nil most count (home_in t routes) x)) (record { rests = comes_over t routes past x true r; quiet = quiet })
+plays_end t routes given past most (g ∷ gs) count x r quiet over =
+    let homes : Homes = home_in t routes in
+    let p : Played = group most g count homes x in
+    let n : ℕ = count + asks_among g.acts in
+    let first = plays_cons most g gs count homes x in
+    elim (cases_Bool p.is_over) [
+      | inl o ↦
+          let whole = first ∙ then_over p (plays most gs n homes) o in
+          let e = group_end t routes given past most g count x r o in
+          subst (Ends t routes past) (sym whole)
+          (ends_more t routes past p.events (plays most gs n homes p.net) (plays_end t routes given (past ++ p.events) most gs n p.net e.rests e.quiet (sym (ap (λ (z : Played). z.is_over) whole) ∙ over)))
+      | inr o ↦ never p.is_over o (sym (ap (λ (z : Played). z.is_over) (first ∙ then_stopped p (plays most gs n homes) o)) ∙ over)
+    ]
+
+---- Before anything has happened
+
+no_work : (role : Role) → is_none (work_of role blank_agent) ≡ true
+no_work (provides setting stp_of) = refl
+no_work (aggregates setting) = refl
+no_work (requests setting) = refl
+
+no_parcels : (bs : List ℕ) → all_idle (map empty_door bs) ≡ true
+no_parcels [] = refl
+no_parcels (b ∷ bs) = no_parcels bs
+
+seat_quiet : (homes : Homes) (t : Network) (a : ℕ) → is_quiet_in homes (seat_of t a) ≡ true
+unfolding is_quiet
+seat_quiet homes t a = ap (λ b. b && all_idle (map empty_door (others_of t a))) (no_work (homes a).role) ∙ no_parcels (others_of t a)
+
+seats_quiet : (homes : Homes) (t : Network) (ns : List ℕ) → all_quiet homes (map (seat_of t) ns) ≡ true
+seats_quiet homes t [] = refl
+seats_quiet homes t (n ∷ ns) = ap (λ b. b && all_quiet homes (map (seat_of t) ns)) (seat_quiet homes t n) ∙ seats_quiet homes t ns
+
+pub opening_quiet : (t : Network) (routes : Routes) → all_quiet (home_in t routes) (opening t) ≡ true
+opening_quiet t routes = seats_quiet (home_in t routes) t (agents t)
+
+numbers_of : (t : Network) (ns : List ℕ) → numbers (map (seat_of t) ns) ≡ ns
+numbers_of t [] = refl
+numbers_of t (n ∷ ns) = ap (λ xs. n ∷ xs) (numbers_of t ns)
+
+empty_others : (bs : List ℕ) → others (map empty_door bs) ≡ bs
+empty_others [] = refl
+empty_others (b ∷ bs) = ap (λ xs. b ∷ xs) (empty_others bs)
+
+empty_doors : (t : Network) (a : ℕ) (d : Door) → Contains (doors_of t a) d → IsDoor t a d
+empty_doors t a d c =
+    let x = mapped_from empty_door (others_of t a) d c in
+    subst (IsDoor t a) x.2 (record { link = x.1; queue = All-nil (Goes t a x.0); out = All-nil (Goes t a x.0); inc = All-nil (Goes t x.0 a) })
+
+seat_sits : (t : Network) (routes : Routes) (a : ℕ) → Contains (agents t) a → SitsIn t routes [] (seat_of t a)
+unfolding goes_on
+seat_sits t routes a c = record {
+  number = refl;
+  within = agents_within t a c;
+  state = refl;
+  clear = λ q. refl;
+  unsaid = All-nil (Contains (told (home_in t routes a) []).out);
+  others = empty_others (others_of t a);
+  doors = empty_doors t a;
+  heard = All-nil (IsLinked t a);
+  held = All-nil (IsInHand t a);
+}
+
+seat_met : (t : Network) (a : ℕ) → HasMetAll (seat_of t a)
+seat_met t a b = door_all (λ d. d.out ≡ []) b (doors_of t a) refl (λ d e c. let x = mapped_from empty_door (others_of t a) d c in ap (λ (z : Door). z.out) (sym x.2))
+
+seats_pair : (t : Network) (routes : Routes) (a b : ℕ) → PairIn t routes [] (seat_of t a) (seat_of t b)
+unfolding goes_on
+seats_pair t routes a b = record {
+  heard = λ m e c. absurd (none_there m c);
+  acked = λ m e c. absurd (none_there m c);
+}
+
+pub opening_rests : (t : Network) (routes : Routes) → Rests t routes [] (opening t)
+opening_rests t routes = record {
+  numbers = numbers_of t (agents t);
+  told = λ s c. let x = mapped_from (seat_of t) (agents t) s c in subst IsTold x.2 refl;
+  goes_on = All-nil GoesOn;
+  sits = λ s c. let x = mapped_from (seat_of t) (agents t) s c in subst (SitsIn t routes []) x.2 (seat_sits t routes x.0 x.1);
+  met = λ s c. let x = mapped_from (seat_of t) (agents t) s c in subst HasMetAll x.2 (seat_met t x.0);
+  pairs = λ s u c d.
+      let x = mapped_from (seat_of t) (agents t) s c in
+      let y = mapped_from (seat_of t) (agents t) u d in
+      subst (λ z. PairIn t routes [] z u) x.2 (subst (PairIn t routes [] (seat_of t x.0)) y.2 (seats_pair t routes x.0 y.0));
+}

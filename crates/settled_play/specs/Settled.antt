@@ -1,0 +1,80 @@
+-- What a play leaves open: of the messages that one agent has said to another one, how many weren't got, and how many weren't acknowledged.
+use Rattle.std.specs.Prelude.{◌≡◌, ◌≤◌, ◌<◌, ◌+◌, ◌⊎◌, ℕ, List, length, get_or}
+use Rattle.std.specs.List.{All, Contains}
+use Rattle.nsi_primitive.specs.Messages.{identity, kind_of}
+use Rattle.nsi_primitive.specs.declared.entry.Entry.{Entry}
+use Rattle.nsi_primitive.specs.declared.entry.Event.{Event}
+use Rattle.nsi_primitive.specs.declared.entry.Input.{Input}
+use Rattle.nsi_primitive.specs.declared.kind.Kind.{Kind}
+use Rattle.nsi_primitive.specs.declared.message.Identity.{Identity}
+use Rattle.nsi_primitive.specs.declared.message.Message.{Message}
+use Rattle.stp_topology.specs.Laws.{IsWellFormed}
+use Rattle.stp_topology.specs.Sound.{IsSound}
+use Rattle.stp_topology.specs.declared.network.Network.{Network}
+use Rattle.nsi_script.specs.Fits.{IsActOf, IsRising}
+use Rattle.nsi_script.specs.Scripts.{acts_of, seconds_of}
+use Rattle.nsi_script.specs.declared.script.Group.{Group}
+use Rattle.nsi_agent.specs.Homes.{Routes, AreRoutes, home_in}
+use Rattle.nsi_agent.specs.Told.{WasGot}
+use Rattle.nsi_play.specs.Openings.{opening}
+use Rattle.nsi_play.specs.Rounds.{Net}
+use Rattle.nsi_play.specs.Play.{IsPlayFrom}
+use Rattle.nsi_world.specs.Worlds.{Homes, World, empty, IsTo, said}
+use Rattle.nsi_world.specs.Runs.{world_after}
+
+-- it is so of all of them but at most so many
+abbrev pub AllBut : {X : Type 0} → ℕ → (X → Type 0) → List X → Type 0
+AllBut {X} few P xs = (places : List ℕ) × (length places ≤ few) × ((k : ℕ) (d : X) → k < length xs → P (get_or xs k d) ⊎ Contains places k)
+
+-- one of the entries takes the acknowledgement of a message of this identity
+abbrev pub WasAcked : Identity → List Entry → Type 0
+WasAcked i es = (e : Entry) × Contains es e × (e.input ≡ Input.Acked i)
+
+-- it is of that kind and for that agent
+abbrev pub IsOf : Homes → ℕ → Kind → Message → Type 0
+IsOf homes to kind m = IsTo homes to m × (kind_of m.body ≡ kind)
+
+-- its addressee got it, a request by its header
+abbrev pub IsHeard : Homes → World → (to : ℕ) → Kind → Message → Type 0
+IsHeard homes w to kind m = IsOf homes to kind m → WasGot m (w.journal to)
+
+-- so it did, and the one that said it took the acknowledgement
+abbrev pub IsOver : Homes → World → (from to : ℕ) → Kind → Message → Type 0
+IsOver homes w from to kind m = IsOf homes to kind m → WasGot m (w.journal to) × WasAcked (identity m) (w.journal from)
+
+-- it is for an agent of the topology
+abbrev pub HasAddressee : Network → Homes → Message → Type 0
+HasAddressee t homes m = (b : ℕ) × (b < length t.agents) × IsTo homes b m
+
+-- how many messages of each kind were lost on the way from one agent to another one
+abbrev pub Losses : Type 0
+Losses = (from to : ℕ) → Kind → ℕ
+
+abbrev pub none_lost : Losses
+none_lost from to kind = 0
+
+-- Each message that an agent has said is for an agent. Of those of a kind that it has said to that one, no more than were lost weren't
+-- got, and no more than that and the lost acknowledgements weren't got or weren't acknowledged.
+pub record IsSettled (t : Network) (homes : Homes) (lost lost_back : Losses) (w : World) : Type 0 where
+  pub addressed : (a : ℕ) → a < length t.agents → All (HasAddressee t homes) (said homes w a)
+  pub heard : (a b : ℕ) (kind : Kind) → a < length t.agents → b < length t.agents → AllBut (lost a b kind) (IsHeard homes w b kind) (said homes w a)
+  pub acknowledged : (a b : ℕ) (kind : Kind) → a < length t.agents → b < length t.agents → AllBut (lost a b kind + lost_back b a kind) (IsOver homes w a b kind) (said homes w a)
+
+-- so it is in the world at the end of a play, in which nothing is lost
+abbrev pub PlaySettles : Type 0
+PlaySettles =
+    (t : Network) (routes : Routes) (groups : List Group) (events : List Event) (last : Net) → IsSound t → IsWellFormed t → AreRoutes t routes → IsRising (seconds_of groups) →
+    All (IsActOf t) (acts_of groups) → IsPlayFrom groups (home_in t routes) (opening t) events last → IsSettled t (home_in t routes) none_lost none_lost (world_after empty events)
+
+---- Each message
+
+-- its addressee got it, and the one that said it took the acknowledgement
+abbrev pub IsDone : Network → Homes → World → ℕ → Message → Type 0
+IsDone t homes w from m = (b : ℕ) × (b < length t.agents) × IsTo homes b m × WasGot m (w.journal b) × WasAcked (identity m) (w.journal from)
+
+-- at the end of a play so it is of each message that an agent has said
+abbrev pub PlayLeavesNone : Type 0
+PlayLeavesNone =
+    (t : Network) (routes : Routes) (groups : List Group) (events : List Event) (last : Net) → IsSound t → IsWellFormed t → AreRoutes t routes → IsRising (seconds_of groups) →
+    All (IsActOf t) (acts_of groups) → IsPlayFrom groups (home_in t routes) (opening t) events last →
+    (a : ℕ) → a < length t.agents → All (IsDone t (home_in t routes) (world_after empty events) a) (said (home_in t routes) (world_after empty events) a)
