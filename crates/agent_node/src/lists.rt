@@ -7,7 +7,7 @@ ghost use Rattle.agent_node.specs.Seat.{entered};
 ghost use Rattle.agent_node.specs.Turns.{sync_event};
 ghost use Rattle.message_retry.specs.Retry.{is_waiting};
 
-use crate::queue::is_of;
+use message_retry::is_of;
 use nsi_base::AgentNo;
 use nsi_primitive::{AskAnswer, Entry, Event, Happening, Identity, Message};
 use std::alloc::{AllocError, Global};

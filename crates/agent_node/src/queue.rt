@@ -3,13 +3,11 @@
 ghost use Rattle.std.specs.Prelude.{◌≡◌, ◌==◌, [], ◌∷◌, ◌++◌, ◌-◌, length, take, drop, OnOk};
 ghost use Rattle.std.specs.List.{list_any};
 ghost use Rattle.nsi_primitive.specs.Printable.{IsPrintableParcel};
-ghost use Rattle.nsi_primitive.specs.Kinds.{kind_number};
-ghost use Rattle.nsi_primitive.specs.Messages.{identity};
-ghost use Rattle.message_retry.specs.Retry.{is_same_identity};
 ghost use Rattle.agent_node.specs.Doors.{is_message, most_parcels};
 
 use agent_link::{Outgoing, PushFault};
-use nsi_primitive::{Identity, Kind, Message, Parcel};
+use message_retry::is_of;
+use nsi_primitive::{Identity, Parcel};
 use std::alloc::{AllocError, Global};
 use std::collections::VecDeque;
 use std::marker::Model;
@@ -85,23 +83,6 @@ impl Queue {
         }
         Ok(())
     }
-}
-
-/// Whether a message is of the identity.
-pub fn is_of(message: &Message, i: &Identity) -> bool
-    ensures { result ≡ is_same_identity i.now (identity message.now) }
-{
-    i.requester.is(&message.header.requester)
-        && i.provider.is(&message.header.provider)
-        && i.correlation.number() == message.header.correlation.number()
-        && number_of(i.kind) == number_of(message.kind())
-}
-
-#[tactic(auto, unfolding(nsi_primitive::specs::Kinds::kind_number))]
-fn number_of(kind: Kind) -> u8
-    ensures { result ≡ kind_number kind }
-{
-    kind as u8
 }
 
 fn is_message(i: &Identity, parcel: &Parcel) -> bool

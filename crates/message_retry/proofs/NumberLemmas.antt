@@ -3,6 +3,7 @@ use Rattle.std.proofs.Common.{◌≡◌, ℕ, ◌+◌, ◌<◌, List, [], ◌∷
 use Rattle.std.specs.Ordering.{nat_cmp, match_ordering}
 use Rattle.std.specs.declared.cmp.Ordering.{Ordering}
 use Rattle.std.specs.List.{list_any}
+use Rattle.std.specs.Option.{option_map}
 use Rattle.std.specs.List.Sorted.{IsStrictlySortedBy}
 use Rattle.std.specs.BTreeMap.{insert_entry, is_at}
 use Rattle.std.specs.Map.{keys_of, values_of, remove_entry}
@@ -31,6 +32,11 @@ put_behind n m (e ∷ es) all =
     by Ordering.Greater is rest = ap (λ es. e ∷ es) rest
     by Ordering.Equal is rest = absurd (cc)
     by Ordering.Less is rest = absurd (cc)
+
+-- what is found is there whatever is kept of it
+pub still_some : {A B : Type 0} (f : A → B) (o : Option A) → is_some o ≡ is_some (option_map f o)
+still_some f None = refl
+still_some f (Some a) = refl
 
 -- a message waits where it has a number
 pub waits : (i : Identity) (es : List (ℕ × Message)) → is_some (first_number i es) ≡ is_waiting i (values_of es)

@@ -11,7 +11,7 @@ mod span;
 pub mod taken;
 
 pub use heard::HeardMessages;
-pub use outbox::Outbox;
+pub use outbox::{Outbox, is_of};
 pub use retry::Retry;
 pub use taken::TakenRequests;
 

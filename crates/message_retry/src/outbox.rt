@@ -102,6 +102,13 @@ impl Outbox {
         pop_some(&mut self.messages, count);
     }
 
+    /// Whether one of an identity waits. It takes no memory, and looks at those that lie between the first and the last of its mark.
+    pub fn waits(&self, identity: &Identity) -> bool
+        ensures { result ≡ is_waiting identity.now self.now }
+    {
+        find(&self.names, &self.spans, &self.messages, identity).is_some()
+    }
+
     /// Takes the first one of an identity out, and says whether there was one. It takes no memory.
     pub fn acked(&mut self, identity: &Identity) -> bool
         ensures waited { result ≡ is_waiting identity.now self.old }
@@ -208,7 +215,7 @@ fn first_among(messages: Range<'_, u64, Message>, i: &Identity) -> Option<u64>
 }
 
 /// Whether it is a message of the identity.
-fn is_of(message: &Message, i: &Identity) -> bool
+pub fn is_of(message: &Message, i: &Identity) -> bool
     ensures { result ≡ is_same_identity i.now (identity message.now) }
 {
     i.requester.is(&message.header.requester)

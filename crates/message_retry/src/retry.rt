@@ -120,6 +120,13 @@ impl Retry {
         self.outbox.acked(identity)
     }
 
+    /// Whether a message of the identity waits. It takes no memory, and doesn't go over all that wait.
+    pub fn waits(&self, identity: &Identity) -> bool
+        ensures { result ≡ is_waiting identity.now self.now.waiting }
+    {
+        self.outbox.waits(identity)
+    }
+
     /// The messages that wait, in the order in which they were stored. It takes no memory.
     pub fn waiting(&self) -> Values<'_, u64, Message>
         ensures rest { result ≡ self.now.waiting }

@@ -244,6 +244,29 @@ fn behind_acks(alloc: Global, acks: &[(&str, u16)]) -> Result<(Vec<(u16, Kind)>,
     Ok((found, waited))
 }
 
+fn waits(retry: &Retry, alloc: Global, kind: &str, agent: u16) -> Result<bool, Fail> {
+    let identity = message(alloc, kind, agent)?.identity()?;
+    Ok(retry.waits(&identity))
+}
+
+/// Whether a message waits once others were acknowledged.
+fn waits_behind(alloc: Global, acks: &[(&str, u16)], kind: &str, agent: u16) -> Result<bool, Fail> {
+    let mut retry = four_wait(alloc)?;
+    let _waited = ack_all(&mut retry, alloc, acks)?;
+    waits(&retry, alloc, kind, agent)
+}
+
+#[test]
+fn message_waits_until_the_last_one_alike_is_acknowledged(rt: HostRuntime) -> Result<(), Fail> {
+    let acks = [("response", 1), ("response", 1)];
+    let of_two = waits_behind(rt.alloc(), &[], "response", 1)?;
+    let of_one = waits_behind(rt.alloc(), &[("response", 1)], "response", 1)?;
+    let of_none = waits_behind(rt.alloc(), &acks, "response", 1)?;
+    let other = waits_behind(rt.alloc(), &[], "response", 3)?;
+    assert!(rt; of_two && of_one && !of_none && !other);
+    Ok(())
+}
+
 #[test]
 fn acknowledged_message_is_taken_out_of_the_middle(rt: HostRuntime) -> Result<(), Fail> {
     let (found, waited) = behind_acks(rt.alloc(), &[("response", 2)])?;

@@ -14,7 +14,6 @@ ghost use Rattle.nsi_agent.specs.Laws.{IsGood};
 ghost use Rattle.nsi_agent.specs.Standing.{IsAfterBySome, home_of};
 
 use crate::kind::Kind;
-use crate::waiting::is_waiting;
 use nsi_base::{AgentNo, RecordNo, Second};
 use nsi_primitive::{AskAnswer, Entry, Identity, Machine, Message};
 use std::alloc::{AllocError, Global};
@@ -125,12 +124,12 @@ impl<'t> Agent<'t> {
         self.kind.is_new(message)
     }
 
-    /// Whether a message of the identity waits for its acknowledgement. It takes no memory, and looks through all that wait.
+    /// Whether a message of the identity waits for its acknowledgement. It takes no memory, and doesn't go over all that wait.
     #[tactic(auto, unfolding(crate::specs::Steps::waits))]
     pub fn waits(&self, identity: &Identity) -> bool
         ensures { result ≡ waits identity.now self.now.state }
     {
-        is_waiting(self.kind.waiting(), identity)
+        self.kind.waits(identity)
     }
 
     /// The messages that wait for their acknowledgement, in the order in which they were caused. It takes no memory.

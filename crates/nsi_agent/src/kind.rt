@@ -6,6 +6,7 @@ ghost use Rattle.std.specs.List.{All};
 ghost use Rattle.std.specs.Map.Iter.{ShowsInOrder, deref};
 ghost use Rattle.nsi_primitive.specs.declared.message.Message.{Message as MessageValue};
 ghost use Rattle.nsi_primitive.specs.Printable.{IsPrintable, IsPrintableInput};
+ghost use Rattle.message_retry.specs.Retry.{is_waiting};
 ghost use Rattle.stp_topology.specs.declared.network.Network.{Network};
 ghost use Rattle.agent_state.specs.declared.parent.Leg.{Leg as LegValue};
 ghost use Rattle.agent_state.specs.State.{blank_agent};
@@ -16,7 +17,7 @@ ghost use Rattle.nsi_agent.specs.Kinds.{IsAt, IsStepped, IsSteppedBySome, may_ta
 
 use aggregator_agent::Aggregator;
 use nsi_base::{AgentNo, RecordNo, Second};
-use nsi_primitive::{AskAnswer, Entry, Machine, Message};
+use nsi_primitive::{AskAnswer, Entry, Identity, Machine, Message};
 use provider_agent::Provider;
 use requester_agent::Requester;
 use std::alloc::{AllocError, Global};
@@ -135,6 +136,17 @@ impl Kind {
             && not (is_seen role (state_in self.now) message.now)) }
     {
         self.takes(message) && !self.seen(message)
+    }
+
+    /// Whether a message of the identity waits for its acknowledgement.
+    pub fn waits(&self, identity: &Identity) -> bool
+        ensures { result ≡ is_waiting identity.now (state_in self.now).base.waiting }
+    {
+        match self {
+            Kind::Provider(provider) => provider.waits(identity),
+            Kind::Aggregator(aggregator) => aggregator.waits(identity),
+            Kind::Requester(requester) => requester.waits(identity),
+        }
     }
 
     /// The messages that wait for their acknowledgement, in order.

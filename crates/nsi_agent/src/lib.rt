@@ -4,7 +4,6 @@
 pub mod agent;
 pub mod kind;
 pub mod laws;
-mod waiting;
 
 pub use agent::Agent;
 pub use kind::Kind;

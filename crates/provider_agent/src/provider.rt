@@ -3,6 +3,7 @@
 ghost use Rattle.std.specs.Prelude.{◌≡◌, ◌<◌, ◌≤◌, length, All, IfOk, OnOk, OnErr, IfSome, IfNone, true};
 ghost use Rattle.std.specs.Map.Iter.{ShowsInOrder, deref};
 ghost use Rattle.nsi_primitive.specs.declared.message.Message.{Message as MessageValue};
+ghost use Rattle.message_retry.specs.Retry.{is_waiting};
 ghost use Rattle.stp_topology.specs.Sound.{IsProvider};
 ghost use Rattle.nsi_primitive.specs.Printable.{IsPrintable, IsPrintableInput};
 ghost use Rattle.capacity_calendar.specs.Plan.{capacity_at};
@@ -17,7 +18,7 @@ use crate::provider_core::Core;
 use crate::work::waiting_work;
 use connection_record::Record;
 use nsi_base::{AgentNo, Flow, RecordNo, Second, StpNo};
-use nsi_primitive::{Entry, Machine, Message};
+use nsi_primitive::{Entry, Identity, Machine, Message};
 use std::alloc::{AllocError, Global};
 use std::collections::btree_map::Values;
 use std::marker::Model;
@@ -116,6 +117,13 @@ impl Provider {
         ensures { result ≡ is_seen self.now.state message.now }
     {
         message.is_request() && self.core.retry.has(&message.header)
+    }
+
+    /// Whether a message of the identity waits for its acknowledgement. It takes no memory, and doesn't go over all that wait.
+    pub fn waits(&self, identity: &Identity) -> bool
+        ensures { result ≡ is_waiting identity.now self.now.state.waiting }
+    {
+        self.core.retry.waits(identity)
     }
 
     /// The messages that wait for their acknowledgement, in the order in which they were sent. It takes no memory.
