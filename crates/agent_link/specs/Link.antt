@@ -1,12 +1,18 @@
 -- The two ends of a link.
+use denote.RawPtr.{Ptr}
+use Rattle.rtrb.specs.Shared.{Names}
 use Rattle.std.specs.Prelude.{ℕ, Bool, nat_le, List, [], ◌∷◌, ◌++◌, length, drop, Option, Some, None, Box, box_value}
 use Rattle.std.specs.declared.alloc.Global.{Global}
 use Rattle.nsi_primitive.specs.declared.message.Parcel.{Parcel}
 use Rattle.agent_link.specs.declared.ends.PushFault.{PushFault}
 
--- which link it is
+-- which link it is, and how many parcels had been let through when its ends last met
 pub record Wire : Type 0 where
-  pub number : ℕ
+  pub words : Ptr
+  pub slots : Ptr
+  pub names : Names
+  pub heap : Global
+  pub met : ℕ
 
 -- an end: at an Outgoing what was let through since the ends met, at an Incoming what it knows and hasn't given
 pub record Half : Type 0 where

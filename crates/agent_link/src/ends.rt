@@ -5,64 +5,55 @@ ghost use Rattle.nsi_primitive.specs.Printable.{IsPrintableParcel};
 ghost use Rattle.agent_link.specs.Link.{is_full, pushed, next_of, taken, ends, met, handed_back};
 
 use crate::plan::LinkFault;
+use crate::spelled::Spelled;
 use nsi_base::List;
 use nsi_primitive::Parcel;
+use rtrb::{Consumer, Producer, RingBuffer};
 use std::alloc::{AllocError, Global};
-use std::collections::VecDeque;
 use std::marker::Model;
-use std::mem;
 
 /// So many parcels go through a link between two meetings.
 const MOST_PARCELS: usize = 1024;
 
-/// The end that parcels are pushed to.
+/// A ring has room for what is known at the one end beside what was let through at the other since.
+const SLOTS: usize = 2048;
+
+/// The end that parcels are pushed to. It counts those that it let through since the ends met.
 #[derive(Drop)]
 pub struct Outgoing {
-    parcels: VecDeque<Box<Parcel>>,
-    number: u64,
+    ring: Producer<Box<Parcel>, Global, Spelled>,
+    count: usize,
 }
 
 impl Model for Outgoing {
-    ghost use Rattle.std.specs.Prelude.{◌≤◌, map, All};
-    ghost use Rattle.std.specs.VecDeque.{deque_len, deque_capacity};
-    ghost use Rattle.nsi_primitive.specs.Printable.{IsPrintableParcel};
-    ghost use Rattle.agent_link.specs.Link.{Half, Wire, most_parcels, unboxed};
+    ghost use Rattle.std.specs.Prelude.{◌≡◌, ◌≤◌, ◌+◌, length};
+    ghost use Rattle.rtrb.specs.Ring.{sent, known_free, producer_capacity};
+    ghost use Rattle.agent_link.specs.Link.{Half, most_parcels};
+    ghost use Rattle.agent_link.specs.Ring.{out_half, slots};
 
     ghost Value = { Half };
 
-    ghost view = { λ o. record {
-      parcels = map unboxed o.parcels.items;
-      wire = record { number = o.number };
-    } };
+    ghost view = { λ o. out_half o.ring o.count };
 
-    ghost invariant = { λ o. (deque_len o.parcels ≤ most_parcels)
-        × (most_parcels ≤ deque_capacity o.parcels)
-        × All IsPrintableParcel (map unboxed o.parcels.items) };
+    ghost invariant = { λ o. (o.count ≤ length (sent o.ring))
+        × (o.count ≤ most_parcels)
+        × (most_parcels ≤ known_free o.ring + o.count)
+        × (producer_capacity o.ring ≡ slots) };
 }
 
-/// The end that parcels are taken from.
+/// The end that parcels are taken from. It looks at the ring in a meeting alone, so what it knows doesn't hang on when others push.
 #[derive(Drop)]
 pub struct Incoming {
-    parcels: VecDeque<Box<Parcel>>,
-    number: u64,
+    ring: Consumer<Box<Parcel>, Global, Spelled>,
 }
 
 impl Model for Incoming {
-    ghost use Rattle.std.specs.Prelude.{◌≤◌, map, All};
-    ghost use Rattle.std.specs.VecDeque.{deque_len, deque_capacity};
-    ghost use Rattle.nsi_primitive.specs.Printable.{IsPrintableParcel};
-    ghost use Rattle.agent_link.specs.Link.{Half, Wire, most_parcels, unboxed};
+    ghost use Rattle.agent_link.specs.Link.{Half};
+    ghost use Rattle.agent_link.specs.Ring.{in_half};
 
     ghost Value = { Half };
 
-    ghost view = { λ i. record {
-      parcels = map unboxed i.parcels.items;
-      wire = record { number = i.number };
-    } };
-
-    ghost invariant = { λ i. (deque_len i.parcels ≤ most_parcels)
-        × (most_parcels ≤ deque_capacity i.parcels)
-        × All IsPrintableParcel (map unboxed i.parcels.items) };
+    ghost view = { λ i. in_half i.ring };
 }
 
 /// What became of a parcel that was put on a link.
@@ -90,17 +81,13 @@ pub fn link(alloc: Global, plan: List<LinkFault>) -> Result<(Outgoing, Incoming)
     ensures pair { IfOk result (λ r. r.0.wire ≡ r.1.wire) }
 {
     drop(plan);
-    let out = VecDeque::with_capacity(alloc, MOST_PARCELS)?;
-    let known = VecDeque::with_capacity(alloc, MOST_PARCELS)?;
+    let (producer, consumer) = RingBuffer::with_protocol::<Global, Spelled>(alloc, SLOTS)?;
     Ok((
         Outgoing {
-            parcels: out,
-            number: 0,
+            ring: producer,
+            count: 0,
         },
-        Incoming {
-            parcels: known,
-            number: 0,
-        },
+        Incoming { ring: consumer },
     ))
 }
 
@@ -112,7 +99,6 @@ impl Outgoing {
     {}
 
     /// Lets a parcel through, or hands it back.
-    #[tactic(auto, using(crate::proofs::Printed::one_more))]
     pub fn push(&mut self, alloc: Global, parcel: Parcel) -> Result<Pushed, PushFault>
         requires printable { IsPrintableParcel parcel }
         ensures ok { OnOk result
@@ -122,12 +108,13 @@ impl Outgoing {
         ensures back { IfErr result (λ fault. handed_back fault ≡ parcel) }
         ensures err { OnErr result (self.new ≡ self.old) }
     {
-        if self.parcels.len() >= MOST_PARCELS {
+        if self.count >= MOST_PARCELS {
             return Err(PushFault::Full(parcel));
         }
         match Box::new(alloc, parcel) {
             Ok(boxed) => {
-                self.parcels.push_back_reserved(boxed);
+                self.ring.push_reserved(boxed);
+                self.count += 1;
                 Ok(Pushed::Once)
             }
             Err(refused) => Err(PushFault::NoMemory(refused.value)),
@@ -147,7 +134,10 @@ impl Incoming {
         ensures rest { self.new ≡ record self.old { parcels = taken self.old.parcels } }
         ensures printable { IfSome result IsPrintableParcel }
     {
-        let boxed = self.parcels.pop_front()?;
+        if self.ring.cached_slots() == 0 {
+            return None;
+        }
+        let boxed = self.ring.pop_known();
         Some(Box::into_inner(boxed))
     }
 
@@ -155,17 +145,21 @@ impl Incoming {
     pub fn clear(&mut self)
         ensures { self.new ≡ record self.old { parcels = [] } }
     {
-        self.parcels.clear();
+        let known = self.ring.cached_slots();
+        for _k in 0..known {
+            drop(self.take());
+        }
     }
 
     pub fn is_empty(&self) -> bool
         ensures { result ≡ (length self.now.parcels == 0) }
     {
-        self.parcels.is_empty()
+        self.ring.cached_slots() == 0
     }
 }
 
-/// What the one end let through since the two met is what the other one knows. It takes no memory.
+/// What the one end let through since the two met is what the other one knows. It takes no memory. Both ends look at the ring, the
+/// outgoing one first: the other way round what is known could grow once it is told.
 pub fn meet(out: &mut Outgoing, incoming: &mut Incoming)
     requires pair { out.old.wire ≡ incoming.old.wire }
     requires taken { incoming.old.parcels ≡ [] }
@@ -174,5 +168,7 @@ pub fn meet(out: &mut Outgoing, incoming: &mut Incoming)
     ensures shut { out.new.parcels ≡ [] }
     ensures pair { out.new.wire ≡ incoming.new.wire }
 {
-    mem::swap(&mut out.parcels, &mut incoming.parcels);
+    out.ring.slots_beside(&mut incoming.ring);
+    incoming.ring.slots_beside(&mut out.ring);
+    out.count = 0;
 }

@@ -4,6 +4,7 @@
 pub mod ends;
 pub mod laws;
 pub mod plan;
+mod spelled;
 
 pub use ends::{Incoming, Outgoing, PushFault, Pushed, link, meet};
 pub use plan::{How, LinkFault, ParcelKind};

@@ -10,6 +10,8 @@ use std::alloc::{AllocError, Global};
 use std::rt::HostRuntime;
 use std::test::Fail;
 
+mod at_once;
+
 /// The acknowledgement of a message of that kind.
 fn ack(alloc: Global, kind: Kind) -> Result<Parcel, Fail>
     ensures { IfOk result IsPrintableParcel }
