@@ -11,7 +11,7 @@ use Rattle.nsi_primitive.specs.declared.message.Identity.{Identity}
 use Rattle.nsi_primitive.specs.declared.state.Machine.{Machine}
 use Rattle.connection_record.specs.Refusal.{refusal, unnamed_refusal, schedule_refusal, points_of, place_of}
 use Rattle.agent_state.specs.Entries.{error_reply}
-use Rattle.agent_state.specs.State.{AgentState, AgentStepped, stays, sends}
+use Rattle.agent_state.specs.State.{AgentState, stays, sends}
 use Rattle.aggregator_agent.specs.Setting.{Setting}
 use Rattle.aggregator_agent.specs.Steps.{accepts, answers, opens, opens_between, request_at, hears, receives, is_seen, sees, ticks, acknowledged, step}
 use Rattle.aggregator_agent.specs.Step.{takes_new}

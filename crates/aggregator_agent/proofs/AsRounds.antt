@@ -1,15 +1,13 @@
 -- The definition's ways through all connections are rounds.
-use Rattle.std.proofs.Common.{ℕ, ◌+◌, ◌≡◌, ◌∙◌, Bool, true, false, ◌==◌, ◌&&◌, List, [], ◌∷◌, ◌++◌, map, filter, refl, sym, ap}
+use Rattle.std.proofs.Common.{ℕ, ◌+◌, ◌≡◌, ◌∙◌, Bool, true, false, ◌==◌, List, [], ◌∷◌, filter, refl, sym, ap}
 use Rattle.nsi_primitive.specs.Ids.{id_of}
 use Rattle.nsi_primitive.specs.declared.message.Message.{Message}
 use Rattle.connection_record.specs.declared.record.Record.{Record}
-use Rattle.connection_record.specs.Replies.{addressed}
 use Rattle.connection_record.specs.Moves.{is_live}
-use Rattle.child_connection.specs.Views.{ChildConnection}
 use Rattle.agent_state.specs.declared.parent.Due.{Due}
 use Rattle.aggregator_agent.specs.declared.agent.Agent.{Agent}
 use Rattle.aggregator_agent.specs.Turns.{answer_turn}
-use Rattle.aggregator_agent.specs.Clock.{Told, Clocked, tell_one, tells_late, tell_all, tells_more, is_late, is_late_of, ends, clocked, clock_then, clock_more, clock_all}
+use Rattle.aggregator_agent.specs.Clock.{Told, Clocked, tell_one, tells_late, tell_all, tells_more, is_late, ends, clocked, clock_then, clock_more, clock_all}
 use Rattle.aggregator_agent.specs.Steps.{Passed, pass_more, pass_then, hear_all}
 use Rattle.aggregator_agent.specs.Bonds.{Bond, records_of, children_of, AllDone, each_bond, answered, tell_those, clocked_by, clocked_bond}
 

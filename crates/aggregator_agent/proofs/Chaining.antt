@@ -1,20 +1,19 @@
 -- A step by a route, from the step of a call.
-use Rattle.std.proofs.Common.{◌≡◌, ◌+◌, ◌∙◌, [], ℕ, List, Result, Ok, Err, refl, ap, sym, subst}
+use Rattle.std.proofs.Common.{◌≡◌, ◌+◌, ◌∙◌, [], ℕ, List, Result, Ok, Err, ap, sym, subst}
 use Rattle.std.specs.Prelude.{OnErr, IfOk}
 use Rattle.std.specs.Result.{IsErr}
 use Rattle.std.proofs.lemmas.Bool.{false≢true}
 use Rattle.std.specs.Global.{Vec}
-use Rattle.std.specs.declared.alloc.AllocError.{AllocError}
 use Rattle.nsi_primitive.specs.declared.message.Message.{Message}
 use Rattle.stp_topology.specs.declared.network.Network.{Network}
 use Rattle.agent_state.specs.declared.parent.Leg.{Leg}
-use Rattle.agent_state.specs.State.{AgentState, AgentStepped, counts_agent, stays}
+use Rattle.agent_state.specs.State.{AgentState, AgentStepped, stays}
 use Rattle.aggregator_agent.specs.declared.agent.Agent.{Agent}
 use Rattle.aggregator_agent.specs.declared.aggregator_core.Core.{Core}
 use Rattle.aggregator_agent.specs.Core.{state_at}
 use Rattle.aggregator_agent.specs.Setting.{Setting, IsRoute, setting_of}
 use Rattle.aggregator_agent.proofs.Stepping.{made_none}
-use Rattle.aggregator_agent.specs.Step.{stored, Answer, IsMade, IsStep, IsStepBy, IsCounted, IsTakenBy}
+use Rattle.aggregator_agent.specs.Step.{Answer, IsMade, IsStep, IsStepBy, IsTakenBy}
 
 if_ok : {A E : Type 0} (r : Result A E) {P Q : A → Type 0} → ((x : A) → P x → Q x) → IfOk r P → IfOk r Q
 if_ok (Ok x) f p = f x p

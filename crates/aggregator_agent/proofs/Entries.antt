@@ -1,5 +1,5 @@
 -- What no entry does to an aggregator: its texts stay, what it says can be written, and each request has an id of its own.
-use Rattle.std.proofs.Common.{◌≡◌, ◌≤◌, ◌<◌, ◌+◌, ◌⊎◌, inl, ◌&&◌, ◌==◌, ℕ, zero, suc, Bool, true, false, List, [], ◌∷◌, ◌++◌, length, get_or, slice_set, Option, Some, None, IfSome, refl, sym, ap, subst, arith}
+use Rattle.std.proofs.Common.{◌≡◌, ◌≤◌, ◌+◌, inl, ℕ, zero, suc, Bool, true, false, List, [], ◌∷◌, ◌++◌, length, Option, Some, None, IfSome, refl, arith}
 use Rattle.std.specs.List.{All}
 use Rattle.std.proofs.lemmas.List.Elements.{All-nil, All-cons, All-append, All-head, All-tail, All-set}
 use Rattle.nsi_primitive.specs.Ids.{id_of}
@@ -16,22 +16,21 @@ use Rattle.connection_record.specs.Demand.{last}
 use Rattle.connection_record.specs.Moves.{is_live, fresh, service_of}
 use Rattle.connection_record.specs.Applied.{schedule_end}
 use Rattle.connection_record.specs.Refusal.{refusal, place_of, points_of, modification_refusal, unnamed_refusal}
-use Rattle.connection_record.specs.Replies.{Moved, addressed}
+use Rattle.connection_record.specs.Replies.{addressed}
 use Rattle.child_connection.specs.Views.{ChildConnection}
 use Rattle.agent_state.specs.declared.parent.Due.{Due}
 use Rattle.agent_state.specs.Entries.{error_reply}
 use Rattle.agent_state.specs.State.{AgentState, AgentStepped, stays, no_record, record_at, name_or, counts_agent}
 use Rattle.aggregator_agent.specs.declared.agent.Agent.{Agent}
-use Rattle.aggregator_agent.specs.Asking.{Turn}
 use Rattle.aggregator_agent.specs.Turns.{request_turn, answer_turn, spoken}
-use Rattle.aggregator_agent.specs.Clock.{Told, Clocked, tell_one, tells_late, tell_all, is_late_of, ends, clocked, clock_then, clock_all}
+use Rattle.aggregator_agent.specs.Clock.{Told, tell_one, tells_late, tell_all, is_late_of, ends, clocked, clock_then, clock_all}
 use Rattle.aggregator_agent.specs.Setting.{Setting}
-use Rattle.aggregator_agent.specs.Steps.{Passed, sees, is_seen, request_at, children_for, with_new, opens_between, opens, request_to, accepts, answers, pass_then, hear_all, hears, receives, ticks, step, may_take, after_if, after}
+use Rattle.aggregator_agent.specs.Steps.{sees, is_seen, request_at, children_for, with_new, opens_between, opens, request_to, accepts, answers, pass_then, hear_all, hears, receives, ticks, step, may_take, after_if, after}
 use Rattle.aggregator_agent.specs.Good.{IsWritable, IsGood}
 use Rattle.aggregator_agent.specs.Laws.{AreDrawn}
 use Rattle.aggregator_agent.proofs.MildReplies.{AreMild, both_mild, IsMildMoved, stays_mild, writable_later, lives_mild}
 use Rattle.aggregator_agent.proofs.Mild.{AreLaws, IsMildAsking, none_mild, drawn_none, drawn_up, drawn_then, drawn_addressed, addressed_printable}
-use Rattle.aggregator_agent.proofs.MildTurns.{IsMildTurn, request_mild, answer_mild, spoken_mild}
+use Rattle.aggregator_agent.proofs.MildTurns.{request_mild, answer_mild, spoken_mild}
 
 -- an entry, or a part of one
 pub record IsMildStep (agent : ℕ) (s : AgentState) (x : AgentStepped) : Type 0 where

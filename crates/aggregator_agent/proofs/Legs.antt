@@ -1,10 +1,10 @@
 -- Views by the legs of a route.
-use Rattle.std.proofs.Common.{◌≡◌, ◌≤◌, ◌∙◌, ℕ, List, [], ◌∷◌, length, map, sym, ap, arith}
+use Rattle.std.proofs.Common.{◌≡◌, ◌≤◌, ◌∙◌, ℕ, List, [], ◌∷◌, length, sym, ap, arith}
 use Rattle.std.proofs.lemmas.List.Elements.{All-head}
 use Rattle.stp_topology.specs.Sound.{IsSound}
 use Rattle.stp_topology.specs.declared.network.Network.{Network}
 use Rattle.path_segments.specs.declared.path.Segment.{Segment}
-use Rattle.path_segments.specs.Paths.{IsKnown, IsPath, IsLess, IsLeastPath}
+use Rattle.path_segments.specs.Paths.{IsKnown, IsPath, IsLess}
 use Rattle.agent_state.specs.declared.parent.Leg.{Leg}
 use Rattle.child_connection.specs.Views.{ChildConnection}
 use Rattle.aggregator_agent.specs.Asking.{views_of}

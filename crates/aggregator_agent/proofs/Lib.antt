@@ -16,3 +16,10 @@ pub mod MildTurns
 pub mod Entries
 pub mod Steady
 pub mod Requested
+pub mod Edges
+pub mod Settles
+pub mod Quiet
+pub mod QuietTicks
+pub mod Found
+pub mod FirstOwned
+pub mod Noting

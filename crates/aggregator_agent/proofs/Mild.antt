@@ -1,44 +1,29 @@
 -- What no turn of a connection does: its texts stay, what it says can be written, and each request has an id of its own.
-use Rattle.std.proofs.Common.{◌≡◌, ◌≤◌, ◌+◌, ◌&&◌, ◌⊎◌, inl, inr, ℕ, Bool, true, false, List, [], ◌∷◌, ◌++◌, map, Option, Some, None, IfSome, refl, sym, ap, subst, arith, is_none}
-use Rattle.std.specs.Option.{option_map, option_to_list}
-use Rattle.std.specs.List.{All, AllByRecursion, find, list_any}
+use Rattle.std.proofs.Common.{◌≡◌, ◌≤◌, ◌+◌, inl, inr, ℕ, Bool, true, false, List, [], ◌∷◌, ◌++◌, Option, Some, None, IfSome, refl, subst, arith}
+use Rattle.std.specs.Option.{option_map}
+use Rattle.std.specs.List.{All}
 use Rattle.std.specs.Str.{bytes_eq}
 use Rattle.std.proofs.lemmas.List.Elements.{All-nil, All-cons, All-append}
 use Rattle.nsi_primitive.specs.Ids.{id_of}
-use Rattle.nsi_primitive.specs.Messages.{kind_of, is_request}
+use Rattle.nsi_primitive.specs.Messages.{kind_of}
 use Rattle.nsi_primitive.specs.Printable.{IsPrintable}
 use Rattle.nsi_primitive.specs.declared.kind.Kind.{Kind}
-use Rattle.nsi_primitive.specs.declared.plane.Plane.{Plane}
-use Rattle.nsi_primitive.specs.declared.state.Side.{Side}
-use Rattle.nsi_primitive.specs.declared.state.Lsm.{Lsm}
-use Rattle.nsi_primitive.specs.declared.state.Rsm.{Rsm}
-use Rattle.nsi_primitive.specs.declared.state.Psm.{Psm}
 use Rattle.nsi_primitive.specs.declared.message.Body.{Body}
 use Rattle.nsi_primitive.specs.declared.message.Criteria.{Criteria}
 use Rattle.nsi_primitive.specs.declared.message.Message.{Message}
 use Rattle.nsi_primitive.specs.declared.message.Service.{Service}
-use Rattle.dataplane_state.specs.Plane.{announces}
 use Rattle.connection_record.specs.declared.record.Record.{Record}
 use Rattle.connection_record.specs.declared.moves.Reply.{Reply}
-use Rattle.connection_record.specs.Later.{IsLater}
-use Rattle.connection_record.specs.Moves.{is_live, reserves_if}
-use Rattle.connection_record.specs.Lives.{lives_if, provisions_if}
-use Rattle.connection_record.specs.Applied.{requested, is_terminating, closes, tells_plane}
-use Rattle.connection_record.specs.Replies.{Moved, addressed, then_moves}
-use Rattle.connection_record.proofs.Growing.{later_refl}
+use Rattle.connection_record.specs.Replies.{addressed}
 use Rattle.child_connection.specs.declared.state.Sent.{Sent}
-use Rattle.child_connection.specs.declared.state.Phase.{Phase}
 use Rattle.child_connection.specs.Views.{ChildConnection, open_request}
 use Rattle.child_connection.specs.Asks.{request_about, reserve_for, to_child}
-use Rattle.child_connection.specs.Hearing.{hear}
 use Rattle.child_connection.specs.Laws.{AsksArePrintable, FirstIsPrintable, ModificationIsPrintable}
 use Rattle.aggregator_agent.specs.declared.agent.Agent.{Agent}
-use Rattle.aggregator_agent.specs.Asking.{Turn, Asked, Asking, begin, replies_by, notices_by, notices_under, next_after, ask_one, request_of, next_behind, each, asks_by, if_free, if_apart, request_if, may_abort, service_for, reserve_if, passed_on, pass_one, pass_each}
-use Rattle.aggregator_agent.specs.Settling.{checked, fit_or_lack, is_lacking, reservation_verdict, reservation_due, is_quiet, provision_verdict, provision_due, settles_reservation, settles_provision, is_there, closes_unless, settles, settle}
-use Rattle.aggregator_agent.specs.Turns.{joined_of, tell_joined, pass_on, takes, turn_by_request, request_turn, loses, breaks, late_terminate, hear_one, hear_each, hold_end_by, force_by, hold_ends, force_ends, heard_by, turn_by_answer, answer_turn, said_of, spoken}
+use Rattle.aggregator_agent.specs.Asking.{Asked, ask_one, next_behind, each, if_free, if_apart, request_if, may_abort, service_for, reserve_if, passed_on, pass_one, pass_each}
 use Rattle.aggregator_agent.specs.Good.{IsWritable}
 use Rattle.aggregator_agent.specs.Laws.{AreDrawn}
-use Rattle.aggregator_agent.proofs.MildReplies.{AreMild, IsMildBody, both_mild, IsMildMoved, stays_mild, then_mild, writable_later, IsMildReservation, IsMildProvision, reserves_mild, provisions_mild, lives_mild, closes_mild, requested_mild, tells_mild}
+use Rattle.aggregator_agent.proofs.MildReplies.{AreMild}
 
 -- the laws of views that it rests on
 pub record AreLaws : Type 0 where

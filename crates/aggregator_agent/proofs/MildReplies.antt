@@ -2,7 +2,7 @@
 use Rattle.std.proofs.Common.{◌≡◌, ℕ, Bool, true, false, List, [], ◌∷◌, ◌++◌, Option, Some, None, IfSome, refl, arith}
 use Rattle.std.specs.List.{AllByRecursion}
 use Rattle.nsi_primitive.specs.Messages.{is_request}
-use Rattle.nsi_primitive.specs.Printable.{IsPrintableBody, IsPrintableCause, has_further_keys}
+use Rattle.nsi_primitive.specs.Printable.{IsPrintableBody, IsPrintableCause}
 use Rattle.nsi_primitive.specs.declared.kind.ErrorName.{ErrorName}
 use Rattle.nsi_primitive.specs.declared.plane.Plane.{Plane}
 use Rattle.nsi_primitive.specs.declared.state.Lsm.{Lsm}

@@ -1,6 +1,6 @@
 -- The turns of a connection are mild.
-use Rattle.std.proofs.Common.{◌≡◌, ◌≤◌, ◌+◌, ◌&&◌, ℕ, Bool, true, false, List, [], ◌∷◌, ◌++◌, Option, Some, None, IfSome, refl, sym, ap, subst, arith, is_none}
-use Rattle.std.specs.List.{All, find, list_any}
+use Rattle.std.proofs.Common.{◌≤◌, ◌&&◌, ℕ, Bool, true, false, List, [], ◌∷◌, ◌++◌, Option, Some, None, IfSome, refl, arith, is_none}
+use Rattle.std.specs.List.{find, list_any}
 use Rattle.std.proofs.lemmas.List.Elements.{All-nil, All-append}
 use Rattle.nsi_primitive.specs.Ids.{id_of}
 use Rattle.nsi_primitive.specs.Printable.{IsPrintable}
@@ -15,11 +15,8 @@ use Rattle.nsi_primitive.specs.declared.message.Message.{Message}
 use Rattle.dataplane_state.specs.Plane.{announces}
 use Rattle.connection_record.specs.declared.record.Record.{Record}
 use Rattle.connection_record.specs.declared.moves.Reply.{Reply}
-use Rattle.connection_record.specs.declared.moves.ReservationMove.{ReservationMove}
-use Rattle.connection_record.specs.declared.provisioning.ProvisionMove.{ProvisionMove}
-use Rattle.connection_record.specs.Later.{IsLater}
 use Rattle.connection_record.specs.Moves.{is_live}
-use Rattle.connection_record.specs.Applied.{is_terminating, requested}
+use Rattle.connection_record.specs.Applied.{is_terminating}
 use Rattle.connection_record.specs.Replies.{Moved, addressed, then_moves}
 use Rattle.child_connection.specs.Views.{ChildConnection}
 use Rattle.child_connection.specs.Hearing.{hear}
@@ -28,9 +25,8 @@ use Rattle.aggregator_agent.specs.Asking.{Turn, Asking, begin, replies_by, notic
 use Rattle.aggregator_agent.specs.Settling.{checked, fit_or_lack, is_lacking, reservation_verdict, reservation_due, is_quiet, provision_verdict, provision_due, settles_reservation, settles_provision, is_there, closes_unless, settles, settle, has_error, has_provision_error, done_or_mixed, done_or_spoiled}
 use Rattle.aggregator_agent.specs.Turns.{joined_of, tell_joined, pass_on, takes, turn_by_request, request_turn, loses, breaks, late_terminate, hear_one, hear_each, hold_end_by, force_by, hold_ends, force_ends, heard_by, turn_by_answer, answer_turn, spoken}
 use Rattle.aggregator_agent.specs.Good.{IsWritable}
-use Rattle.aggregator_agent.specs.Laws.{AreDrawn}
 use Rattle.aggregator_agent.proofs.MildReplies.{AreMild, both_mild, IsMildMoved, stays_mild, then_mild, writable_later, IsMildReservation, IsMildProvision, reserves_mild, provisions_mild, lives_mild, closes_mild, requested_mild, tells_mild}
-use Rattle.aggregator_agent.proofs.Mild.{AreLaws, IsMildAsking, drawn_none, drawn_up, drawn_then, drawn_rises, drawn_addressed, addressed_printable, each_mild, one_mild, request_fit, passed_mild}
+use Rattle.aggregator_agent.proofs.Mild.{AreLaws, IsMildAsking, drawn_none, drawn_up, drawn_then, drawn_addressed, addressed_printable, each_mild, one_mild, request_fit, passed_mild}
 
 -- its texts can be written, what it says is mild, and its requests have drawn ids from a number on
 pub record IsMildTurn (agent start : ℕ) (t : Turn) : Type 0 where

@@ -1,19 +1,17 @@
 -- Why a request is refused, rule by rule, and what then is done.
-use Rattle.std.proofs.Common.{◌≡◌, ◌<◌, ◌∙◌, ◌==◌, ◌&&◌, ◌+◌, ℕ, zero, suc, cond, Bool, true, false, not, List, [], ◌∷◌, length, map, get_or, slice_get, position, Option, Some, None, refl, sym, ap}
-use Rattle.std.specs.Option.{option_map}
+use Rattle.std.proofs.Common.{◌≡◌, ◌<◌, ◌∙◌, ◌==◌, ◌&&◌, ◌+◌, ℕ, cond, Bool, true, false, not, List, [], ◌∷◌, length, slice_get, position, Option, Some, None, refl, ap, arith}
 use Rattle.std.specs.List.{prefix_len}
-use Rattle.std.proofs.lemmas.List.{length-map}
+use Rattle.std.proofs.lemmas.List.{length-map, get_or-map}
 use Rattle.std.specs.Str.{bytes_eq}
-use Rattle.std.proofs.lemmas.Option.{slice_get_read}
+use Rattle.std.proofs.lemmas.Option.{slice_get-get_or}
 use Rattle.nsi_primitive.specs.Messages.{connection_of}
 use Rattle.nsi_primitive.specs.declared.kind.ErrorName.{ErrorName}
-use Rattle.nsi_primitive.specs.declared.message.Body.{Body}
 use Rattle.nsi_primitive.specs.declared.message.Message.{Message}
-use Rattle.nsi_primitive.specs.declared.message.ReserveRequest.{ReserveRequest}
 use Rattle.connection_record.specs.declared.record.Record.{Record}
-use Rattle.connection_record.specs.Refusal.{refusal, unnamed_refusal, record_refusal, place_of, schedule_refusal, points_of}
+use Rattle.connection_record.specs.Refusal.{refusal, unnamed_refusal, record_refusal, place_of}
 use Rattle.aggregator_agent.specs.declared.connection.Connection.{Connection}
-use Rattle.aggregator_agent.specs.Bonds.{Bond, bond, bonds, own_of, records_of, is_owned}
+use Rattle.aggregator_agent.specs.Bonds.{Bond, bond, bonds, no_bond, bond_at, own_of, records_of, is_owned}
+use Rattle.agent_state.specs.State.{no_record}
 
 pub refused_wrong : (agent : List ℕ) (stp_of : List ℕ → Option ℕ) (rs : List Record) (m : Message) → bytes_eq m.header.provider agent ≡ false → refusal agent stp_of rs m ≡ Some ErrorName.WrongProvider
 unfolding refusal
@@ -36,13 +34,10 @@ refused_record agent stp_of rs m id n r h e f g = rw (h, e, f, g) refl
 ---- The record of a connection
 
 -- what stands at a place
-pub record_read : (xs : List Connection) (n : ℕ) (x : Connection) → n < length xs → x ≡ get_or xs n x → slice_get (records_of (bonds xs)) n ≡ Some x.own
-record_read xs n x l is = mapped xs n ∙ ap (option_map (λ (c : Connection). c.own)) (slice_get_read xs (length xs) n x refl l is)
-  where
-    mapped : (ys : List Connection) (k : ℕ) → slice_get (records_of (bonds ys)) k ≡ option_map (λ (c : Connection). c.own) (slice_get ys k)
-    mapped [] k = refl
-    mapped (y ∷ ys) zero = refl
-    mapped (y ∷ ys) (suc k) = mapped ys k
+pub bond_read : (bs : List Bond) (n : ℕ) → n < length bs → slice_get (records_of bs) n ≡ Some (bond_at n bs).own
+bond_read bs n l =
+    let long = length-map bs own_of in
+    slice_get-get_or (records_of bs) n no_record (omega (arith, l, long)) ∙ ap Some (get_or-map own_of bs n no_bond no_record l)
 
 -- where the first stands that passes
 prefix_as : (test : Record → Bool) (xs : List Connection) → prefix_len test (records_of (bonds xs)) ≡ prefix_len (λ (c : Connection). test c.own) xs

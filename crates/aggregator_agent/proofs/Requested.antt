@@ -1,11 +1,5 @@
 -- A connection that takes a request, by what its calls leave.
-use Rattle.std.proofs.Common.{◌≡◌, ◌∙◌, ◌++◌, [], ℕ, List, Result, Ok, Err, refl, ap, sym, subst}
-use Rattle.std.specs.Prelude.{OnOk, OnErr, IfOk}
-use Rattle.std.specs.declared.alloc.AllocError.{AllocError}
-use Rattle.nsi_primitive.specs.declared.message.Message.{Message}
-use Rattle.connection_record.specs.declared.record.Record.{Record}
-use Rattle.child_connection.specs.Views.{ChildConnection}
-use Rattle.agent_state.specs.declared.parent.Due.{Due}
+use Rattle.std.proofs.Common.{◌≡◌, ◌∙◌, ◌++◌, [], ℕ, List, Ok, ap}
 use Rattle.agent_state.specs.declared.parent.Leg.{Leg}
 use Rattle.aggregator_agent.specs.declared.entering.Entering.{Entering}
 use Rattle.aggregator_agent.specs.declared.outbox.Outbox.{Outbox}

@@ -1,5 +1,5 @@
 -- What an aggregator says, computed: an entry after another, over two or three providers and another aggregator.
-use Rattle.std.proofs.Common.{◌≡◌, ℕ, Bool, true, false, List, [], ◌∷◌, ◌++◌, map, length, Option, Some, None, refl, if◌then◌else◌}
+use Rattle.std.proofs.Common.{◌≡◌, ℕ, Bool, true, List, [], ◌∷◌, ◌++◌, map, Option, Some, None, refl, if◌then◌else◌}
 use Rattle.std.specs.Prelude.{bytes_eq, codes}
 use Rattle.nsi_base.specs.declared.flow.Flow.{Flow}
 use Rattle.nsi_primitive.specs.Ids.{id_of}
@@ -24,11 +24,11 @@ use Rattle.connection_record.specs.Moves.{event_of, reserves, is_live}
 use Rattle.connection_record.specs.Refusal.{has_row, is_in_place, unnamed_refusal, modification_refusal, refusal}
 use Rattle.connection_record.specs.Applied.{moves, closes, reservation_closing, provision_closing, requested, is_terminating, tells_plane}
 use Rattle.child_connection.specs.declared.state.Phase.{Phase}
-use Rattle.child_connection.specs.Views.{ChildConnection, is_kind, open_request}
+use Rattle.child_connection.specs.Views.{is_kind, open_request}
 use Rattle.child_connection.specs.Asks.{asks, request_about, reserve_for}
 use Rattle.child_connection.specs.Hearing.{hears as child_hears}
 use Rattle.agent_state.specs.declared.parent.Leg.{Leg}
-use Rattle.agent_state.specs.State.{AgentState, blank_agent, children_at, record_at}
+use Rattle.agent_state.specs.State.{AgentState, blank_agent, children_at}
 use Rattle.aggregator_agent.specs.Setting.{Setting}
 use Rattle.aggregator_agent.specs.Asking.{next_after, asked_view, next_behind, each, request_if, may_abort, reserve_if, passed_on, views_of, with_path}
 use Rattle.aggregator_agent.specs.Settling.{is_held, checked, reservation_verdict, reservation_due, provision_verdict, provision_due, settles_reservation, settles_provision, closes_unless, settles, settle}

@@ -5,7 +5,7 @@ use Rattle.std.specs.List.{All}
 use Rattle.nsi_primitive.specs.Printable.{IsPrintable, IsPrintableInput}
 use Rattle.nsi_primitive.specs.declared.entry.Entry.{Entry}
 use Rattle.nsi_primitive.specs.declared.message.Message.{Message}
-use Rattle.agent_state.specs.State.{AgentState, AgentStepped, counts_agent}
+use Rattle.agent_state.specs.State.{AgentState, AgentStepped}
 use Rattle.stp_topology.specs.declared.network.Network.{Network}
 use Rattle.agent_state.specs.declared.parent.Leg.{Leg}
 use Rattle.aggregator_agent.specs.declared.aggregator_core.Core.{Core}

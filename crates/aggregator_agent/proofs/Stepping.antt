@@ -1,12 +1,10 @@
 -- The state behind a step, from what its calls leave.
-use Rattle.std.proofs.Common.{ℕ, ◌+◌, ◌<◌, ◌≡◌, ◌∙◌, List, [], ◌∷◌, ◌++◌, map, filter, length, set, get_or, Option, Some, None, refl, sym, ap, arith}
-use Rattle.std.proofs.lemmas.List.{append-nil, length-map, map-set, map_push, get_or-map, get_or_push, set_at, set-get_or, length_push}
+use Rattle.std.proofs.Common.{ℕ, ◌+◌, ◌<◌, ◌≡◌, ◌∙◌, List, [], ◌∷◌, ◌++◌, filter, length, set, Some, refl, sym, ap, arith}
+use Rattle.std.proofs.lemmas.List.{append-nil, length-map, map-set, map_push, get_or-map, length_push}
 use Rattle.nsi_primitive.specs.Ids.{id_of}
 use Rattle.nsi_primitive.specs.declared.message.Message.{Message}
 use Rattle.nsi_primitive.specs.declared.message.ReserveRequest.{ReserveRequest}
-use Rattle.connection_record.specs.declared.record.Record.{Record}
 use Rattle.connection_record.specs.Moves.{fresh, service_of}
-use Rattle.child_connection.specs.Views.{ChildConnection}
 use Rattle.stp_topology.specs.declared.network.Network.{Network}
 use Rattle.agent_state.specs.declared.parent.Due.{Due}
 use Rattle.agent_state.specs.declared.parent.Leg.{Leg}
@@ -15,16 +13,14 @@ use Rattle.aggregator_agent.specs.declared.connection.Connection.{Connection}
 use Rattle.aggregator_agent.specs.declared.agent.Agent.{Agent}
 use Rattle.aggregator_agent.specs.declared.outbox.Outbox.{Outbox}
 use Rattle.aggregator_agent.specs.declared.said.Said.{Said}
-use Rattle.aggregator_agent.specs.Asking.{with_path}
 use Rattle.aggregator_agent.specs.Clock.{is_late, told_dues}
 use Rattle.aggregator_agent.specs.Setting.{Setting, setting_of}
 use Rattle.aggregator_agent.specs.Steps.{hears, ticks, request_at, opens_between, with_new}
-use Rattle.aggregator_agent.specs.Bonds.{Bond, bond, bonds, no_bond, bond_at, own_of, views_in, records_of, children_of, Done, AllDone, each_bond, answered, requested_bond, with_children, clocked_bond}
+use Rattle.aggregator_agent.specs.Bonds.{Bond, bond, no_bond, bond_at, own_of, views_in, records_of, children_of, Done, each_bond, answered, requested_bond, with_children, clocked_bond}
 use Rattle.aggregator_agent.specs.Core.{state_of}
 use Rattle.aggregator_agent.specs.Step.{stored, IsMade, IsEntered}
 use Rattle.aggregator_agent.specs.Requesting.{request_with}
-use Rattle.aggregator_agent.proofs.Touching.{read_at, put_at}
-use Rattle.aggregator_agent.proofs.AsRounds.{hear_as_round, clock_as_round, clock_keeps_children, clock_asks_nothing}
+use Rattle.aggregator_agent.proofs.AsRounds.{hear_as_round, clock_as_round, clock_keeps_children}
 
 -- what causes nothing makes nothing wait
 pub made_none : (s : AgentState) (out : List Message) → out ≡ [] → IsMade s out (stays s)
@@ -88,32 +84,14 @@ state_back bs cs o p next now taken e f g = rw (e, f, g) refl
 
 ---- A call that takes a request
 
--- what was done at a connection, whose request it was
-abbrev pub IsDoneWith : Bond → (o p : Outbox) → Said → Done → Type 0
-IsDoneWith new o p said x = IsEntered new o p said x.bond x.out x.dues x.next
-
-same_request : (agent : Agent) (now : ℕ) (m : Message) (number next : ℕ) (route : ℕ → ℕ → List Leg) (n : ℕ) (b c : Bond) → number ≡ n → b ≡ c → request_with agent now m number next route b ≡ request_with agent now m n next route c
-same_request agent now m number next route n b c f g = rw (f, g) refl
-
-pub asked_made : (t : Network) (agent : Agent) (now : ℕ) (m : Message) (number next : ℕ) (route : ℕ → ℕ → List Leg) (xs : List Connection) (n : ℕ) (x y : Connection) (o p : Outbox) (said : Said) (taken : ℕ) → n < length xs → x ≡ get_or xs n x
-    → number ≡ n → IsDoneWith (bond y) o p said (request_with agent now m number next route (bond x))
-    → IsMade (state_of (bonds (set xs n y)) p said.next now taken) said.out.items (request_at (setting_of t agent route) (state_of (bonds xs) o next now taken) n m)
-asked_made t agent now m number next route xs n x y o p said taken l is same_number r =
-    let bs = bonds xs in
-    let long = length-map xs bond in
-    let inside : n < length bs = omega (arith, long, l) in
-    let same = same_request agent now m number next route n (bond x) (bond_at n bs) same_number (read_at xs n x l is) in
-    record {
-      state =
-          requested_state (setting_of t agent route) m n bs (bonds (set xs n y)) o p next said.next now taken inside
-          (put_at xs n y ∙ ap (λ b. set bs n b) (r.bonds ∙ ap (λ (d : Done). d.bond) same)) (r.waits ∙ ap (λ (d : Done). record o.retry { waiting = o.retry.waiting ++ d.out }) same)
-          (r.dues ∙ ap (λ (d : Done). o.dues.items ++ d.dues) same) (r.next ∙ ap (λ (d : Done). d.next) same);
-      said = r.out ∙ ap (λ (d : Done). d.out) same ∙ sym (requested_out (setting_of t agent route) m n bs o next now taken inside);
-    }
-
--- where memory is wanting, the connection is what it was
-pub asked_back : (xs : List Connection) (n : ℕ) (x y : Connection) → n < length xs → x ≡ get_or xs n x → bond y ≡ bond x → bonds (set xs n y) ≡ bonds xs
-asked_back xs n x y l is back = put_at xs n y ∙ ap (λ b. set (bonds xs) n b) (back ∙ read_at xs n x l is) ∙ set-get_or (bonds xs) n no_bond
+pub requested_made : (t : Network) (agent : Agent) (now : ℕ) (m : Message) (next : ℕ) (route : ℕ → ℕ → List Leg) (n : ℕ) (bs cs : List Bond) (o p : Outbox) (said : Said) (taken : ℕ) → n < length bs →
+    let x = request_with agent now m n next route (bond_at n bs) in
+    IsEntered cs o p said (set bs n x.bond) x.out x.dues x.next →
+    IsMade (state_of cs p said.next now taken) said.out.items (request_at (setting_of t agent route) (state_of bs o next now taken) n m)
+requested_made t agent now m next route n bs cs o p said taken l r = record {
+  state = requested_state (setting_of t agent route) m n bs cs o p next said.next now taken l r.bonds r.waits r.dues r.next;
+  said = r.out ∙ sym (requested_out (setting_of t agent route) m n bs o next now taken l);
+}
 
 ---- A call that opens a connection
 
@@ -134,32 +112,23 @@ opens_as t agent now m route bs o next taken q points =
     ap (λ (s : AgentState). request_at setting s (length (records_of bs)) m) (with_new_is t agent now m route bs o next taken q points)
     ∙ ap (λ n. request_at setting (state_of (bs ++ new_bond agent m next q points ∷ []) o (next + 1) now taken) n m) (length-map bs own_of)
 
-opened_same : (agent : Agent) (now : ℕ) (m : Message) (number next : ℕ) (route : ℕ → ℕ → List Leg) (bs : List Bond) (x b : Bond) → number ≡ length bs → x ≡ b
-    → request_with agent now m number next route x ≡ request_with agent now m (length bs) next route (bond_at (length bs) (bs ++ b ∷ []))
-opened_same agent now m number next route bs x b f h = rw (f, h, get_or_push bs b no_bond (length bs) refl) refl
-
-pub opened_made : (t : Network) (agent : Agent) (now : ℕ) (m : Message) (number next : ℕ) (route : ℕ → ℕ → List Leg) (xs ys : List Connection) (x y : Connection) (o p : Outbox) (said : Said) (taken : ℕ) (q : ReserveRequest) (points : ℕ × ℕ)
-    → x.own ≡ (new_bond agent m next q points).own → x.children.items ≡ [] → number ≡ length xs → ys ≡ xs ++ y ∷ [] → IsDoneWith (bond y) o p said (request_with agent now m number (next + 1) route (bond x))
-    → IsMade (state_of (bonds ys) p said.next now taken) said.out.items (opens_between (Some points) (setting_of t agent route) (state_of (bonds xs) o next now taken) m q)
-opened_made t agent now m number next route xs ys x y o p said taken q points own children same_number joined r =
-    let bs = bonds xs in
-    let b = new_bond agent m next q points in
+pub opened_made : (t : Network) (agent : Agent) (now : ℕ) (m : Message) (next : ℕ) (route : ℕ → ℕ → List Leg) (bs cs : List Bond) (b : Bond) (o p : Outbox) (said : Said) (taken : ℕ) (q : ReserveRequest) (points : ℕ × ℕ) → b ≡ new_bond agent m next q points →
+    let x = request_with agent now m (length bs) (next + 1) route (bond_at (length bs) (bs ++ b ∷ [])) in
+    IsEntered cs o p said (set (bs ++ b ∷ []) (length bs) x.bond) x.out x.dues x.next →
+    IsMade (state_of cs p said.next now taken) said.out.items (opens_between (Some points) (setting_of t agent route) (state_of bs o next now taken) m q)
+opened_made t agent now m next route bs cs b o p said taken q points is r =
+    let setting = setting_of t agent route in
     let n = length bs in
-    let long : length bs ≡ length xs = length-map xs bond in
-    let is : bond x ≡ b = ap (λ z. record { own = z; children = x.children.items }) own ∙ ap (λ z. record { own = b.own; children = z }) children in
-    let same = opened_same agent now m number (next + 1) route bs (bond x) b (same_number ∙ sym long) is in
-    let pushed : bonds ys ≡ bs ++ bond y ∷ [] = ap bonds joined ∙ map_push bond xs y in
-    let put : set (bs ++ b ∷ []) n (bond y) ≡ bs ++ bond y ∷ [] = set_at bs b [] (bond y) n refl in
     let more = length_push bs b in
     let inside : n < length (bs ++ b ∷ []) = omega (arith, more) in
-    let whole = opens_as t agent now m route bs o next taken q points in
+    let made = requested_made t agent now m (next + 1) route n (bs ++ b ∷ []) cs o p said taken inside r in
+    let same : request_at setting (state_of (bs ++ b ∷ []) o (next + 1) now taken) n m ≡ opens_between (Some points) setting (state_of bs o next now taken) m q =
+    ap (λ z. request_at setting (state_of (bs ++ z ∷ []) o (next + 1) now taken) n m) is ∙ sym (opens_as t agent now m route bs o next taken q points) in
     record {
-      state =
-          requested_state (setting_of t agent route) m n (bs ++ b ∷ []) (bonds ys) o p (next + 1) said.next now taken inside
-          (pushed ∙ sym put ∙ ap (λ z. set (bs ++ b ∷ []) n z) (r.bonds ∙ ap (λ (d : Done). d.bond) same)) (r.waits ∙ ap (λ (d : Done). record o.retry { waiting = o.retry.waiting ++ d.out }) same)
-          (r.dues ∙ ap (λ (d : Done). o.dues.items ++ d.dues) same) (r.next ∙ ap (λ (d : Done). d.next) same)
-          ∙ ap stored (sym whole);
-      said =
-          r.out ∙ ap (λ (d : Done). d.out) same ∙ sym (requested_out (setting_of t agent route) m n (bs ++ b ∷ []) o (next + 1) now taken inside)
-          ∙ ap (λ (z : AgentStepped). z.out) (sym whole);
+      state = made.state ∙ ap stored same;
+      said = made.said ∙ ap (λ (z : AgentStepped). z.out) same;
     }
+
+-- the bond of a connection that was asked for nothing yet
+pub opened_bond : (x : Connection) (b : Bond) → x.own ≡ b.own → x.children.items ≡ b.children → bond x ≡ b
+opened_bond x b own children = ap (λ r. record { own = r; children = x.children.items }) own ∙ ap (λ xs. record { own = b.own; children = xs }) children

@@ -1,9 +1,7 @@
 -- The connection at a place among others.
-use Rattle.std.proofs.Common.{◌≡◌, ◌<◌, ◌∙◌, ℕ, List, length, map, set, get_or, Result, Ok, Err, refl, sym, ap, subst, arith}
+use Rattle.std.proofs.Common.{◌≡◌, ◌<◌, ◌∙◌, ℕ, List, length, set, get_or, Result, Ok, Err, sym, ap, subst}
 use Rattle.std.specs.declared.alloc.AllocError.{AllocError}
-use Rattle.std.proofs.lemmas.List.{length-map, map-set, get_or-map}
-use Rattle.connection_record.specs.Later.{IsLater, saved_of}
-use Rattle.connection_record.specs.declared.record.Record.{Record}
+use Rattle.std.proofs.lemmas.List.{map-set, get_or-map}
 use Rattle.aggregator_agent.specs.declared.connection.Connection.{Connection}
 use Rattle.aggregator_agent.specs.declared.said.Said.{Said}
 use Rattle.aggregator_agent.specs.Bonds.{Bond, no_bond, bond, bonds, bond_at, Done, IsDone, IsDoneAt}

@@ -1,26 +1,31 @@
 -- How connections that were touched are made what they were.
-use Rattle.std.proofs.Common.{◌≡◌, ◌≢◌, ◌<◌, ◌≤◌, ◌+◌, ℕ, Bool, eqb, true, false, List, [], ◌∷◌, ◌++◌, length, set, get_or, None, refl, sym, ap, subst, ◌∙◌, arith}
-use Rattle.std.proofs.lemmas.List.{length-set, length_push, get_or-set_same, get_or-set_other, get_or_append_left, get_or_push, ext_get_or}
+use Rattle.std.proofs.Common.{◌≡◌, ◌≢◌, ◌<◌, inl, inr, ℕ, Bool, eqb, true, false, Option, Some, None, List, [], ◌∷◌, ◌++◌, length, set, refl, sym, ap, subst, ◌∙◌, arith}
+use Rattle.std.proofs.lemmas.List.{length-set, get_or-set_same, get_or-set_other, set-get_or, ext_get_or}
+use Rattle.std.specs.Global.{Vec}
+use Rattle.std.specs.List.{Contains}
+use Rattle.std.proofs.lemmas.List.Elements.{Contains-append_left, Contains-push, Contains-push_cases}
+use Rattle.record_index.proofs.Members.{nothing_in}
 use Rattle.std.proofs.lemmas.Bool.Decides.{nat_tests}
 use Rattle.connection_record.specs.Later.{saved_of, IsLater}
+use Rattle.connection_record.proofs.Growing.{later_refl}
 use Rattle.child_connection.specs.Views.{ChildConnection}
 use Rattle.aggregator_agent.specs.declared.keeping.Kept.{Kept}
 use Rattle.aggregator_agent.specs.Bonds.{Bond, no_bond, bond_at}
-use Rattle.aggregator_agent.specs.Undo.{Keeps, IsFormer, CanUndo, no_kept, kept_at, views_back}
+use Rattle.aggregator_agent.specs.Undo.{Keeps, IsFormer, CanUndo, views_back}
 
 ---- A place and the others
 
-by_place : {A : Type 0} (k n : ℕ) → (k ≡ n → A) → (k ≢ n → A) → A
+pub by_place : {A : Type 0} (k n : ℕ) → (k ≡ n → A) → (k ≢ n → A) → A
 by_place {A} k n same differ = by_test (eqb k n) refl
   where
     by_test : (b : Bool) → eqb k n ≡ b → A
     by_test true e = same (grind (arith, nat_tests))
     by_test false e = differ (λ s. grind (arith, nat_tests))
 
-set_here : (bs : List Bond) (n : ℕ) (b : Bond) → n < length bs → bond_at n (set bs n b) ≡ b
+pub set_here : (bs : List Bond) (n : ℕ) (b : Bond) → n < length bs → bond_at n (set bs n b) ≡ b
 set_here bs n b l = get_or-set_same bs n b no_bond l
 
-set_elsewhere : (bs : List Bond) (n k : ℕ) (b : Bond) → k ≢ n → bond_at k (set bs n b) ≡ bond_at k bs
+pub set_elsewhere : (bs : List Bond) (n k : ℕ) (b : Bond) → k ≢ n → bond_at k (set bs n b) ≡ bond_at k bs
 set_elsewhere bs n k b differ = get_or-set_other bs n k b no_bond differ
 
 ---- One more is kept
@@ -33,94 +38,85 @@ pub former_own : (k : Kept) (was now : Bond) → k.own ≡ saved_of was.own → 
 former_own k was now own none later same = record { own = own; later = later; children = ap (λ o. views_back o now.children) none ∙ same }
 
 pub undo_none : (bs : List Bond) (ks : List Kept) → ks ≡ [] → CanUndo bs bs ks
-undo_none bs ks e =
-    let none : length ks ≡ 0 = ap length e in
-    record {
-      long = refl;
-      few = omega (arith, none);
-      each = λ n l. absurd (omega (arith, none, l));
-      rest = λ n l. refl;
-    }
+undo_none bs ks e = rw e (record {
+  long = refl;
+  within = λ k has. absurd (nothing_in k has);
+  each = λ k has. absurd (nothing_in k has);
+  rest = λ n h. refl;
+})
 
--- the next one is kept, and becomes another
-pub undo_more : (old now : List Bond) (ks : List Kept) (k : Kept) (place : ℕ) (b : Bond) → length ks ≡ place → place < length now → IsFormer k (bond_at place now) b → CanUndo old now ks
-    → CanUndo old (set now place b) (ks ++ k ∷ [])
-undo_more old now ks k place b next within former undo =
-    let more : length (ks ++ k ∷ []) ≡ length ks + 1 = length_push ks k in
-    record {
-      long = length-set now place b ∙ undo.long;
-      few = omega (arith, more, next, within, undo.long);
-      each = λ n l. by_place n place
-          (λ e.
-          let kept : kept_at n (ks ++ k ∷ []) ≡ k = get_or_push ks k no_kept n (next ∙ sym e) in
-          let was : bond_at place now ≡ bond_at n old = undo.rest place (omega (arith, next)) ∙ ap (λ i. bond_at i old) (sym e) in
-          let is : bond_at n (set now place b) ≡ b = ap (λ i. bond_at i (set now place b)) e ∙ set_here now place b within in
-          subst (λ x. IsFormer x (bond_at n old) (bond_at n (set now place b))) (sym kept)
-          (subst (λ x. IsFormer k x (bond_at n (set now place b))) was (subst (IsFormer k (bond_at place now)) (sym is) former)))
-          (λ d.
-          let less : n < length ks = omega (arith, more, l, next, d) in
-          let kept : kept_at n (ks ++ k ∷ []) ≡ kept_at n ks = get_or_append_left ks (k ∷ []) no_kept n less in
-          subst (λ x. IsFormer x (bond_at n old) (bond_at n (set now place b))) (sym kept)
-          (subst (IsFormer (kept_at n ks) (bond_at n old)) (sym (set_elsewhere now place n b d)) (undo.each n less)));
-      rest = λ n l.
-          let differ : n ≢ place = (λ e. omega (arith, more, next, l, e)) in
-          set_elsewhere now place n b differ ∙ undo.rest n (omega (arith, more, l));
-    }
+-- the one at a place is kept, and becomes another
+pub undo_more : (old now : List Bond) (ks : List Kept) (k : Kept) (b : Bond) → k.place < length now → ((x : Kept) → Contains ks x → x.place ≢ k.place) → IsFormer k (bond_at k.place now) b → CanUndo old now ks
+    → CanUndo old (set now k.place b) (ks ++ k ∷ [])
+undo_more old now ks k b within new former undo = record {
+  long = length-set now k.place b ∙ undo.long;
+  within = λ x has. elim (Contains-push_cases ks k x has) [
+    | inl there ↦ undo.within x there
+    | inr e ↦ subst (λ (y : Kept). y.place < length old) e (omega (arith, within, undo.long))
+  ];
+  each = λ x has. elim (Contains-push_cases ks k x has) [
+    | inl there ↦ subst (IsFormer x (bond_at x.place old)) (sym (set_elsewhere now k.place x.place b (new x there))) (undo.each x there)
+    | inr e ↦ subst (λ (y : Kept). IsFormer y (bond_at y.place old) (bond_at y.place (set now k.place b))) e here
+  ];
+  rest = λ n h.
+      let differ : n ≢ k.place = λ e. h k (Contains-push ks k) (sym e) in
+      set_elsewhere now k.place n b differ ∙ undo.rest n (λ x has. h x (Contains-append_left ks (k ∷ []) x has));
+}
+  where
+    was : bond_at k.place now ≡ bond_at k.place old
+    was = undo.rest k.place new
 
--- the same, where one is kept and stays
-pub undo_kept : (old now : List Bond) (ks : List Kept) (k : Kept) → length ks < length now → IsFormer k (bond_at (length ks) now) (bond_at (length ks) now) → CanUndo old now ks → CanUndo old now (ks ++ k ∷ [])
-undo_kept old now ks k within former undo =
-    let more : length (ks ++ k ∷ []) ≡ length ks + 1 = length_push ks k in
-    record {
-      long = undo.long;
-      few = omega (arith, more, within, undo.long);
-      each = λ n l. by_place n (length ks)
-          (λ e.
-          let kept : kept_at n (ks ++ k ∷ []) ≡ k = get_or_push ks k no_kept n (sym e) in
-          let was : bond_at (length ks) now ≡ bond_at n old = undo.rest (length ks) (omega arith) ∙ ap (λ i. bond_at i old) (sym e) in
-          subst (λ x. IsFormer x (bond_at n old) (bond_at n now)) (sym kept)
-          (subst (λ x. IsFormer k x (bond_at n now)) was (subst (λ i. IsFormer k (bond_at (length ks) now) (bond_at i now)) (sym e) former)))
-          (λ d.
-          let less : n < length ks = omega (arith, more, l, d) in
-          let kept : kept_at n (ks ++ k ∷ []) ≡ kept_at n ks = get_or_append_left ks (k ∷ []) no_kept n less in
-          subst (λ x. IsFormer x (bond_at n old) (bond_at n now)) (sym kept) (undo.each n less));
-      rest = λ n l. undo.rest n (omega (arith, more, l));
-    }
+    here : IsFormer k (bond_at k.place old) (bond_at k.place (set now k.place b))
+    here = subst (IsFormer k (bond_at k.place old)) (sym (set_here now k.place b within)) (subst (λ x. IsFormer k x b) was former)
+
+-- the same, where it stays
+pub undo_kept : (old now : List Bond) (ks : List Kept) (k : Kept) → k.place < length now → ((x : Kept) → Contains ks x → x.place ≢ k.place) → IsFormer k (bond_at k.place now) (bond_at k.place now) → CanUndo old now ks
+    → CanUndo old now (ks ++ k ∷ [])
+undo_kept old now ks k within new former undo =
+    subst (λ bs. CanUndo old bs (ks ++ k ∷ [])) (set-get_or now k.place no_bond) (undo_more old now ks k (bond_at k.place now) within new former undo)
 
 ---- One is put back
 
-pub former_last : (old now : List Bond) (ks : List Kept) (k : Kept) → CanUndo old now (ks ++ k ∷ []) → IsFormer k (bond_at (length ks) old) (bond_at (length ks) now)
-former_last old now ks k undo =
-    let more : length (ks ++ k ∷ []) ≡ length ks + 1 = length_push ks k in
-    let kept : kept_at (length ks) (ks ++ k ∷ []) ≡ k = get_or_push ks k no_kept (length ks) refl in
-    subst (λ x. IsFormer x (bond_at (length ks) old) (bond_at (length ks) now)) kept (undo.each (length ks) (omega (arith, more)))
+pub former_last : (old now : List Bond) (ks : List Kept) (k : Kept) → CanUndo old now (ks ++ k ∷ []) → IsFormer k (bond_at k.place old) (bond_at k.place now)
+former_last old now ks k undo = undo.each k (Contains-push ks k)
 
-pub undo_less : (old now after : List Bond) (ks : List Kept) (k : Kept) → CanUndo old now (ks ++ k ∷ []) → after ≡ set now (length ks) (bond_at (length ks) old) → CanUndo old after ks
+views_same : (copies : Option (Vec ChildConnection)) (was now : List ChildConnection) → views_back copies now ≡ was → views_back copies was ≡ was
+views_same None was now e = refl
+views_same (Some v) was now e = e
+
+-- what is put back can be put back again
+former_again : (k : Kept) (was now : Bond) → IsFormer k was now → IsFormer k was was
+former_again k was now f = record { own = f.own; later = later_refl was.own; children = views_same k.children was.children now.children f.children }
+
+pub undo_less : (old now after : List Bond) (ks : List Kept) (k : Kept) → CanUndo old now (ks ++ k ∷ []) → after ≡ set now k.place (bond_at k.place old) → CanUndo old after ks
 undo_less old now after ks k undo is = subst (λ z. CanUndo old z ks) (sym is) less
   where
-    n : ℕ
-    n = length ks
+    back : Bond
+    back = bond_at k.place old
 
-    more : length (ks ++ k ∷ []) ≡ n + 1
-    more = length_push ks k
+    inside : k.place < length now
+    inside = let l = undo.within k (Contains-push ks k) in let long = undo.long in omega (arith, l, long)
 
-    less : CanUndo old (set now n (bond_at n old)) ks
+    has_more : (x : Kept) → Contains ks x → Contains (ks ++ k ∷ []) x
+    has_more x has = Contains-append_left ks (k ∷ []) x has
+
+    less : CanUndo old (set now k.place back) ks
     less = record {
-      long = length-set now n (bond_at n old) ∙ undo.long;
-      few = let few = undo.few in omega (arith, more, few);
-      each = λ i l.
-          let differ : i ≢ n = (λ e. omega (arith, l, e)) in
-          let kept : kept_at i (ks ++ k ∷ []) ≡ kept_at i ks = get_or_append_left ks (k ∷ []) no_kept i l in
-          subst (IsFormer (kept_at i ks) (bond_at i old)) (sym (set_elsewhere now n i (bond_at n old) differ))
-          (subst (λ x. IsFormer x (bond_at i old) (bond_at i now)) kept (undo.each i (omega (arith, more, l))));
-      rest = λ i l. by_place i n
+      long = length-set now k.place back ∙ undo.long;
+      within = λ x has. undo.within x (has_more x has);
+      each = λ x has. by_place x.place k.place
           (λ e.
-          let within : n < length now = (let few = undo.few in let long = undo.long in omega (arith, more, few, long)) in
-          ap (λ j. bond_at j (set now n (bond_at n old))) e ∙ set_here now n (bond_at n old) within ∙ ap (λ j. bond_at j old) (sym e))
-          (λ d. set_elsewhere now n i (bond_at n old) d ∙ undo.rest i (omega (arith, more, l, d)));
+          let was : back ≡ bond_at x.place old = ap (λ i. bond_at i old) (sym e) in
+          let is_back : bond_at x.place (set now k.place back) ≡ bond_at x.place old = ap (λ i. bond_at i (set now k.place back)) e ∙ (set_here now k.place back inside ∙ was) in
+          subst (IsFormer x (bond_at x.place old)) (sym is_back) (former_again x (bond_at x.place old) (bond_at x.place now) (undo.each x (has_more x has))))
+          (λ d. subst (IsFormer x (bond_at x.place old)) (sym (set_elsewhere now k.place x.place back d)) (undo.each x (has_more x has)));
+      rest = λ n h. by_place n k.place
+          (λ e. ap (λ i. bond_at i (set now k.place back)) e ∙ (set_here now k.place back inside ∙ ap (λ i. bond_at i old) (sym e)))
+          (λ d. set_elsewhere now k.place n back d ∙ undo.rest n (λ x has. elim (Contains-push_cases ks k x has) [
+            | inl there ↦ h x there
+            | inr e ↦ (λ s. d (sym s ∙ ap (λ (y : Kept). y.place) (sym e)))
+          ]));
     }
 
 pub all_back : (old now : List Bond) (ks : List Kept) → ks ≡ [] → CanUndo old now ks → now ≡ old
-all_back old now ks e undo =
-    let none : length ks ≡ 0 = ap length e in
-    ext_get_or no_bond now old undo.long (λ n l. undo.rest n (omega (arith, none)))
+all_back old now ks e undo = ext_get_or no_bond now old undo.long (λ n l. undo.rest n (λ k has. absurd (nothing_in k (subst (λ xs. Contains xs k) e has))))

@@ -1,11 +1,9 @@
 -- An aggregator's fields as a standing.
 use Rattle.std.specs.Prelude.{ℕ, [], List}
-use Rattle.message_retry.specs.Retry.{Retry}
-use Rattle.agent_state.specs.declared.parent.Due.{Due}
-use Rattle.agent_state.specs.State.{State, AgentState}
+use Rattle.agent_state.specs.State.{AgentState}
 use Rattle.aggregator_agent.specs.declared.aggregator_core.Core.{Core}
 use Rattle.aggregator_agent.specs.declared.outbox.Outbox.{Outbox}
-use Rattle.aggregator_agent.specs.Bonds.{Bond, bonds, records_of, children_of}
+use Rattle.aggregator_agent.specs.Bonds.{Bond, records_of, children_of}
 use Rattle.aggregator_agent.specs.Setting.{Standing}
 
 -- the state whose connections are these
@@ -28,7 +26,7 @@ state_of bs o next now taken =
     }
 
 abbrev pub state_at : Core → AgentState
-state_at d = state_of (bonds d.connections.items) d.outbox d.next d.now d.taken
+state_at d = state_of d.connections d.outbox d.next d.now d.taken
 
 abbrev pub standing_at : Core → Standing
 standing_at d = record { agent = d.agent; state = state_at d }

@@ -14,3 +14,6 @@ pub mod Step
 pub mod Good
 pub mod Laws
 pub mod Requesting
+pub mod Indexed
+pub mod Settled
+pub mod Finding

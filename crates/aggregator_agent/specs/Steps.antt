@@ -1,5 +1,5 @@
 -- One entry at an aggregator.
-use Rattle.std.specs.Prelude.{ℕ, ◌+◌, Bool, true, false, not, List, [], ◌∷◌, ◌++◌, ◌==◌, ◌&&◌, nat_lt, length, slice_set, Option, Some, None}
+use Rattle.std.specs.Prelude.{ℕ, ◌+◌, Bool, true, false, not, List, [], ◌∷◌, ◌++◌, ◌&&◌, nat_lt, length, slice_set, Option, Some, None}
 use Rattle.nsi_primitive.specs.Ids.{id_of}
 use Rattle.nsi_primitive.specs.Messages.{is_request, is_query, connection_of}
 use Rattle.nsi_primitive.specs.declared.kind.ErrorName.{ErrorName}
@@ -9,9 +9,8 @@ use Rattle.nsi_primitive.specs.declared.message.Message.{Message}
 use Rattle.nsi_primitive.specs.declared.message.ReserveRequest.{ReserveRequest}
 use Rattle.nsi_primitive.specs.declared.entry.Entry.{Entry}
 use Rattle.nsi_primitive.specs.declared.entry.Input.{Input}
-use Rattle.message_retry.specs.Retry.{Retry, is_old, saw, without}
+use Rattle.message_retry.specs.Retry.{is_old, saw, without}
 use Rattle.connection_record.specs.declared.record.Record.{Record}
-use Rattle.connection_record.specs.Replies.{plain}
 use Rattle.connection_record.specs.Moves.{fresh, service_of}
 use Rattle.connection_record.specs.Refusal.{refusal, place_of, points_of}
 use Rattle.child_connection.specs.Views.{ChildConnection}

@@ -1,8 +1,7 @@
 -- The turn of a connection: by a request of its owner, and by a message of a child.
-use Rattle.std.specs.Prelude.{ℕ, Bool, true, false, ◌&&◌, List, [], ◌∷◌, ◌++◌, Option, Some, None, map, is_none}
+use Rattle.std.specs.Prelude.{ℕ, Bool, true, false, ◌&&◌, List, ◌++◌, Option, Some, None, map, is_none}
 use Rattle.std.specs.List.{list_any}
 use Rattle.nsi_primitive.specs.Ids.{id_of}
-use Rattle.nsi_primitive.specs.Messages.{kind_of}
 use Rattle.nsi_primitive.specs.declared.kind.Kind.{Kind}
 use Rattle.nsi_primitive.specs.declared.plane.Plane.{Plane}
 use Rattle.nsi_primitive.specs.declared.state.Side.{Side}

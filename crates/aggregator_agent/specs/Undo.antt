@@ -1,9 +1,8 @@
 -- How what is done to connections is taken back.
-use Rattle.std.specs.Prelude.{◌≡◌, ◌<◌, ◌≤◌, ℕ, List, length, get_or, Option, Some, None}
+use Rattle.std.specs.Prelude.{◌≡◌, ◌≢◌, ◌<◌, ℕ, List, length, Contains, Option, Some, None}
 use Rattle.std.specs.Global.{Vec}
 use Rattle.connection_record.specs.Later.{saved_of, IsLater}
 use Rattle.child_connection.specs.Views.{ChildConnection}
-use Rattle.agent_state.specs.State.{no_record}
 use Rattle.aggregator_agent.specs.declared.keeping.Kept.{Kept}
 use Rattle.aggregator_agent.specs.Bonds.{Bond, bond_at}
 
@@ -23,15 +22,9 @@ pub record IsFormer (k : Kept) (was now : Bond) : Type 0 where
   pub later : IsLater was.own now.own
   pub children : views_back k.children now.children ≡ was.children
 
-abbrev pub no_kept : Kept
-no_kept = record { own = saved_of no_record; children = None }
-
-abbrev pub kept_at : ℕ → List Kept → Kept
-kept_at n ks = get_or ks n no_kept
-
--- the first ones can be put back, and the others are what they were
+-- each that is kept can be put back, and the others are what they were
 pub record CanUndo (old now : List Bond) (ks : List Kept) : Type 0 where
   pub long : length now ≡ length old
-  pub few : length ks ≤ length old
-  pub each : (n : ℕ) → n < length ks → IsFormer (kept_at n ks) (bond_at n old) (bond_at n now)
-  pub rest : (n : ℕ) → length ks ≤ n → bond_at n now ≡ bond_at n old
+  pub within : (k : Kept) → Contains ks k → k.place < length old
+  pub each : (k : Kept) → Contains ks k → IsFormer k (bond_at k.place old) (bond_at k.place now)
+  pub rest : (n : ℕ) → ((k : Kept) → Contains ks k → k.place ≢ n) → bond_at n now ≡ bond_at n old

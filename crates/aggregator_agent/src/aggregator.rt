@@ -6,7 +6,7 @@ ghost use Rattle.std.specs.List.{All};
 ghost use Rattle.std.specs.Map.Iter.{ShowsInOrder, deref};
 ghost use Rattle.nsi_primitive.specs.declared.message.Message.{Message as MessageValue};
 ghost use Rattle.nsi_primitive.specs.Printable.{IsPrintable, IsPrintableInput};
-ghost use Rattle.message_retry.specs.Retry.{is_old};
+ghost use Rattle.message_retry.specs.Retry.{is_old, is_waiting};
 ghost use Rattle.agent_state.specs.declared.parent.Leg.{Leg as LegValue};
 ghost use Rattle.agent_state.specs.State.{blank_agent};
 ghost use Rattle.agent_state.specs.Entries.{retry_of};
@@ -20,7 +20,7 @@ use crate::aggregator_core::Core;
 use crate::connection::Connection;
 use crate::laws::every_entry;
 use nsi_base::{AgentNo, Second};
-use nsi_primitive::{Entry, Message};
+use nsi_primitive::{Entry, Identity, Message};
 use std::alloc::{AllocError, Global};
 use std::collections::btree_map::Values;
 use std::marker::Model;
@@ -97,7 +97,14 @@ impl Aggregator {
         ensures records { records_of (bonds result.now) ≡ self.now.state.base.records }
         ensures children { children_of (bonds result.now) ≡ self.now.state.children }
     {
-        &self.core.connections
+        self.core.connections.items()
+    }
+
+    /// Whether a message of the identity waits for its acknowledgement. It takes no memory, and doesn't go over all that wait.
+    pub fn waits(&self, identity: &Identity) -> bool
+        ensures { result ≡ is_waiting identity.now self.now.state.base.waiting }
+    {
+        self.core.outbox.retry.waits(identity)
     }
 
     /// The messages that wait for their acknowledgement, in the order in which they were caused. It takes no memory.

@@ -9,11 +9,10 @@ ghost use Rattle.aggregator_agent.specs.Step.{IsStep, IsStepBy, IsTakenBy};
 
 use crate::agent::Agent;
 use crate::clock::Clocking;
-use crate::connection::Connection;
+use crate::connection_table::ConnectionTable;
 use crate::entering::Entering;
 use crate::late::find_late;
 use crate::outbox::Outbox;
-use crate::rounds::{clock_all, hear_all};
 use message_retry::Retry;
 use nsi_base::{AgentNo, Second};
 use nsi_primitive::{Entry, Input, Message};
@@ -24,7 +23,7 @@ use stp_topology::Topology;
 #[derive(Drop)]
 pub struct Core {
     pub agent: Agent,
-    pub connections: Vec<Connection>,
+    pub connections: ConnectionTable,
     pub outbox: Outbox,
     pub now: Second,
     /// How many entries were taken.
@@ -48,7 +47,7 @@ impl Core {
                 name,
                 number: agent,
             },
-            connections: Vec::new(alloc),
+            connections: ConnectionTable::new(alloc),
             outbox: Outbox {
                 retry: Retry::new(alloc),
                 dues: Vec::new(alloc),
@@ -113,7 +112,7 @@ impl Core {
             second: self.now,
         };
         let connections = &mut self.connections;
-        let said = hear_all(alloc, connections, &mut self.outbox, &entering, self.next)?;
+        let said = connections.hear(alloc, &mut self.outbox, &entering, self.next)?;
         self.next = said.next;
         Ok(said.out)
     }
@@ -131,7 +130,7 @@ impl Core {
             second: now,
         };
         let connections = &mut self.connections;
-        let said = clock_all(alloc, connections, &mut self.outbox, &clocking, self.next)?;
+        let said = connections.clock(alloc, &mut self.outbox, &clocking, self.next)?;
         self.outbox.dues = lateness.told;
         self.now = now;
         self.next = said.next;

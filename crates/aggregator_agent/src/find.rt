@@ -1,29 +1,41 @@
 //! How a connection is found.
 
-ghost use Rattle.std.specs.Prelude.{◌≡◌, ◌<◌, length, position, IfSome, IfOk};
+ghost use Rattle.std.specs.Prelude.{◌≡◌, ◌<◌, length, slice_index_or, IfSome, IfOk};
+ghost use Rattle.aggregator_agent.specs.declared.connection.Connection.{Connection as ConnectionValue};
 ghost use Rattle.connection_record.specs.Refusal.{place_of};
 ghost use Rattle.aggregator_agent.specs.Bonds.{bonds, records_of, is_owned};
+ghost use Rattle.aggregator_agent.specs.Finding.{AreOwned};
 
 use crate::connection::Connection;
 use nsi_base::{Name, RecordNo};
 use nsi_primitive::Id;
 use std::alloc::AllocError;
 
-/// The place of the connection with that id, where it is the owner's.
-pub fn place_of(connections: &[Connection], id: Id, owner: &Name) -> Option<usize>
+/// The place of the connection with that id, where it is the owner's. It is looked for at places among which it is.
+pub fn place_among(
+    connections: &[Connection],
+    places: &[usize],
+    id: Id,
+    owner: &Name,
+) -> Option<usize>
+    requires { AreOwned id owner.now connections.now places.now }
     ensures place { result ≡ place_of id owner.now (records_of (bonds connections.now)) }
     ensures within { IfSome result (λ n. n < length connections.now) }
 {
-    position_of(connections, id, owner)
+    for place in places {
+        if is_owned_at(connections, *place, id, owner) {
+            return Some(*place);
+        }
+    }
+    None
 }
 
-fn position_of(connections: &[Connection], id: Id, owner: &Name) -> Option<usize>
-    ensures place { result ≡ position (is_owned id owner.now) connections.now }
-    ensures within { IfSome result (λ n. n < length connections.now) }
+fn is_owned_at(connections: &[Connection], place: usize, id: Id, owner: &Name) -> bool
+    requires { place < length connections.now }
+    ensures { (x : ConnectionValue) →
+        result ≡ is_owned id owner.now (slice_index_or connections.now place x) }
 {
-    connections
-        .iter()
-        .position(|connection| is_of(connection, id, owner))
+    is_of(&connections[place], id, owner)
 }
 
 fn is_of(connection: &Connection, id: Id, owner: &Name) -> bool

@@ -7,6 +7,8 @@ mod aggregator_core;
 mod asking;
 mod clock;
 pub mod connection;
+mod connection_index;
+mod connection_table;
 mod entering;
 mod find;
 mod hearing;

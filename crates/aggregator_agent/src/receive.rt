@@ -1,6 +1,6 @@
 //! How messages are taken.
 
-ghost use Rattle.std.specs.Prelude.{◌≡◌, ◌<◌, ◌∷◌, ◌++◌, [], length, vec_len, vec_capacity, IfOk, IfSome, IsSome, None, Some};
+ghost use Rattle.std.specs.Prelude.{◌≡◌, ◌<◌, ◌∷◌, [], length, IfOk, IfSome, IsSome, None, Some};
 ghost use Rattle.nsi_primitive.specs.Messages.{is_request, connection_of};
 ghost use Rattle.nsi_primitive.specs.declared.message.Body.{Body as BodyValue};
 ghost use Rattle.connection_record.specs.Moves.{fresh, service_of};
@@ -14,8 +14,6 @@ ghost use Rattle.aggregator_agent.specs.Step.{IsStep, IsStepBy, takes_new};
 use crate::aggregator_core::Core;
 use crate::connection::Connection;
 use crate::entering::Entering;
-use crate::find::{number_of, place_of};
-use crate::requesting::{Start, request};
 use agent_state::{refusal_of, service_of};
 use connection_record::Record;
 use connection_record::refusal::schedule_refusal;
@@ -89,10 +87,11 @@ impl Core {
         let Some(id) = message.body.connection() else {
             return self.open(alloc, topology, message);
         };
-        let Some(place) = place_of(&self.connections, id, &header.requester) else {
+        let found = self.connections.place_of(alloc, id, &header.requester)?;
+        let Some(place) = found else {
             return self.refuse(alloc, message, ErrorName::Nonexistent);
         };
-        match self.connections[place].own.refusal(&message.body) {
+        match self.connections.refusal_at(place, &message.body) {
             Some(error) => self.refuse(alloc, message, error),
             None => self.request_at(alloc, topology, place, message),
         }
@@ -123,7 +122,7 @@ impl Core {
         }
     }
 
-    /// Makes a connection between two points, which takes its first request. There is room for it before anything is said.
+    /// Makes a connection between two points, which takes its first request.
     fn open_between(
         &mut self,
         alloc: Global,
@@ -139,21 +138,17 @@ impl Core {
             (λ setting s. opens_between (Some points) setting s message.now reserve.now) }
         ensures taken { self.new.taken ≡ self.old.taken }
     {
-        self.connections.reserve(1)?;
         let id = self.agent.id(self.next)?;
-        let mut connection = opened(alloc, id, message, reserve, points)?;
-        let start = Start {
-            number: number_of(self.connections.len())?,
-            next: self.next + 1,
-        };
+        let connection = opened(alloc, id, message, reserve, points)?;
         let entering = Entering {
             agent: &self.agent,
             message,
             second: self.now,
         };
+        let next = self.next + 1;
+        let connections = &mut self.connections;
         let outbox = &mut self.outbox;
-        let said = request(alloc, topology, &mut connection, outbox, &entering, start)?;
-        push_in_room(&mut self.connections, connection);
+        let said = connections.open(alloc, topology, connection, outbox, &entering, next)?;
         self.next = said.next;
         Ok(said.out)
     }
@@ -166,24 +161,21 @@ impl Core {
         place: usize,
         message: &Message,
     ) -> Result<Vec<Message>, AllocError>
-        requires { place < length self.old.connections.items }
+        requires { place < length self.old.connections }
         ensures step { let m = message.now in
             IsStepBy topology.now self.old self.new result
             (λ setting s. request_at setting s place m) }
         ensures taken { self.new.taken ≡ self.old.taken }
     {
-        let start = Start {
-            number: number_of(place)?,
-            next: self.next,
-        };
         let entering = Entering {
             agent: &self.agent,
             message,
             second: self.now,
         };
-        let connection = &mut self.connections[place];
+        let next = self.next;
+        let connections = &mut self.connections;
         let outbox = &mut self.outbox;
-        let said = request(alloc, topology, connection, outbox, &entering, start)?;
+        let said = connections.request_at(alloc, topology, place, outbox, &entering, next)?;
         self.next = said.next;
         Ok(said.out)
     }
@@ -229,16 +221,6 @@ fn opened(
         own: Record::new(alloc, id, owner, service, source, dest),
         children: Vec::new(alloc),
     })
-}
-
-/// A connection joins the others, for which there is room.
-fn push_in_room(connections: &mut Vec<Connection>, connection: Connection)
-    requires { vec_len connections.old < vec_capacity connections.old }
-    ensures { connections.new.items ≡ connections.old.items ++ connection ∷ [] }
-{
-    let Ok(()) = connections.push(connection) else {
-        unreachable!()
-    };
 }
 
 /// The two points that a first reserve names, where both are known.

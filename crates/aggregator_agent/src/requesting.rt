@@ -8,8 +8,10 @@ ghost use Rattle.aggregator_agent.specs.Asking.{with_path};
 ghost use Rattle.aggregator_agent.specs.Setting.{IsRoute};
 ghost use Rattle.aggregator_agent.specs.Bonds.{bond};
 ghost use Rattle.aggregator_agent.specs.Requesting.{IsRequested};
+ghost use Rattle.aggregator_agent.specs.Indexed.{Grows, IsNamedAgain};
 
 use crate::connection::Connection;
+use crate::connection_index::ConnectionIndex;
 use crate::entering::Entering;
 use crate::outbox::Outbox;
 use crate::route::views_between;
@@ -19,10 +21,11 @@ use nsi_primitive::{Body, Message};
 use std::alloc::{AllocError, Global};
 use stp_topology::Topology;
 
-/// Of which record, and the number of the next id.
+/// Of which record at which place, and the number of the next id.
 #[derive(Clone, Copy)]
 pub struct Start {
     pub number: RecordNo,
+    pub place: usize,
     pub next: u64,
 }
 
@@ -31,6 +34,7 @@ pub fn request(
     alloc: Global,
     topology: &Topology,
     connection: &mut Connection,
+    index: &mut ConnectionIndex,
     outbox: &mut Outbox,
     entering: &Entering<'_>,
     start: Start,
@@ -42,12 +46,15 @@ pub fn request(
     ensures some { IfOk result (λ said. (route : ℕ → ℕ → Sequence LegValue) ×
         IsRequested (bond connection.old) (bond connection.new)
         outbox.old outbox.new said entering.now start route) }
+    ensures grows { Grows index.old index.new }
+    ensures named { OnOk result
+        (IsNamedAgain index.new start.place (bond connection.old) (bond connection.new)) }
     ensures back { OnErr result (bond connection.new ≡ bond connection.old) }
     ensures unsaid { OnErr result (outbox.new.retry ≡ outbox.old.retry) }
     ensures undue { OnErr result (outbox.new.dues.items ≡ outbox.old.dues.items) }
 {
-    let kept = connection.keep(alloc)?;
-    match request_and_store(alloc, topology, connection, outbox, entering, start) {
+    let kept = connection.keep(alloc, start.place)?;
+    match request_and_store(alloc, topology, connection, index, outbox, entering, start) {
         Ok(said) => Ok(said),
         Err(error) => {
             connection.go_back(kept);
@@ -61,6 +68,7 @@ fn request_and_store(
     alloc: Global,
     topology: &Topology,
     connection: &mut Connection,
+    index: &mut ConnectionIndex,
     outbox: &mut Outbox,
     entering: &Entering<'_>,
     start: Start,
@@ -75,11 +83,16 @@ fn request_and_store(
     ensures unsaid { OnErr result (outbox.new.retry ≡ outbox.old.retry) }
     ensures undue { OnErr result (outbox.new.dues.items ≡ outbox.old.dues.items) }
     ensures later { IsLater connection.old.own connection.new.own }
+    ensures grows { Grows index.old index.new }
+    ensures named { OnOk result
+        (IsNamedAgain index.new start.place (bond connection.old) (bond connection.new)) }
 {
+    let before = connection.end();
     let aggregator = entering.agent.number;
     connection.find_children(alloc, topology, aggregator, entering.message)?;
     let mut said = Said::new(alloc, start.next);
     connection.take_request(alloc, &mut said, entering, start.number)?;
+    index.name(start.place, connection, before)?;
     outbox.store(alloc, &said)?;
     Ok(said)
 }

@@ -1,20 +1,27 @@
-//! An entry at all connections, one after another.
+//! An entry at the connections of which it makes something, one after another.
 
-ghost use Rattle.std.specs.Prelude.{◌≡◌, ◌<◌, ◌+◌, length, IfOk, OnOk, OnErr};
+ghost use Rattle.std.specs.Prelude.{◌≡◌, ◌≢◌, ◌<◌, ◌⊎◌, ◌↔◌, length, Contains, IfOk, OnOk, OnErr};
 ghost use Rattle.std.specs.Prelude.{List as Sequence};
+ghost use Rattle.record_index.specs.declared.deadlines.Deadline.{Deadline as DeadlineValue};
+ghost use Rattle.aggregator_agent.specs.declared.keeping.Kept.{Kept as KeptValue};
 ghost use Rattle.aggregator_agent.specs.Bonds.{Bond as BondValue};
-ghost use Rattle.aggregator_agent.specs.Bonds.{bonds, bond_at, answered, clocked_bond, each_bond, done_by, IsDoneAt};
+ghost use Rattle.aggregator_agent.specs.Bonds.{bond, bonds, bond_at, answered, clocked_bond, each_bond, done_by, IsDone, IsDoneAt};
+ghost use Rattle.aggregator_agent.specs.Indexed.{Grows, IsNamedAgain, IsNamedAgainAt, AreFound};
 ghost use Rattle.aggregator_agent.specs.Step.{IsStored, IsEntered};
 ghost use Rattle.aggregator_agent.specs.Undo.{CanUndo};
-ghost use Rattle.aggregator_agent.specs.Rounds.{IsBegun};
+ghost use Rattle.aggregator_agent.specs.Rounds.{IsBegun, AreTouched};
+ghost use Rattle.connection_record.specs.Later.{IsLater};
 
 use crate::clock::Clocking;
 use crate::connection::Connection;
+use crate::connection_index::ConnectionIndex;
 use crate::entering::Entering;
 use crate::find::number_of;
 use crate::keeping::{Kept, go_back};
 use crate::outbox::Outbox;
 use crate::said::Said;
+use nsi_base::RecordNo;
+use record_index::Deadlines;
 use std::alloc::{AllocError, Global};
 
 /// What those connections were that are done, and what is said.
@@ -24,14 +31,20 @@ pub struct Round {
     pub said: Said,
 }
 
-/// All connections hear a message of a child. Where memory is wanting, none has heard it.
+/// The connections at the places hear a message of a child. Where memory is wanting, none has heard it.
 pub fn hear_all(
     alloc: Global,
     connections: &mut Vec<Connection>,
+    index: &mut ConnectionIndex,
+    places: &[usize],
     outbox: &mut Outbox,
     entering: &Entering<'_>,
     next: u64,
 ) -> Result<Said, AllocError>
+    requires touched { let e = entering.now in
+        let does = answered e.agent.now e.second e.message.now in
+        AreTouched does (bonds connections.old.items) places.now }
+    requires found { AreFound index.old (bonds connections.old.items) }
     ensures done { let e = entering.now in
         let does = answered e.agent.now e.second e.message.now in
         let all = each_bond does 0 next (bonds connections.old.items) in
@@ -39,11 +52,12 @@ pub fn hear_all(
         outbox.old outbox.new said all.bonds all.out all.dues all.next) }
     ensures back { let old = bonds connections.old.items in
         OnErr result (bonds connections.new.items ≡ old) }
+    ensures found { AreFound index.new (bonds connections.new.items) }
     ensures unsaid { OnErr result (outbox.new.retry ≡ outbox.old.retry) }
     ensures undue { OnErr result (outbox.new.dues.items ≡ outbox.old.dues.items) }
 {
     let mut round = Round::new(alloc, next);
-    let heard = round.hear_and_store(alloc, connections, outbox, entering);
+    let heard = round.hear_and_store(alloc, connections, index, places, outbox, entering);
     let Round { kept, said } = round;
     match heard {
         Ok(()) => Ok(said),
@@ -54,14 +68,20 @@ pub fn hear_all(
     }
 }
 
-/// The clock of all connections goes on. Where memory is wanting, that of none does.
+/// The clock of the connections at the places goes on, and the ends that have come are forgotten. Where memory is wanting,
+/// that of none does.
 pub fn clock_all(
     alloc: Global,
     connections: &mut Vec<Connection>,
+    ends: &mut Deadlines,
+    places: &[usize],
     outbox: &mut Outbox,
     clocking: &Clocking<'_>,
     next: u64,
 ) -> Result<Said, AllocError>
+    requires { let e = clocking.now in
+        let does = clocked_bond e.agent.now e.second e.late.now in
+        AreTouched does (bonds connections.old.items) places.now }
     ensures done { let e = clocking.now in
         let does = clocked_bond e.agent.now e.second e.late.now in
         let all = each_bond does 0 next (bonds connections.old.items) in
@@ -69,14 +89,20 @@ pub fn clock_all(
         outbox.old outbox.new said all.bonds all.out all.dues all.next) }
     ensures back { let old = bonds connections.old.items in
         OnErr result (bonds connections.new.items ≡ old) }
+    ensures passed { OnOk result ((d : DeadlineValue) →
+        Contains ends.new d ↔ ((clocking.now.second < d.second) × Contains ends.old d)) }
+    ensures left { OnErr result (ends.new ≡ ends.old) }
     ensures unsaid { OnErr result (outbox.new.retry ≡ outbox.old.retry) }
     ensures undue { OnErr result (outbox.new.dues.items ≡ outbox.old.dues.items) }
 {
     let mut round = Round::new(alloc, next);
-    let clocked = round.clock_and_store(alloc, connections, outbox, clocking);
+    let clocked = round.clock_and_store(alloc, connections, places, outbox, clocking);
     let Round { kept, said } = round;
     match clocked {
-        Ok(()) => Ok(said),
+        Ok(()) => {
+            ends.pass(clocking.second);
+            Ok(said)
+        }
         Err(error) => {
             go_back(connections, kept);
             Err(error)
@@ -101,19 +127,27 @@ impl Round {
         &mut self,
         alloc: Global,
         connections: &mut Vec<Connection>,
+        index: &mut ConnectionIndex,
+        places: &[usize],
         outbox: &mut Outbox,
         entering: &Entering<'_>,
     ) -> Result<(), AllocError>
-        requires { IsBegun self.old }
+        requires begun { IsBegun self.old }
+        requires touched { let e = entering.now in
+            let does = answered e.agent.now e.second e.message.now in
+            AreTouched does (bonds connections.old.items) places.now }
+        requires found { AreFound index.old (bonds connections.old.items) }
         ensures done { let e = entering.now in
             let does = answered e.agent.now e.second e.message.now in
             let all = each_bond does 0 self.old.said.next (bonds connections.old.items) in
             OnOk result (done_by self.new.said (bonds connections.new.items) ≡ all) }
         ensures undo { CanUndo (bonds connections.old.items) (bonds connections.new.items)
             self.new.kept.items }
+        ensures grows { Grows index.old index.new }
+        ensures found { OnOk result (AreFound index.new (bonds connections.new.items)) }
         ensures stored { IsStored outbox.old outbox.new self.new.said result }
     {
-        self.hear_each(alloc, connections, entering)?;
+        self.hear_each(alloc, connections, index, places, entering)?;
         outbox.store(alloc, &self.said)
     }
 
@@ -121,47 +155,68 @@ impl Round {
         &mut self,
         alloc: Global,
         connections: &mut Vec<Connection>,
+        index: &mut ConnectionIndex,
+        places: &[usize],
         entering: &Entering<'_>,
     ) -> Result<(), AllocError>
-        requires { IsBegun self.old }
+        requires begun { IsBegun self.old }
+        requires touched { let e = entering.now in
+            let does = answered e.agent.now e.second e.message.now in
+            AreTouched does (bonds connections.old.items) places.now }
+        requires found { AreFound index.old (bonds connections.old.items) }
         ensures done { let e = entering.now in
             let does = answered e.agent.now e.second e.message.now in
             let all = each_bond does 0 self.old.said.next (bonds connections.old.items) in
             OnOk result (done_by self.new.said (bonds connections.new.items) ≡ all) }
         ensures undo { CanUndo (bonds connections.old.items) (bonds connections.new.items)
             self.new.kept.items }
+        ensures grows { Grows index.old index.new }
+        ensures found { OnOk result (AreFound index.new (bonds connections.new.items)) }
     {
-        for place in 0..connections.len() {
-            self.hear_at(alloc, connections, place, entering)?;
+        for place in places {
+            self.hear_at(alloc, connections, index, *place, entering)?;
         }
         Ok(())
     }
 
-    /// The connection at a place hears a message. It is kept first.
+    /// The connection at a place hears a message. It is kept first, and named anew.
     fn hear_at(
         &mut self,
         alloc: Global,
         connections: &mut Vec<Connection>,
+        index: &mut ConnectionIndex,
         place: usize,
         entering: &Entering<'_>,
     ) -> Result<(), AllocError>
         requires within { place < length connections.old.items }
-        requires next { length self.old.kept.items ≡ place }
+        requires new { (k : KeptValue) → Contains self.old.kept.items k → k.place ≢ place }
         ensures done { let e = entering.now in
             let does = answered e.agent.now e.second e.message.now in
             let one = does place self.old.said.next (bond_at place (bonds connections.old.items)) in
             IsDoneAt self.old.said self.new.said place
             (bonds connections.old.items) (bonds connections.new.items) result one }
-        ensures kept { OnOk result (length self.new.kept.items ≡ place + 1) }
+        ensures kept { OnOk result ((k : KeptValue) →
+            Contains self.new.kept.items k → Contains self.old.kept.items k ⊎ (k.place ≡ place)) }
         ensures undo { (was : Sequence BondValue) →
             CanUndo was (bonds connections.old.items) self.old.kept.items →
             CanUndo was (bonds connections.new.items) self.new.kept.items }
+        ensures grows { Grows index.old index.new }
+        ensures named { OnOk result (IsNamedAgainAt index.new place
+            (bonds connections.old.items) (bonds connections.new.items)) }
     {
         let number = number_of(place)?;
-        let kept = connections[place].keep(alloc)?;
+        let kept = connections[place].keep(alloc, place)?;
         self.kept.push(kept)?;
         let connection = &mut connections[place];
-        connection.take_answer(alloc, &mut self.said, entering, number)
+        hear_and_name(
+            alloc,
+            connection,
+            index,
+            &mut self.said,
+            entering,
+            number,
+            place,
+        )
     }
 
     /// The clock of the connections goes on, and what they say waits. Where memory is wanting that of some may have, and
@@ -170,10 +225,14 @@ impl Round {
         &mut self,
         alloc: Global,
         connections: &mut Vec<Connection>,
+        places: &[usize],
         outbox: &mut Outbox,
         clocking: &Clocking<'_>,
     ) -> Result<(), AllocError>
-        requires { IsBegun self.old }
+        requires begun { IsBegun self.old }
+        requires touched { let e = clocking.now in
+            let does = clocked_bond e.agent.now e.second e.late.now in
+            AreTouched does (bonds connections.old.items) places.now }
         ensures done { let e = clocking.now in
             let does = clocked_bond e.agent.now e.second e.late.now in
             let all = each_bond does 0 self.old.said.next (bonds connections.old.items) in
@@ -182,7 +241,7 @@ impl Round {
             self.new.kept.items }
         ensures stored { IsStored outbox.old outbox.new self.new.said result }
     {
-        self.clock_each(alloc, connections, clocking)?;
+        self.clock_each(alloc, connections, places, clocking)?;
         outbox.store(alloc, &self.said)
     }
 
@@ -190,9 +249,13 @@ impl Round {
         &mut self,
         alloc: Global,
         connections: &mut Vec<Connection>,
+        places: &[usize],
         clocking: &Clocking<'_>,
     ) -> Result<(), AllocError>
-        requires { IsBegun self.old }
+        requires begun { IsBegun self.old }
+        requires touched { let e = clocking.now in
+            let does = clocked_bond e.agent.now e.second e.late.now in
+            AreTouched does (bonds connections.old.items) places.now }
         ensures done { let e = clocking.now in
             let does = clocked_bond e.agent.now e.second e.late.now in
             let all = each_bond does 0 self.old.said.next (bonds connections.old.items) in
@@ -200,8 +263,8 @@ impl Round {
         ensures undo { CanUndo (bonds connections.old.items) (bonds connections.new.items)
             self.new.kept.items }
     {
-        for place in 0..connections.len() {
-            self.clock_at(alloc, connections, place, clocking)?;
+        for place in places {
+            self.clock_at(alloc, connections, *place, clocking)?;
         }
         Ok(())
     }
@@ -215,21 +278,46 @@ impl Round {
         clocking: &Clocking<'_>,
     ) -> Result<(), AllocError>
         requires within { place < length connections.old.items }
-        requires next { length self.old.kept.items ≡ place }
+        requires new { (k : KeptValue) → Contains self.old.kept.items k → k.place ≢ place }
         ensures done { let e = clocking.now in
             let does = clocked_bond e.agent.now e.second e.late.now in
             let one = does place self.old.said.next (bond_at place (bonds connections.old.items)) in
             IsDoneAt self.old.said self.new.said place
             (bonds connections.old.items) (bonds connections.new.items) result one }
-        ensures kept { OnOk result (length self.new.kept.items ≡ place + 1) }
+        ensures kept { OnOk result ((k : KeptValue) →
+            Contains self.new.kept.items k → Contains self.old.kept.items k ⊎ (k.place ≡ place)) }
         ensures undo { (was : Sequence BondValue) →
             CanUndo was (bonds connections.old.items) self.old.kept.items →
             CanUndo was (bonds connections.new.items) self.new.kept.items }
     {
         let number = number_of(place)?;
-        let kept = connections[place].keep_own();
+        let kept = connections[place].keep_own(place);
         self.kept.push(kept)?;
         let connection = &mut connections[place];
         connection.clock(alloc, &mut self.said, clocking, number)
     }
+}
+
+/// A connection hears a message, and is named as it stands then.
+fn hear_and_name(
+    alloc: Global,
+    connection: &mut Connection,
+    index: &mut ConnectionIndex,
+    said: &mut Said,
+    entering: &Entering<'_>,
+    number: RecordNo,
+    place: usize,
+) -> Result<(), AllocError>
+    ensures done { let e = entering.now in
+        let does = answered e.agent.now e.second e.message.now in
+        let one = does number said.old.next (bond connection.old) in
+        IsDone said.old said.new (bond connection.new) result one }
+    ensures later { IsLater connection.old.own connection.new.own }
+    ensures grows { Grows index.old index.new }
+    ensures named { OnOk result
+        (IsNamedAgain index.new place (bond connection.old) (bond connection.new)) }
+{
+    let before = connection.end();
+    connection.take_answer(alloc, said, entering, number)?;
+    index.name(place, connection, before)
 }

@@ -1,5 +1,9 @@
 mod Rows
-pub mod EachInPlace
 pub mod Asked
 pub mod Mild
 pub mod Entries
+pub mod Listens
+pub mod HeardAt
+pub mod Labelled
+pub mod Indexed
+pub mod Naming

@@ -7,3 +7,5 @@ pub mod Step
 pub mod Core
 pub mod Taking
 pub mod Laws
+pub mod Labels
+pub mod Indexed

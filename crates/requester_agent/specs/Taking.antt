@@ -41,4 +41,4 @@ IsTakenAs old new result makes = IsTakenOf (standing_at old) (standing_at new) r
 -- its views can be asked, and there is a next id
 pub record IsAskable (d : Core) : Type 0 where
   pub drawn : d.next ≤ 4194305
-  pub apart : All IsApart d.views.items
+  pub apart : All IsApart d.views

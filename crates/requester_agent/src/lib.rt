@@ -3,9 +3,11 @@
 
 mod asking;
 mod hearing;
+mod labels;
 pub mod laws;
 pub mod requester;
 mod requester_core;
+mod view_table;
 
 pub use requester::Requester;
 

@@ -5,7 +5,7 @@ ghost use Rattle.std.specs.List.{All};
 ghost use Rattle.std.specs.Map.Iter.{ShowsInOrder, deref};
 ghost use Rattle.nsi_primitive.specs.declared.message.Message.{Message as MessageValue};
 ghost use Rattle.nsi_primitive.specs.Printable.{IsPrintable, IsPrintableInput};
-ghost use Rattle.message_retry.specs.Retry.{is_old};
+ghost use Rattle.message_retry.specs.Retry.{is_old, is_waiting};
 ghost use Rattle.agent_state.specs.State.{blank_agent};
 ghost use Rattle.requester_agent.specs.Setting.{IsRequester, setting_of};
 ghost use Rattle.agent_state.specs.Entries.{retry_of};
@@ -16,7 +16,7 @@ use crate::laws::every_entry;
 use crate::requester_core::Core;
 use agent_state::View;
 use nsi_base::{AgentNo, Second};
-use nsi_primitive::{AskAnswer, Entry, Message};
+use nsi_primitive::{AskAnswer, Entry, Identity, Message};
 use std::alloc::{AllocError, Global};
 use std::collections::btree_map::Values;
 use std::marker::Model;
@@ -106,6 +106,13 @@ impl Requester {
         self.core.retry.is_old(message)
     }
 
+    /// Whether a message of the identity waits for its acknowledgement. It takes no memory, and doesn't go over all that wait.
+    pub fn waits(&self, identity: &Identity) -> bool
+        ensures { result ≡ is_waiting identity.now self.now.state.base.waiting }
+    {
+        self.core.retry.waits(identity)
+    }
+
     /// The messages that wait for their acknowledgement, in the order in which they were caused. It takes no memory.
     pub fn waiting(&self) -> Values<'_, u64, Message>
         ensures rest { result ≡ self.now.state.base.waiting }
@@ -118,6 +125,6 @@ impl Requester {
     pub fn views(&self) -> &[View]
         ensures { result.now ≡ self.now.state.views }
     {
-        &self.core.views
+        self.core.views.views()
     }
 }

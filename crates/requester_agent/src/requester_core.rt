@@ -1,10 +1,11 @@
 //! What a requester keeps.
 
-ghost use Rattle.std.specs.Prelude.{◌≡◌, ◌<◌, ◌≤◌, ◌+◌, ◌++◌, ◌∷◌, [], length, position, vec_len, vec_capacity, false, true, None, Some, IfSome, IfOk};
+ghost use Rattle.std.specs.Prelude.{◌≡◌, ◌<◌, ◌≤◌, ◌+◌, ◌++◌, ◌∷◌, [], length, position, false, true, None, Some, IfSome, IfOk};
 ghost use Rattle.std.specs.Str.{bytes_eq};
 ghost use Rattle.nsi_primitive.specs.Printable.{IsPrintableInput, ArePointsApart};
 ghost use Rattle.message_retry.specs.Retry.{is_old};
 ghost use Rattle.child_connection.specs.Asks.{is_about};
+ghost use Rattle.child_connection.specs.Views.{new_view};
 ghost use Rattle.agent_state.specs.State.{blank_agent};
 ghost use Rattle.requester_agent.specs.Setting.{IsRequester, setting_of};
 ghost use Rattle.agent_state.specs.Entries.{retry_of};
@@ -12,8 +13,7 @@ ghost use Rattle.requester_agent.specs.Steps.{find_view, asks_found, reserves, a
 ghost use Rattle.requester_agent.specs.Core.{standing_at};
 ghost use Rattle.requester_agent.specs.Taking.{IsStep, IsTakenAs, IsAskable};
 
-use crate::asking::{ask_about, ask_reserve};
-use crate::hearing::hear_all;
+use crate::view_table::ViewTable;
 use agent_state::View;
 use child_connection::ChildConnection;
 use message_retry::Retry;
@@ -29,7 +29,7 @@ pub struct Core {
     pub number: AgentNo,
     /// The agent that it asks.
     pub provider: Name,
-    pub views: Vec<View>,
+    pub views: ViewTable,
     pub retry: Retry,
     /// The number of the next id.
     pub next: u64,
@@ -56,7 +56,7 @@ impl Core {
             name: topology.name(agent).copy()?,
             number: agent,
             provider: topology.name(provider).copy()?,
-            views: Vec::new(alloc),
+            views: ViewTable::new(alloc),
             retry: Retry::new(alloc),
             next: 1,
             now: Second::first(),
@@ -107,13 +107,12 @@ impl Core {
             (λ set s. asks_found (find_view label.now s.views) kind set s) }
         ensures taken { self.new.taken ≡ self.old.taken }
     {
-        let Some(place) = find(&self.views, label) else {
+        let Some(place) = self.views.find(label) else {
             return Ok((Some(AskAnswer::NoId), Vec::new(alloc)));
         };
-        let correlation = id_of(self.number, self.next);
-        let view = &mut self.views[place];
-        let retry = &mut self.retry;
-        let (answer, out) = ask_about(alloc, view, retry, &self.name, correlation, kind)?;
+        let id = id_of(self.number, self.next);
+        let (views, retry) = (&mut self.views, &mut self.retry);
+        let (answer, out) = views.ask_about(alloc, place, retry, &self.name, id, kind)?;
         self.next += out.len() as u64;
         Ok((Some(answer), out))
     }
@@ -131,40 +130,34 @@ impl Core {
             (λ set s. reserves (find_view label.now s.views) q.now label.now set s) }
         ensures taken { self.new.taken ≡ self.old.taken }
     {
-        let Some(place) = find(&self.views, label) else {
+        let Some(place) = self.views.find(label) else {
             return self.reserve_new(alloc, label, q);
         };
-        let correlation = id_of(self.number, self.next);
-        let view = &mut self.views[place];
-        let retry = &mut self.retry;
-        let (answer, out) = ask_reserve(alloc, view, retry, &self.name, correlation, q)?;
+        let id = id_of(self.number, self.next);
+        let (views, retry) = (&mut self.views, &mut self.retry);
+        let (answer, out) = views.ask_reserve(alloc, place, retry, &self.name, id, q)?;
         self.next += out.len() as u64;
         Ok((Some(answer), out))
     }
 
-    /// Makes the view of a label, and asks to reserve. There is room for the view before anything is sent.
+    /// Makes the view of a label, and asks to reserve.
     fn reserve_new(
         &mut self,
         alloc: Global,
         label: &Name,
         q: &ReserveAsk,
     ) -> Result<(Option<AskAnswer>, Vec<Message>), AllocError>
+        requires new { position (λ v. bytes_eq label.now v.label) self.old.views ≡ None }
         requires good { IsAskable self.old }
         requires apart { bytes_eq q.now.source q.now.dest ≡ false }
         ensures step { IsStep self.old self.new result
             (λ set s. reserves None q.now label.now set s) }
         ensures taken { self.new.taken ≡ self.old.taken }
     {
-        self.views.reserve(1)?;
-        let (provider, source, dest) = (self.provider.copy()?, q.source.copy()?, q.dest.copy()?);
-        let mut view = View {
-            label: label.copy()?,
-            child: ChildConnection::new(alloc, provider, source, dest),
-        };
-        let correlation = id_of(self.number, self.next);
-        let retry = &mut self.retry;
-        let (answer, out) = ask_reserve(alloc, &mut view, retry, &self.name, correlation, q)?;
-        push_in_room(&mut self.views, view);
+        let view = new_view(alloc, label, &self.provider, q)?;
+        let id = id_of(self.number, self.next);
+        let (views, retry) = (&mut self.views, &mut self.retry);
+        let (answer, out) = views.ask_new(alloc, view, retry, &self.name, id, q)?;
         self.next += out.len() as u64;
         Ok((Some(answer), out))
     }
@@ -181,8 +174,7 @@ impl Core {
         ensures taken { self.new.taken ≡ self.old.taken }
     {
         if !self.retry.is_old(message) {
-            self.retry.saw(alloc, message)?;
-            hear_all(&mut self.views, message);
+            self.views.hear(alloc, &mut self.retry, message)?;
         }
         Ok((None, Vec::new(alloc)))
     }
@@ -233,20 +225,19 @@ impl Core {
     }
 }
 
-/// The place of the view of a label.
-fn find(views: &[View], label: &Name) -> Option<usize>
-    ensures place { result ≡ position (λ v. bytes_eq label.now v.label) views.now }
-    ensures within { IfSome result (λ n. n < length views.now) }
+/// The view of a label, which asks a provider between the points of a reserve and was asked nothing yet.
+fn new_view(
+    alloc: Global,
+    label: &Name,
+    provider: &Name,
+    q: &ReserveAsk,
+) -> Result<View, AllocError>
+    ensures { let child = new_view provider.now q.now.source q.now.dest in
+        IfOk result (λ v. v ≡ record { label = label.now; child = child }) }
 {
-    views.iter().position(|view| label.is(&view.label))
-}
-
-/// A view joins the others, for which there is room.
-fn push_in_room(views: &mut Vec<View>, view: View)
-    requires { vec_len views.old < vec_capacity views.old }
-    ensures { views.new.items ≡ views.old.items ++ view ∷ [] }
-{
-    let Ok(()) = views.push(view) else {
-        unreachable!()
-    };
+    let (provider, source, dest) = (provider.copy()?, q.source.copy()?, q.dest.copy()?);
+    Ok(View {
+        label: label.copy()?,
+        child: ChildConnection::new(alloc, provider, source, dest),
+    })
 }

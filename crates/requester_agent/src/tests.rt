@@ -1,5 +1,6 @@
 //! Entries of a requester, one after another: the answer to the last of them, what it sends, and where the views stand then.
 
+mod many;
 mod taking;
 mod wishes;
 

@@ -241,6 +241,87 @@ const LATE: [Row; 5] = [
     ),
 ];
 
+/// A second connection of a1 under the fourth id that it draws; its reserves have the next two.
+const SECOND: Step = Step::Asked("r1", 2, Wish::First("D"));
+
+const SECOND_HOLDS_1: Step = Step::Answered(0, 5, Said::Confirmed);
+
+const SECOND_HOLDS_2: Step = Step::Answered(1, 6, Said::Confirmed);
+
+const BESIDE: [Row; 6] = [
+    (
+        "An answer is heard by its connection alone.",
+        &[RESERVE, SECOND, SECOND_HOLDS_1, HOLDS_1, HOLDS_2],
+        &[(Kind::ReserveConfirmed, 4, 1)],
+        7,
+    ),
+    (
+        "So is that of the other.",
+        &[RESERVE, SECOND, HOLDS_1, SECOND_HOLDS_1, SECOND_HOLDS_2],
+        &[(Kind::ReserveConfirmed, 4, 2)],
+        7,
+    ),
+    (
+        "A hold that ends below ends that of its connection.",
+        &[
+            RESERVE,
+            SECOND,
+            HOLDS_1,
+            HOLDS_2,
+            SECOND_HOLDS_1,
+            SECOND_HOLDS_2,
+            Step::Answered(1, 6, Said::TimedOut),
+        ],
+        &[(Kind::ReserveTimeout, 4, 2)],
+        9,
+    ),
+    (
+        "A late request is told of its connection.",
+        &[
+            RESERVE,
+            SECOND,
+            Step::Acked(0, 2),
+            Step::Acked(1, 3),
+            Step::Acked(0, 5),
+            Step::Tick(120),
+        ],
+        &[(Kind::MessageDeliveryTimeout, 3, 7)],
+        4,
+    ),
+    (
+        "A schedule that ends on a tick ends the connection.",
+        &[
+            RESERVE,
+            SECOND,
+            HOLDS_1,
+            HOLDS_2,
+            Step::Asked("r1", 3, Wish::Commit),
+            Step::Answered(0, 7, Said::Committed),
+            Step::Answered(1, 8, Said::Committed),
+            Step::Tick(2000),
+            Step::Asked("r1", 4, Wish::Provision),
+        ],
+        &[(Kind::Error, 4, 4)],
+        17,
+    ),
+    (
+        "Before that it has not ended.",
+        &[
+            RESERVE,
+            SECOND,
+            HOLDS_1,
+            HOLDS_2,
+            Step::Asked("r1", 3, Wish::Commit),
+            Step::Answered(0, 7, Said::Committed),
+            Step::Answered(1, 8, Said::Committed),
+            Step::Tick(1999),
+            Step::Asked("r1", 4, Wish::Provision),
+        ],
+        &[(Kind::Provision, 3, 15), (Kind::Provision, 3, 16)],
+        18,
+    ),
+];
+
 const PLANES: [Row; 2] = [
     (
         "One active child is not told.",
@@ -311,6 +392,15 @@ fn ends_are_right(rt: HostRuntime) -> Result<(), Fail> {
 #[test]
 fn late_requests_are_right(rt: HostRuntime) -> Result<(), Fail> {
     for row in &LATE {
+        let is_right = is_right(rt.alloc(), Over::Two, row)?;
+        assert!(rt; is_right, "{}", row.0);
+    }
+    Ok(())
+}
+
+#[test]
+fn connections_beside_each_other_are_right(rt: HostRuntime) -> Result<(), Fail> {
+    for row in &BESIDE {
         let is_right = is_right(rt.alloc(), Over::Two, row)?;
         assert!(rt; is_right, "{}", row.0);
     }

@@ -7,7 +7,7 @@ ghost use Rattle.requester_agent.specs.Steps.{is_query_ask};
 use nsi_base::{AgentNo, HoldTime, Mbps, Name, Second, Version};
 use nsi_primitive::{
     Ask, Body, Cause, Directionality, ErrorName, Exception, Header, HoldTimeout, Id, Message,
-    ReserveAsk, ReserveConfirmation, What, id_of,
+    PlaneNotice, ReserveAsk, ReserveConfirmation, What, id_of,
 };
 use std::alloc::Global;
 use std::test::Fail;
@@ -29,6 +29,7 @@ pub(super) enum Said {
     Committed,
     Refused,
     TimedOut,
+    Active,
     Terminate,
 }
 
@@ -134,6 +135,19 @@ fn timed_out(alloc: Global) -> Result<Body, Fail>
     }))
 }
 
+fn active() -> Result<Body, Fail>
+    ensures { IfOk result IsPrintableBody }
+{
+    Ok(Body::DataPlaneStateChange(PlaneNotice {
+        active: true,
+        connection: id(0, 1)?,
+        notification: 1,
+        time: second(100)?,
+        version: Version::first(),
+        consistent: true,
+    }))
+}
+
 fn body_of(alloc: Global, said: Said) -> Result<Body, Fail>
     ensures { IfOk result IsPrintableBody }
 {
@@ -144,6 +158,7 @@ fn body_of(alloc: Global, said: Said) -> Result<Body, Fail>
         Said::Committed => Ok(Body::ReserveCommitConfirmed { connection }),
         Said::Refused => refused(alloc),
         Said::TimedOut => timed_out(alloc),
+        Said::Active => active(),
         Said::Terminate => Ok(Body::Terminate { connection }),
     }
 }

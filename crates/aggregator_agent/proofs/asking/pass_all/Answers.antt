@@ -1,6 +1,6 @@
-use Rattle.std.proofs.Common.{◌≡◌, ◌<◌, ◌∙◌, refl, length, arith}
-use Rattle.aggregator_agent.specs.Asking.{Asked, pass_one}
-use Rattle.aggregator_agent.proofs.Each.{each_none, asked_more, same_long, all_asked}
+use Rattle.std.proofs.Common.{◌<◌, ◌∙◌, length, arith}
+use Rattle.aggregator_agent.specs.Asking.{pass_one}
+use Rattle.aggregator_agent.proofs.Each.{asked_more, same_long, all_asked}
 use Rattle.aggregator_agent.proofs.asking.pass_all.Goals as goal
 
 pub pass_at-requires : goal.pass_at-requires

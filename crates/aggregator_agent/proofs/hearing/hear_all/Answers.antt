@@ -1,8 +1,5 @@
-use Rattle.std.proofs.Common.{◌≡◌, ◌<◌, ◌∙◌, ◌||◌, refl, sym, ap, length, drop, arith}
-use Rattle.std.specs.List.{list_any}
-use Rattle.aggregator_agent.specs.Asking.{Asked}
+use Rattle.std.proofs.Common.{◌<◌, ◌∙◌, ◌||◌, sym, ap, length, arith}
 use Rattle.aggregator_agent.specs.Turns.{hear_one, loses, breaks}
-use Rattle.aggregator_agent.specs.Connections.{view_at}
 use Rattle.aggregator_agent.proofs.Each.{asked_more, same_long, all_asked, any_next, any_done}
 use Rattle.aggregator_agent.proofs.hearing.hear_all.Goals as goal
 

@@ -1,14 +1,13 @@
-use Rattle.std.proofs.Common.{◌≡◌, ◌+◌, ◌∷◌, ◌++◌, [], length, set, ap, sym, subst, arith, rules}
-use Rattle.std.proofs.lemmas.List.{length_push}
-use Rattle.aggregator_agent.specs.Bonds.{Bond, bonds, bond_at}
+use Rattle.std.proofs.Common.{◌∷◌, ◌++◌, [], sym, subst, arith, rules}
+use Rattle.std.specs.List.{Contains}
+use Rattle.std.proofs.lemmas.List.Elements.{Contains-append_left, Contains-push}
+use Rattle.aggregator_agent.specs.Bonds.{bonds, bond_at}
 use Rattle.aggregator_agent.specs.Undo.{CanUndo, IsFormer}
 use Rattle.aggregator_agent.proofs.Undo.{former_last, undo_less, all_back}
 use Rattle.aggregator_agent.proofs.keeping.go_back.Goals as goal
 
 pub go_back_at-requires : goal.go_back_at-requires
-go_back_at-requires c =
-    let more = ap length c.in-Some.ensures.items in
-    omega (arith, more, length_push c.pop.new.self.items c.in-Some.one, c.loop-one.invariant.few, c.len.ensures)
+go_back_at-requires c = c.loop-one.invariant.within c.in-Some.one (subst (λ ks. Contains ks c.in-Some.one) (sym c.in-Some.ensures.items) (Contains-push c.pop.new.self.items c.in-Some.one))
 
 pub loop-one-preserved : goal.loop-one-preserved
 loop-one-preserved c =
@@ -16,17 +15,14 @@ loop-one-preserved c =
     let k = c.in-Some.one in
     let now = bonds c.loop-one.connections.items in
     let after = bonds c.go_back_at.new.connections.items in
-    let place : c.len.result ≡ length ks = search rules in
     record {
       undo = λ was h.
           let before : CanUndo was now (ks ++ k ∷ []) = subst (CanUndo was now) c.in-Some.ensures.items (c.loop-one.invariant.undo was h) in
-          let former : IsFormer k (bond_at (length ks) was) (bond_at (length ks) now) = former_last was now ks k before in
-          let back : after ≡ set now (length ks) (bond_at (length ks) was) =
-          subst (λ n. IsFormer k (bond_at n was) (bond_at n now) → after ≡ set now n (bond_at n was)) place (c.go_back_at.ensures.back (bond_at c.len.result was)) former in
-          undo_less was now after ks k before back;
-      few =
-          let more = ap length c.in-Some.ensures.items in
-          omega (arith, more, length_push ks k, c.loop-one.invariant.few, c.go_back_at.ensures.long);
+          let former : IsFormer k (bond_at k.place was) (bond_at k.place now) = former_last was now ks k before in
+          undo_less was now after ks k before (c.go_back_at.ensures.back (bond_at k.place was) former);
+      within = λ x has.
+          let there = c.loop-one.invariant.within x (subst (λ xs. Contains xs x) (sym c.in-Some.ensures.items) (Contains-append_left ks (k ∷ []) x has)) in
+          omega (arith, there, c.go_back_at.ensures.long);
     }
 
 pub returns : goal.returns

@@ -1,7 +1,6 @@
-use Rattle.std.proofs.Common.{◌≡◌, ◌∙◌, [], ℕ, List, Ok, refl, ap}
+use Rattle.std.proofs.Common.{◌∙◌, Ok, refl, ap}
 use Rattle.aggregator_agent.specs.declared.outbox.Outbox.{Outbox}
-use Rattle.agent_state.specs.State.{AgentState, stays}
-use Rattle.aggregator_agent.specs.Bonds.{bonds}
+use Rattle.agent_state.specs.State.{stays}
 use Rattle.aggregator_agent.specs.Core.{state_at, state_of}
 use Rattle.aggregator_agent.specs.Setting.{setting_of}
 use Rattle.aggregator_agent.specs.Steps.{ticks, acknowledged}
@@ -24,7 +23,7 @@ returns-in-Acked-clause-step c =
     let e = c.args.entry.now in
     let i = c.in-Acked.identity in
     let v = c.new.result in
-    let rest = ap (λ (o : Outbox). state_of (bonds d.connections.items) o d.next d.now d.taken) c.acked.ensures in
+    let rest = ap (λ (o : Outbox). state_of d.connections o d.next d.now d.taken) c.acked.ensures in
     let made = made_none (acknowledged i (state_at d)) v.items c.new.ensures.items in
     same_step t d _ (Ok v) (λ setting s. stays (acknowledged i s)) _ (λ route. step_acked (setting_of t d.agent route) (state_at d) e.input e.second i c.in-Acked.is)
     (by_all t d _ (Ok v) (λ setting s. stays (acknowledged i s)) (record { all = λ u route. record { state = rest ∙ made.state; said = made.said }; agent = refl; err = tt }))

@@ -1,4 +1,4 @@
-use Rattle.std.proofs.Common.{◌≡◌, ◌∙◌, ◌∷◌, ◌++◌, [], length, set, sym, ap, subst, arith}
+use Rattle.std.proofs.Common.{◌≡◌, ◌∙◌, ◌∷◌, ◌++◌, [], set, sym, ap, subst, arith}
 use Rattle.std.proofs.lemmas.List.{length-map}
 use Rattle.std.specs.Global.{Vec}
 use Rattle.child_connection.specs.Views.{ChildConnection}
@@ -27,13 +27,17 @@ returns-clause-undo c was undo =
     let x = c.index_mut-connection.result.now in
     let y = c.clock.new.self in
     let z = c.index.result.now in
-    let before : bond z ≡ bond_at n (bonds xs) = read_at xs n z c.requires.within c.index.ensures in
-    let at : bond x ≡ bond_at n (bonds xs) = read_at xs n x c.requires.within c.index_mut-connection.ensures.value in
-    let later : IsLater (bond_at n (bonds xs)).own y.own = subst (λ (b : Bond). IsLater b.own y.own) at c.clock.ensures.later in
+    let b = bond_at n (bonds xs) in
+    let before : bond z ≡ b = read_at xs n z c.requires.within c.index.ensures in
+    let at : bond x ≡ b = read_at xs n x c.requires.within c.index_mut-connection.ensures.value in
+    let later : IsLater b.own y.own = subst (λ (o : Bond). IsLater o.own y.own) at c.clock.ensures.later in
     let k = c.keep_own-kept.result in
-    let former : IsFormer k (bond_at n (bonds xs)) (bond y) =
-    former_own k (bond_at n (bonds xs)) (bond y) (c.keep_own-kept.ensures.own ∙ ap (λ (b : Bond). saved_of b.own) before) c.keep_own-kept.ensures.children later (ap (λ (v : Vec ChildConnection). v.items) c.clock.ensures.children ∙ ap (λ (b : Bond). b.children) at) in
+    let former : IsFormer k b (bond y) =
+    former_own k b (bond y) (c.keep_own-kept.ensures.own ∙ ap (λ (o : Bond). saved_of o.own) before) c.keep_own-kept.ensures.children later (ap (λ (v : Vec ChildConnection). v.items) c.clock.ensures.children ∙ ap (λ (o : Bond). o.children) at) in
+    let place : k.place ≡ n = c.keep_own-kept.ensures.place in
     let long = length-map xs bond in
-    subst (λ ks. CanUndo was (bonds (set xs n y)) ks) (sym c.in_ok-push.ensures.items)
-    (subst (λ bs. CanUndo was bs (c.args.self.now.kept.items ++ k ∷ [])) (sym (put_at xs n y))
-    (undo_more was (bonds xs) c.args.self.now.kept.items k n (bond y) c.requires.next (omega (arith, long, c.requires.within)) former undo))
+    let kept = c.args.self.now.kept.items in
+    let more : CanUndo was (set (bonds xs) n (bond y)) (kept ++ k ∷ []) =
+    subst (λ i. CanUndo was (set (bonds xs) i (bond y)) (kept ++ k ∷ [])) place
+    (undo_more was (bonds xs) kept k (bond y) (omega (arith, long, place, c.requires.within)) (λ h has e. c.requires.new h has (e ∙ place)) (subst (λ i. IsFormer k (bond_at i (bonds xs)) (bond y)) (sym place) former) undo) in
+    subst (λ ks. CanUndo was (bonds (set xs n y)) ks) (sym c.in_ok-push.ensures.items) (subst (λ bs. CanUndo was bs (kept ++ k ∷ [])) (sym (put_at xs n y)) more)
