@@ -23,7 +23,7 @@ use Rattle.circuit_laws.specs.Laws.{child_at, HasPhases, IsInStep, AreBackedIn, 
 use Rattle.circuit_laws.proofs.Roles.{Keeps, views_of, aggregates_keep}
 use Rattle.circuit_laws.proofs.Cutting.{view_phases, view_step, view_known, views_backed}
 
-blank_slot : (child : List ℕ) (i : ℕ × ℕ) → IsAlike (no_child child) (views_of child blank_agent i)
+pub blank_slot : (child : List ℕ) (i : ℕ × ℕ) → IsAlike (no_child child) (views_of child blank_agent i)
 blank_slot child i = subst (IsAlike (no_child child)) (sym (no_mine child)) (alike_self (no_child child))
 
 module _ (t : Network) (routes : Routes) (events : List Event) (a b k n i : ℕ) (setting : AggregatorSetting) (xs : List ChildConnection) (x : ChildConnection) (allowed : AreAllowed (home_in t routes) empty events) where

@@ -6,3 +6,5 @@ pub mod Views
 pub mod Cutting
 pub mod Requesters
 pub mod Aggregators
+pub mod Leading
+pub mod Circuits

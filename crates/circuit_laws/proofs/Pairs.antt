@@ -25,7 +25,7 @@ use Rattle.circuit_pairs.proofs.Starting.{start_pair}
 use Rattle.circuit_laws.proofs.Roles.{Keeps, serves_as, even_from}
 use Rattle.circuit_laws.proofs.Facts.{told_fair, told_once, told_fresh, request_said, answer_said}
 
-told_none : (h : Home) → told h [] ≡ record { state = blank_agent; out = [] }
+pub told_none : (h : Home) → told h [] ≡ record { state = blank_agent; out = [] }
 unfolding goes_on
 told_none h = refl
 
@@ -33,7 +33,7 @@ one_alone : (h : Home) (s : AgentState) (e : Entry) → goes_on h s (e ∷ []) �
 unfolding goes_on
 one_alone h s e = ap (λ (ms : List Message). record { state = (after h s e).state; out = ms }) (append-nil (after h s e).out)
 
-told_more : (h : Home) (es : List Entry) (e : Entry) → told h (es ++ e ∷ []) ≡ record { state = (after h (told h es).state e).state; out = (told h es).out ++ (after h (told h es).state e).out }
+pub told_more : (h : Home) (es : List Entry) (e : Entry) → told h (es ++ e ∷ []) ≡ record { state = (after h (told h es).state e).state; out = (told h es).out ++ (after h (told h es).state e).out }
 told_more h es e = telling_is_in_parts h blank_agent es (e ∷ []) ∙ ap (behind (told h es).out) (one_alone h (told h es).state e)
 
 module _ (homes : Homes) (given : Given homes) (a b : ℕ) (agent : IsAgent homes a) (other : IsAgent homes b) (apart : b ≡ a → ⊥) (asked : is_requester (homes b).role ≡ false)

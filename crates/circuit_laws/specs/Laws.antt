@@ -1,18 +1,20 @@
 -- The laws of circuits in runs: how each view of a parent stands against the record of its child.
-use Rattle.std.specs.Prelude.{ℕ, ◌≡◌, ◌≢◌, ◌<◌, length, get_or, false, List, Contains, Option, Some, None, slice_get}
+use Rattle.std.specs.Prelude.{ℕ, ◌≡◌, ◌≢◌, ◌<◌, length, get_or, false, List, [], Contains, Option, Some, None, slice_get}
 use Rattle.nsi_primitive.specs.declared.entry.Event.{Event}
 use Rattle.nsi_primitive.specs.declared.kind.Kind.{Kind}
 use Rattle.nsi_primitive.specs.declared.message.Body.{Body}
 use Rattle.nsi_primitive.specs.declared.state.Rsm.{Rsm}
+use Rattle.stp_topology.specs.Laws.{IsWellFormed}
+use Rattle.stp_topology.specs.Sound.{IsSound}
 use Rattle.stp_topology.specs.declared.network.Network.{Network}
-use Rattle.agent_state.specs.State.{record_at}
+use Rattle.agent_state.specs.State.{record_at, children_at}
 use Rattle.agent_state.specs.declared.parent.View.{View}
 use Rattle.child_connection.specs.Views.{ChildConnection, sent}
 use Rattle.connection_record.specs.declared.record.Record.{Record}
 use Rattle.connection_record.specs.Refusal.{place_of}
 use Rattle.requester_agent.specs.Setting.{Setting as RequesterSetting}
 use Rattle.aggregator_agent.specs.Setting.{Setting as AggregatorSetting}
-use Rattle.nsi_agent.specs.Homes.{Routes, requests, aggregates, home_in}
+use Rattle.nsi_agent.specs.Homes.{Routes, AreRoutes, requests, aggregates, home_in}
 use Rattle.nsi_world.specs.Worlds.{Homes, IsAgent, World, empty, IsSent}
 use Rattle.nsi_world.specs.Runs.{is_requester, world_after, AreAllowed}
 use Rattle.run_identities.specs.Cuts.{IsPlaceOf, told_to}
@@ -140,3 +142,23 @@ ChildrenKnowTheirOwn =
     IsAgent homes a → IsAgent homes b → (homes a).role ≡ aggregates setting → b ≢ a → is_requester (homes b).role ≡ false → IsPlaceOf w a k →
     slice_get (told_to homes w a k).state.children n ≡ Some xs → slice_get xs i ≡ Some x → x.child ≡ (homes b).name → slice_get (told_to homes w a k).state.children m ≡ Some ys → slice_get ys j ≡ Some y →
     y.child ≡ (homes b).name → x.connection ≡ Some id → y.connection ≡ Some id → (n ≡ m) × (i ≡ j)
+
+---- Circuits
+
+-- A version of a connection that the agent a has made stands in each network on its way: there is one at least, and each has committed it by a
+-- commit of its own that was sent and confirmed, and has it in its record by what it has synced.
+pub record IsCircuit (homes : Homes) (w : World) (a : ℕ) (children : List ChildConnection) (v : ℕ) : Type 0 where
+  pub some : children ≡ [] → ⊥
+  pub each : (i b : ℕ) (x : ChildConnection) → slice_get children i ≡ Some x → IsAgent homes b → b ≢ a → is_requester (homes b).role ≡ false → x.child ≡ (homes b).name →
+      (c : ℕ) × IsBackedIn homes w a b x v c
+
+-- each version that a record of an aggregator has as committed, by the entries before a place, in a topology that a text gives
+abbrev pub CircuitsStand : Type 0
+CircuitsStand =
+    (t : Network) (routes : Routes) (events : List Event) (a k n v : ℕ) (setting : AggregatorSetting) (own : Record) → IsSound t → IsWellFormed t → AreRoutes t routes →
+    AreAllowed (home_in t routes) empty events →
+    let homes : Homes = home_in t routes in
+    let w : World = world_after empty events in
+    IsAgent homes a → (homes a).role ≡ aggregates setting → IsPlaceOf w a k →
+    slice_get (told_to homes w a k).state.base.records n ≡ Some own → Contains (standing_of own).committed v →
+    IsCircuit homes w a (children_at n (told_to homes w a k).state.children) v

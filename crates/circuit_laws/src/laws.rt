@@ -1,8 +1,8 @@
 //! The laws of circuits in runs. Each function is its contract.
 
-ghost use Rattle.circuit_laws.specs.Laws.{ViewsHavePhases, ChildrenHavePhases, ViewsAreInStep, ChildrenAreInStep, ViewsAreBacked, ChildrenAreBacked, ViewsKnowTheirOwn, ChildrenKnowTheirOwn};
+ghost use Rattle.circuit_laws.specs.Laws.{ViewsHavePhases, ChildrenHavePhases, ViewsAreInStep, ChildrenAreInStep, ViewsAreBacked, ChildrenAreBacked, ViewsKnowTheirOwn, ChildrenKnowTheirOwn, CircuitsStand};
 
-use nsi_world::laws::sent;
+use nsi_world::laws::{agents, sent};
 
 /// In every run, by the phase of a view that a requester has, or an aggregator of a child, one reads off where the record of the agent that
 /// it asks stands, whatever cut of either is taken.
@@ -31,3 +31,12 @@ pub fn known()
     ensures views { ViewsKnowTheirOwn }
     ensures children { ChildrenKnowTheirOwn }
 {}
+
+/// What an aggregator's own record has as committed stands in each network on its way, by what that network has synced: a circuit that is
+/// confirmed from end to end is there, whatever was lost, came twice or came late, and whoever began again from what was synced.
+pub fn circuits()
+    ensures { CircuitsStand }
+{
+    sent();
+    agents();
+}

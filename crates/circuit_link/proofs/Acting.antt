@@ -51,7 +51,7 @@ mixed_own : (agent : List ℕ) (o : Option ChildConnection) → IsOwn (Some (don
 mixed_own agent None = refl
 mixed_own agent (Some x) = refl
 
-reservation_own : (b : Bool) (k : Rsm) (agent : List ℕ) (xs : List ChildConnection) → IsOwn (reservation_due b k agent xs)
+pub reservation_own : (b : Bool) (k : Rsm) (agent : List ℕ) (xs : List ChildConnection) → IsOwn (reservation_due b k agent xs)
 unfolding reservation_due reservation_verdict
 reservation_own false k agent xs = tt
 reservation_own true Rsm.ReserveChecking agent xs = checked_own agent xs
@@ -97,14 +97,14 @@ settles_course Lsm.PassedEndTime agent now xs own = both_course agent now xs own
 
 ---- A hold or a life ends
 
-hold_own : (b : Bool) (body : Body) → IsOwn (hold_end_by b body)
+pub hold_end_own : (b : Bool) (body : Body) → IsOwn (hold_end_by b body)
 unfolding hold_end_by
-hold_own true (Body.ReserveTimeout t) = refl
-hold_own true _ = tt
-hold_own false body = tt
+hold_end_own true (Body.ReserveTimeout t) = refl
+hold_end_own true _ = tt
+hold_end_own false body = tt
 
 pub hold_course : (b : Bool) (body : Body) (now : ℕ) (own : Record) → Course own (reserves_if (hold_end_by b body) now own).rec (reserves_if (hold_end_by b body) now own).out
-hold_course b body now own = Course.does own _ (reservation_is_act (hold_end_by b body) now own (hold_own b body))
+hold_course b body now own = Course.does own _ (reservation_is_act (hold_end_by b body) now own (hold_end_own b body))
 
 pub life_is_act : (move : LifecycleMove) (now : ℕ) (r : Record) → lifecycle_begins move ≡ None → IsAct r (lives r.lsm move now r)
 life_is_act move now r e =

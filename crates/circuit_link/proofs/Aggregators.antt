@@ -43,12 +43,13 @@ use Rattle.aggregator_agent.specs.Setting.{Setting}
 use Rattle.aggregator_agent.specs.Settling.{settles, settle}
 use Rattle.aggregator_agent.specs.Steps.{sees, is_seen, children_for, request_at, with_new, opens_between, opens, request_to, accepts, answers, pass_then, hear_all, hears, receives, ticks, step, after_if, after, may_take}
 use Rattle.aggregator_agent.specs.Turns.{joined_of, tell_joined, pass_on, takes, turn_by_request, request_turn, loses, breaks, late_terminate, hear_one, hold_ends, force_ends, heard_by, turn_by_answer, answer_turn, spoken}
-use Rattle.circuit_link.specs.Serving.{child_of, Tells, TakeCourses, IsTurn, IsNew, IsAbout, Serves}
+use Rattle.circuit_link.specs.Serving.{child_of, IsByItself, Tells, TakeCourses, IsTurn, IsNew, IsAbout, Serves}
 use Rattle.circuit_link.proofs.Abouts.{addressed_append}
 use Rattle.circuit_link.proofs.Acting.{settles_course, hold_course, force_course, plane_course, ends_course, late_course}
 use Rattle.circuit_link.proofs.Answering.{only_one}
 use Rattle.circuit_link.proofs.Gathering.{AnswersNothing, tells_addressed, tells_spoken, no_courses, more_courses}
-use Rattle.circuit_link.proofs.Requests.{found_by, first_by, unnamed_kind, reserve_unnamed}
+use Rattle.circuit_link.proofs.Living.{itself_same, itself_then, itself_append, hold_itself, plane_itself, settles_itself, forced_itself, ends_itself, late_itself}
+use Rattle.circuit_link.proofs.Requests.{refused_by, found_by, first_by, unnamed_kind, reserve_unnamed}
 
 ---- What children are asked is no answer
 
@@ -120,45 +121,51 @@ pub record From (y : Moved) (t : Turn) : Type 0 where
   pub rest : List Reply
   pub replies : t.replies ≡ y.out ++ rest
   pub course : Course y.rec t.own (rest ++ t.notices)
+  pub itself : IsByItself y.rec t.own (rest ++ t.notices)
   pub asked : AnswersNothing t.asked
 
-from_replies : (y : Moved) (t : Turn) (x : Moved) → From y t → Course t.own x.rec x.out → From y (replies_by t x)
-from_replies y t x f c =
+from_replies : (y : Moved) (t : Turn) (x : Moved) → From y t → Course t.own x.rec x.out → IsByItself t.own x.rec x.out → From y (replies_by t x)
+from_replies y t x f c g =
     record {
       rest = f.rest ++ x.out;
       replies = ap (λ z. z ++ x.out) f.replies ∙ append_assoc y.out f.rest x.out;
       course = Course.goes_on y.rec t.own x.rec (f.rest ++ t.notices) x.out ((f.rest ++ x.out) ++ t.notices) f.course c (merges_first f.rest t.notices x.out);
+      itself = itself_then y.rec t.own x.rec (f.rest ++ t.notices) x.out ((f.rest ++ x.out) ++ t.notices) (merges_first f.rest t.notices x.out).into f.itself g;
       asked = f.asked;
     }
 
-from_notices : (y : Moved) (t : Turn) (x : Moved) → From y t → Course t.own x.rec x.out → From y (notices_by t x)
-from_notices y t x f c =
+from_notices : (y : Moved) (t : Turn) (x : Moved) → From y t → Course t.own x.rec x.out → IsByItself t.own x.rec x.out → From y (notices_by t x)
+from_notices y t x f c g =
     record {
       rest = f.rest;
       replies = f.replies;
       course =
           subst (λ z. Course y.rec x.rec z) (append_assoc f.rest t.notices x.out)
           (Course.goes_on y.rec t.own x.rec (f.rest ++ t.notices) x.out ((f.rest ++ t.notices) ++ x.out) f.course c (merges_append (f.rest ++ t.notices) x.out));
+      itself =
+          subst (λ z. IsByItself y.rec x.rec z) (append_assoc f.rest t.notices x.out)
+          (itself_append y.rec t.own x.rec (f.rest ++ t.notices) x.out f.itself g);
       asked = f.asked;
     }
 
-from_under : (y : Moved) (t : Turn) (x : Moved) → From y t → Course t.own x.rec x.out → From y (notices_under t x)
-from_under y t x f c = let w = from_notices y t x f c in record { rest = w.rest; replies = w.replies; course = w.course; asked = w.asked }
+from_under : (y : Moved) (t : Turn) (x : Moved) → From y t → Course t.own x.rec x.out → IsByItself t.own x.rec x.out → From y (notices_under t x)
+from_under y t x f c g = let w = from_notices y t x f c g in record { rest = w.rest; replies = w.replies; course = w.course; itself = w.itself; asked = w.asked }
 
 from_asks : (y : Moved) (t : Turn) (a : Asking) → From y t → AnswersNothing a.asked → From y (asks_by t a)
-from_asks y t a f h = record { rest = f.rest; replies = f.replies; course = f.course; asked = both_ask t.asked a.asked f.asked h }
+from_asks y t a f h = record { rest = f.rest; replies = f.replies; course = f.course; itself = f.itself; asked = both_ask t.asked a.asked f.asked h }
 
 begun_from : (y : Moved) (own : Record) (xs : List ChildConnection) (next : ℕ) → From y (replies_by (begin own xs next) y)
-begun_from y own xs next = record { rest = []; replies = sym (append-nil y.out); course = Course.rests y.rec; asked = none_asks }
+begun_from y own xs next = record { rest = []; replies = sym (append-nil y.out); course = Course.rests y.rec; itself = itself_same y.rec; asked = none_asks }
 
 module _ (agent : Agent) (now : ℕ) (m : Message) (y : Moved) where
   settle_from : (t : Turn) → From y t → From y (settle agent now t)
   unfolding settle
-  settle_from t f = from_replies y t (settles t.own.lsm agent now t.children t.own) f (settles_course t.own.lsm agent now t.children t.own)
+  settle_from t f = from_replies y t (settles t.own.lsm agent now t.children t.own) f (settles_course t.own.lsm agent now t.children t.own) (settles_itself t.own.lsm agent now t.children t.own)
 
   joined_from : (before : Plane) (t : Turn) → From y t → From y (tell_joined before agent now t)
   unfolding tell_joined
   joined_from before t f = from_under y t _ f (plane_course (announces before (joined_of t.children)) (joined_of t.children) (id_of agent.number t.next) now t.own)
+      (plane_itself (announces before (joined_of t.children)) (joined_of t.children) (id_of agent.number t.next) now t.own)
 
   pass_from : (t : Turn) → From y t → From y (pass_on m agent t)
   unfolding pass_on
@@ -172,11 +179,11 @@ module _ (agent : Agent) (now : ℕ) (m : Message) (y : Moved) where
 
   holds_from : (lost : Bool) (t : Turn) → From y t → From y (hold_ends lost m now t)
   unfolding hold_ends
-  holds_from lost t f = from_notices y t _ f (hold_course (lost && is_live t.own.lsm) m.body now t.own)
+  holds_from lost t f = from_notices y t _ f (hold_course (lost && is_live t.own.lsm) m.body now t.own) (hold_itself (lost && is_live t.own.lsm) m.body now t.own)
 
   forces_from : (broken : Bool) (t : Turn) → From y t → From y (force_ends broken m agent now t)
   unfolding force_ends
-  forces_from broken t f = from_under y t _ f (force_course broken (id_of agent.number t.next) m.body now t.own)
+  forces_from broken t f = from_under y t _ f (force_course broken (id_of agent.number t.next) m.body now t.own) (forced_itself broken (id_of agent.number t.next) m.body now t.own)
 
 pub request_from : (agent : Agent) (now : ℕ) (m : Message) (own : Record) (xs : List ChildConnection) (next : ℕ) → From (takes m now own) (request_turn agent now m own xs next)
 unfolding request_turn turn_by_request
@@ -192,7 +199,7 @@ answer_from agent now m own xs next =
     (settle_from agent now m y _ (forces_from agent now m y (list_any (breaks m) xs) _ (holds_from agent now m y (list_any (loses m) xs) _ (heard_from agent now m y (begin own xs next) started))))
   where
     started : From (stays own) (begin own xs next)
-    started = record { rest = []; replies = refl; course = Course.rests own; asked = none_asks }
+    started = record { rest = []; replies = refl; course = Course.rests own; itself = itself_same own; asked = none_asks }
 
 -- what a turn by a child's message says of the own record
 spoken_tells : (agent : Agent) (t : Turn) → AnswersNothing t.asked → Tells agent.name t.own.owner (t.replies ++ t.notices) (spoken agent t)
@@ -200,12 +207,12 @@ unfolding spoken
 spoken_tells agent t n = tells_spoken agent.name t.own.owner t.replies t.notices t.asked n
 
 answer_course : (agent : Agent) (now : ℕ) (m : Message) (own : Record) (xs : List ChildConnection) (next : ℕ) →
-    (let t : Turn = answer_turn agent now m own xs next in Course own t.own (t.replies ++ t.notices) × Tells agent.name own.owner (t.replies ++ t.notices) (spoken agent t))
+    (let t : Turn = answer_turn agent now m own xs next in Course own t.own (t.replies ++ t.notices) × IsByItself own t.own (t.replies ++ t.notices) × Tells agent.name own.owner (t.replies ++ t.notices) (spoken agent t))
 answer_course agent now m own xs next =
     let t : Turn = answer_turn agent now m own xs next in
     let f : From (stays own) t = answer_from agent now m own xs next in
     let c : Course own t.own (t.replies ++ t.notices) = subst (λ z. Course own t.own (z ++ t.notices)) (sym f.replies) f.course in
-    (c, subst (λ o. Tells agent.name o (t.replies ++ t.notices) (spoken agent t)) (course_after own t.own (t.replies ++ t.notices) c).later.owner (spoken_tells agent t f.asked))
+    (c, subst (λ z. IsByItself own t.own (z ++ t.notices)) (sym f.replies) f.itself, subst (λ o. Tells agent.name o (t.replies ++ t.notices) (spoken agent t)) (course_after own t.own (t.replies ++ t.notices) c).later.owner (spoken_tells agent t f.asked))
 
 ---- All records in order
 
@@ -217,7 +224,7 @@ heard_courses agent now number m next (r ∷ rs) [] = no_courses agent.name (r �
 heard_courses agent now number m next (r ∷ rs) (xs ∷ xss) =
     let t : Turn = answer_turn agent now m r xs next in
     let w = answer_course agent now m r xs next in
-    more_courses agent.name r t.own (t.replies ++ t.notices) (spoken agent t) rs _ _ w.0 w.1 (heard_courses agent now (number + 1) m t.next rs xss)
+    more_courses agent.name r t.own (t.replies ++ t.notices) (spoken agent t) rs _ _ w.0 w.1 w.2 (heard_courses agent now (number + 1) m t.next rs xss)
 
 ---- Time
 
@@ -243,6 +250,30 @@ unfolding clocked
 clocked_course agent now number ds waiting own next =
     told_course own (ends (is_live own.lsm) now own) (tell_all ds agent now number waiting (ends (is_live own.lsm) now own).rec next) (ends_course (is_live own.lsm) now own) (all_told ds agent now number waiting (ends (is_live own.lsm) now own).rec next)
 
+told_itself : (r : Record) (x : Moved) (t : Told) → IsByItself r x.rec x.out → IsByItself x.rec t.own t.out → IsByItself r (tells_more x t).own (tells_more x t).out
+told_itself r x t f g = itself_append r x.rec t.own x.out t.out f g
+
+one_itself : (b : Bool) (agent : Agent) (now next : ℕ) (own : Record) (d : Due) (rest : Record → ℕ → Told) → ((r : Record) (k : ℕ) → IsByItself r (rest r k).own (rest r k).out) →
+    IsByItself own (tell_one b agent now next own d rest).own (tell_one b agent now next own d rest).out
+unfolding tell_one
+one_itself false agent now next own d rest h = h own next
+one_itself true agent now next own d rest h =
+    let x : Moved = tells_late d.correlation (id_of agent.number next) now own in
+    told_itself own x (rest x.rec (next + 1)) (late_itself d.correlation (id_of agent.number next) now own) (h x.rec (next + 1))
+
+all_itself : (ds : List Due) (agent : Agent) (now number : ℕ) (waiting : List Message) (own : Record) (next : ℕ) →
+    IsByItself own (tell_all ds agent now number waiting own next).own (tell_all ds agent now number waiting own next).out
+unfolding tell_all
+all_itself [] agent now number waiting own next = itself_same own
+all_itself (d ∷ ds) agent now number waiting own next =
+    one_itself (is_late_of number now waiting d) agent now next own d (λ r k. tell_all ds agent now number waiting r k) (λ r k. all_itself ds agent now number waiting r k)
+
+clocked_itself : (agent : Agent) (now number : ℕ) (ds : List Due) (waiting : List Message) (own : Record) (next : ℕ) →
+    IsByItself own (clocked agent now number ds waiting own next).own (clocked agent now number ds waiting own next).out
+unfolding clocked
+clocked_itself agent now number ds waiting own next =
+    told_itself own (ends (is_live own.lsm) now own) (tell_all ds agent now number waiting (ends (is_live own.lsm) now own).rec next) (ends_itself (is_live own.lsm) now own) (all_itself ds agent now number waiting (ends (is_live own.lsm) now own).rec next)
+
 clocked_courses : (agent : Agent) (now number : ℕ) (ds : List Due) (waiting : List Message) (next : ℕ) (rs : List Record) →
     TakeCourses agent.name rs (clock_all agent now number ds waiting next rs).records (clock_all agent now number ds waiting next rs).out
 unfolding clock_all clock_then
@@ -250,7 +281,7 @@ clocked_courses agent now number ds waiting next [] = no_courses agent.name []
 clocked_courses agent now number ds waiting next (r ∷ rs) =
     let t : Told = clocked agent now number ds waiting r next in
     let c : Course r t.own t.out = clocked_course agent now number ds waiting r next in
-    more_courses agent.name r t.own t.out (addressed agent.name t.own.owner t.out) rs _ _ c
+    more_courses agent.name r t.own t.out (addressed agent.name t.own.owner t.out) rs _ _ c (clocked_itself agent now number ds waiting r next)
     (subst (λ o. Tells agent.name o t.out (addressed agent.name t.own.owner t.out)) (course_after r t.own t.out c).later.owner (tells_addressed agent.name t.own.owner t.out))
     (clocked_courses agent now (number + 1) ds waiting t.next rs)
 
@@ -265,6 +296,7 @@ turn_is agent now m n rs xs next =
       said = f.rest ++ t.notices;
       more = addressed agent.name t.own.owner f.rest ++ (t.asked ++ addressed agent.name t.own.owner t.notices);
       course = f.course;
+      itself = f.itself;
       records = refl;
       spoken = whole;
       tells = tells_spoken agent.name t.own.owner f.rest t.notices t.asked f.asked;
@@ -338,7 +370,7 @@ module _ (setting : Setting) (input : Input) (said : List Message) where
 
     answering : (o : Option ErrorName) → refusal name setting.stp_of s.base.records m ≡ o → Does s (answers o setting seen_now m)
     unfolding answers
-    answering (Some error) r = Serves.refuses m error new refl refl
+    answering (Some error) r = Serves.refuses m error new (refused_by name setting.stp_of m error (child_of s.base said) r) refl refl
     answering None r = accepting (connection_of m.body) refl r
 
   ---- Any message

@@ -95,7 +95,7 @@ module _ (parent name : List ℕ) (x : ChildConnection) (place : Option ℕ) (d 
     passing_mate (Serves.acts e v) other = as_done place records d.seen out refl e refl (courses_mate parent name x place d records out v unowed h)
     passing_mate (Serves.leaves m w k r o) other =
         as_done place d.records (with_taken m.header d.seen) [] r w.counted o (foreign_seen Place.Provider name parent 0 x place d 0 m w.untaken (other m w.got w.request w.untaken).0 h)
-    passing_mate (Serves.refuses m error w r o) other =
+    passing_mate (Serves.refuses m error w v r o) other =
         as_done place d.records (with_taken m.header d.seen) (error_reply name m error ∷ []) r w.counted o
         (foreign_refused Place.Provider name parent 0 x place d 0 m error w.untaken (other m w.got w.request w.untaken).0 h)
     passing_mate (Serves.takes m n side now w a t) other =
@@ -220,7 +220,7 @@ module _ (parent name : List ℕ) (x : ChildConnection) (place : Option ℕ) (d 
       pub own_mate : Serves name input d records seen out → Owned
       own_mate (Serves.acts e v) = stays (as_done place records d.seen out refl e refl (courses_mate parent name x place d records out v unowed h))
       own_mate (Serves.leaves n w k r o) = absurd (true≢false (sym kinds ∙ ap (λ (z : Message). is_reservation (kind_of z.body)) (sym (same_as n w.got)) ∙ k))
-      own_mate (Serves.refuses n error w r o) =
+      own_mate (Serves.refuses n error w v r o) =
           let e = same_as n w.got in
           stays
           (as_done place d.records (with_taken m.header d.seen) (error_reply name m error ∷ []) r (w.counted ∙ ap (λ (z : Message). with_taken z.header d.seen) e) (o ∙ ap (λ z. error_reply name z error ∷ []) e)

@@ -15,7 +15,8 @@ use Rattle.connection_record.specs.Speaking.{is_answering}
 use Rattle.connection_record.proofs.Acts.{answering_append}
 use Rattle.agent_state.specs.State.{no_record, record_at}
 use Rattle.circuit_link.specs.Children.{about, header_of}
-use Rattle.circuit_link.specs.Serving.{Tells, TakeCourses}
+use Rattle.circuit_link.specs.Serving.{IsByItself, Tells, TakeCourses}
+use Rattle.circuit_link.proofs.Living.{itself_same}
 use Rattle.circuit_link.proofs.Abouts.{about_cases, about_left, about_right, addressed_in, addressed_of, said_under}
 use Rattle.circuit_link.proofs.Answering.{nothing_answered}
 
@@ -73,18 +74,20 @@ no_courses name rs =
       long = refl;
       said = λ n. [];
       each = λ n. Course.rests (record_at n rs);
+      itself = λ n. itself_same (record_at n rs);
       all = λ n c b l i. absurd (nothing_answered c b [] refl i);
       only = λ parent c b i. absurd (nothing_in b i);
     }
 
 -- one record in its place
-pub one_course : (name : List ℕ) (rs : List Record) (n : ℕ) (q : Record) (said : List Reply) (out : List Message) → n < length rs → Course (record_at n rs) q said → Tells name (record_at n rs).owner said out →
+pub one_course : (name : List ℕ) (rs : List Record) (n : ℕ) (q : Record) (said : List Reply) (out : List Message) → n < length rs → Course (record_at n rs) q said → IsByItself (record_at n rs) q said → Tells name (record_at n rs).owner said out →
     TakeCourses name rs (slice_set rs n q) out
-one_course name rs n q said out l course tells =
+one_course name rs n q said out l course itself tells =
     record {
       long = length-set rs n q;
       said = λ k. said_at k (cases_eq k n);
       each = λ k. each_of k (cases_eq k n);
+      itself = λ k. itself_of k (cases_eq k n);
       all = λ k c b _ i. all_of k c b (cases_eq k n) i;
       only = λ parent c b i. let w = tells.only parent c b i in (n, w.0, here (cases_eq n n) c b w.1);
     }
@@ -97,6 +100,10 @@ one_course name rs n q said out l course tells =
     each_of k (inl e) = subst (λ j. Course (record_at j rs) (record_at j (slice_set rs n q)) said) (sym e) (subst (λ r. Course (record_at n rs) r said) (sym (get_or-set_same rs n q no_record l)) course)
     each_of k (inr e) = subst (λ r. Course (record_at k rs) r []) (sym (get_or-set_other rs n k q no_record e)) (Course.rests (record_at k rs))
 
+    itself_of : (k : ℕ) (w : (k ≡ n) ⊎ (k ≡ n → ⊥)) → IsByItself (record_at k rs) (record_at k (slice_set rs n q)) (said_at k w)
+    itself_of k (inl e) = subst (λ j. IsByItself (record_at j rs) (record_at j (slice_set rs n q)) said) (sym e) (subst (λ r. IsByItself (record_at n rs) r said) (sym (get_or-set_same rs n q no_record l)) itself)
+    itself_of k (inr e) = subst (λ r. IsByItself (record_at k rs) r []) (sym (get_or-set_other rs n k q no_record e)) (itself_same (record_at k rs))
+
     all_of : (k c : ℕ) (b : Body) (w : (k ≡ n) ⊎ (k ≡ n → ⊥)) → Contains (answering c (said_at k w)) b → Contains (about (header_of (record_at k rs).owner name c) out) b
     all_of k c b (inl e) i = subst (λ j. Contains (about (header_of (record_at j rs).owner name c) out) b) (sym e) (tells.all c b i)
     all_of k c b (inr e) i = absurd (nothing_answered c b [] refl i)
@@ -106,13 +113,14 @@ one_course name rs n q said out l course tells =
     here (inr e) c b i = absurd (e refl)
 
 -- the first of all, and those behind it
-pub more_courses : (name : List ℕ) (r q : Record) (said : List Reply) (front : List Message) (rs qs : List Record) (out : List Message) → Course r q said → Tells name r.owner said front → TakeCourses name rs qs out →
+pub more_courses : (name : List ℕ) (r q : Record) (said : List Reply) (front : List Message) (rs qs : List Record) (out : List Message) → Course r q said → IsByItself r q said → Tells name r.owner said front → TakeCourses name rs qs out →
     TakeCourses name (r ∷ rs) (q ∷ qs) (front ++ out)
-more_courses name r q said front rs qs out course tells rest =
+more_courses name r q said front rs qs out course itself tells rest =
     record {
       long = ap suc rest.long;
       said = said_at;
       each = each_of;
+      itself = itself_of;
       all = all_of;
       only = λ parent c b i. only_of parent c b (about_cases (header_of parent name c) front out b i);
     }
@@ -124,6 +132,10 @@ more_courses name r q said front rs qs out course tells rest =
     each_of : (n : ℕ) → Course (record_at n (r ∷ rs)) (record_at n (q ∷ qs)) (said_at n)
     each_of zero = course
     each_of (suc n) = rest.each n
+
+    itself_of : (n : ℕ) → IsByItself (record_at n (r ∷ rs)) (record_at n (q ∷ qs)) (said_at n)
+    itself_of zero = itself
+    itself_of (suc n) = rest.itself n
 
     all_of : (n c : ℕ) (b : Body) → n < length (r ∷ rs) → Contains (answering c (said_at n)) b → Contains (about (header_of (record_at n (r ∷ rs)).owner name c) (front ++ out)) b
     all_of zero c b l i = about_left (header_of r.owner name c) front out b (tells.all c b i)

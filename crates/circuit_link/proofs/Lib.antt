@@ -18,3 +18,4 @@ pub mod Requests
 pub mod Providers
 pub mod Acting
 pub mod Aggregators
+pub mod Living

@@ -68,7 +68,7 @@ module _ (parent child : List ℕ) (d : Child) where
   asks_heeds k c e x r (inl h) = elim (asks_attempt k c e x r h) [ inl a ↦ inl (inl a) | inr a ↦ inr a ]
   asks_heeds k c e x r (inr h) = inr (eqb-true e c (sym (ap (λ o. is_open o e) (asked_stands k c x r).0) ∙ h))
 
-  owes_less : (c : ℕ) (r : Record) → ((k : ℕ) → owed c k r ≡ 0) → IsAlone c r
+  pub owes_less : (c : ℕ) (r : Record) → ((k : ℕ) → owed c k r ≡ 0) → IsAlone c r
   unfolding owed
   owes_less c r e = record { provision = λ k. omega (arith, e k); life = λ k. omega (arith, e k) }
 

@@ -24,10 +24,11 @@ use Rattle.agent_state.specs.State.{State, Stepped, unchanged, record_at}
 use Rattle.provider_agent.specs.Others.{lacking}
 use Rattle.provider_agent.specs.Setting.{Setting}
 use Rattle.provider_agent.specs.Steps.{keeps, taken_at, with_new, opens_between, opens, accepts, answers, receives, is_waiting, works, is_forcible, forces, own_origin, agent_of, told_at, is_told_at, drawn, ticks_all, ticks, step, after_if, after, may_take}
-use Rattle.circuit_link.specs.Serving.{child_of, Tells, TakeCourses, taken_by, IsTurn, IsNew, Serves}
+use Rattle.circuit_link.specs.Serving.{child_of, IsByItself, Tells, TakeCourses, taken_by, IsTurn, IsNew, Serves}
 use Rattle.circuit_link.proofs.Abouts.{addressed_append}
 use Rattle.circuit_link.proofs.Gathering.{tells_addressed, no_courses, one_course, more_courses}
-use Rattle.circuit_link.proofs.Requests.{found_by, first_by, unnamed_kind, reserve_unnamed}
+use Rattle.circuit_link.proofs.Living.{work_itself, force_itself, tick_itself, plane_itself, telling_itself}
+use Rattle.circuit_link.proofs.Requests.{refused_by, found_by, first_by, unnamed_kind, reserve_unnamed}
 
 -- the change of the data plane that is told behind a move is an act of its own
 plane_act : (before : Plane) (c now : ℕ) (r : Record) → IsAct r (tells before c now (stays r))
@@ -43,11 +44,12 @@ module _ (setting : Setting) (input : Input) (said : List Message) where
   ---- By itself
 
   -- one record acts, and the change of its data plane is told
-  acts_at : (s s' : State) (n : ℕ) (x : Moved) → n < length s.records → s'.records ≡ s.records → s'.seen ≡ s.seen → s'.now ≡ s.now → IsAct (record_at n s.records) x → Does s (keeps setting s' n x)
-  acts_at s s' n x l rs hs t a =
+  acts_at : (s s' : State) (n : ℕ) (x : Moved) → n < length s.records → s'.records ≡ s.records → s'.seen ≡ s.seen → s'.now ≡ s.now → IsAct (record_at n s.records) x → IsByItself (record_at n s.records) x.rec x.out → Does s (keeps setting s' n x)
+  acts_at s s' n x l rs hs t a itself =
       Serves.acts hs
       (subst (λ z. TakeCourses setting.name s.records (slice_set z n y.rec) (addressed setting.name y.rec.owner y.out)) (sym rs)
       (one_course setting.name s.records n y.rec y.out (addressed setting.name y.rec.owner y.out) l (Course.does (record_at n s.records) y act)
+      (telling_itself before (id_of setting.number s'.next) s'.now (record_at n s.records) x itself)
       (subst (λ o. Tells setting.name o y.out (addressed setting.name y.rec.owner y.out)) act.later.owner (tells_addressed setting.name y.rec.owner y.out))))
     where
       before : Plane
@@ -69,6 +71,7 @@ module _ (setting : Setting) (input : Input) (said : List Message) where
   works_serve s n machine true e =
       acts_at s s n _ (ltb-true n (length s.records) (and_first (nat_lt n (length s.records)) (waits machine (record_at n s.records)) e)) refl refl refl
       (work_is_act Side.Provider machine (lacking setting s n) setting.name (s.now + setting.hold) s.now (record_at n s.records))
+      (work_itself Side.Provider machine (lacking setting s n) setting.name (s.now + setting.hold) s.now (record_at n s.records))
 
   forces_serve : (s : State) (n : ℕ) (b : Bool) → is_forcible s n ≡ b → Does s (forces b setting s n)
   unfolding forces
@@ -76,6 +79,7 @@ module _ (setting : Setting) (input : Input) (said : List Message) where
   forces_serve s n true e =
       acts_at s (record s { next = s.next + 1 }) n _ (ltb-true n (length s.records) (and_first (nat_lt n (length s.records)) _ e)) refl refl refl
       (force_is_act Side.Provider (id_of setting.number s.next) (own_origin (agent_of setting) (record_at n s.records)) s.now (record_at n s.records))
+      (force_itself Side.Provider (id_of setting.number s.next) (own_origin (agent_of setting) (record_at n s.records)) s.now (record_at n s.records))
 
   -- each record in order
   ticks_course : (before now next : ℕ) (rs : List Record) → TakeCourses setting.name rs (ticks_all (agent_of setting) before now next rs).records (ticks_all (agent_of setting) before now next rs).out
@@ -84,6 +88,7 @@ module _ (setting : Setting) (input : Input) (said : List Message) where
   ticks_course before now next (r ∷ rs) =
       more_courses setting.name r y.rec y.out (addressed setting.name y.rec.owner y.out) rs (ticks_all (agent_of setting) before now (next + drawn (is_told_at (agent_of setting) before now r)) rs).records
       (ticks_all (agent_of setting) before now (next + drawn (is_told_at (agent_of setting) before now r)) rs).out (Course.does r y act)
+      (telling_itself (status_of before r) (id_of setting.number next) now r _ (tick_itself (is_live r.lsm) (own_origin (agent_of setting) r) now r))
       (subst (λ o. Tells setting.name o y.out (addressed setting.name y.rec.owner y.out)) act.later.owner (tells_addressed setting.name y.rec.owner y.out))
       (ticks_course before now (next + drawn (is_told_at (agent_of setting) before now r)) rs)
     where
@@ -109,6 +114,7 @@ module _ (setting : Setting) (input : Input) (said : List Message) where
           said = z.out;
           more = addressed setting.name z.rec.owner z.out;
           course = Course.does x.rec z act;
+          itself = plane_itself (is_told before s.now x.rec) (status_of s.now x.rec) (id_of setting.number s.next) s.now x.rec;
           records = refl;
           spoken = addressed_append setting.name z.rec.owner x.out z.out ∙ ap (λ o. addressed setting.name o x.out ++ addressed setting.name z.rec.owner z.out) act.later.owner;
           tells = tells_addressed setting.name z.rec.owner z.out;
@@ -153,7 +159,7 @@ module _ (setting : Setting) (input : Input) (said : List Message) where
           subst (λ k. Does s (taken_at setting seen_now k m)) (sym (ap (λ o. unwrap_or o 0) f.found)) (Serves.takes m f.place Side.Provider s.now new f.about (turn seen_now f.place))
 
       answering : (o : Option ErrorName) → refusal setting.name stp_of s.records m ≡ o → Does s (answers o setting stp_of seen_now m)
-      answering (Some error) r = Serves.refuses m error new refl refl
+      answering (Some error) r = Serves.refuses m error new (refused_by setting.name stp_of m error (child_of s said) r) refl refl
       answering None r = accepting (connection_of m.body) refl r
 
     receiving : (stp_of : List ℕ → Option ℕ) (s : State) (a b : Bool) → input ≡ Input.Got m → is_request m.body ≡ a → is_taken m.header s.seen ≡ b → Does s (receives a b setting stp_of s m)

@@ -1,6 +1,8 @@
 -- A request that isn't refused, at an agent of any kind that is asked.
-use Rattle.std.proofs.Common.{ℕ, ◌≡◌, false, not, List, Option, Some, None, refl, sym, ap, ◌∙◌, subst, arith, bytes_eq}
-use Rattle.std.proofs.lemmas.Option.{get_or_from_slice_get, slice_get_within}
+use Rattle.std.proofs.Common.{ℕ, ◌≡◌, ◌<◌, ◌==◌, ◌&&◌, true, false, not, length, slice_get, option_and_then, List, Option, Some, None, refl, sym, ap, ◌∙◌, subst, arith, bytes_eq}
+use Rattle.std.proofs.lemmas.Option.{get_or_from_slice_get, slice_get_within, slice_get-get_or}
+use Rattle.std.proofs.lemmas.List.Quantifiers.{position-Some}
+use Rattle.std.proofs.lemmas.Slice.Eq.{bytes_eq-Decides}
 use Rattle.nsi_primitive.specs.Messages.{kind_of, connection_of}
 use Rattle.nsi_primitive.specs.declared.kind.ErrorName.{ErrorName}
 use Rattle.nsi_primitive.specs.declared.message.Body.{Body}
@@ -8,12 +10,12 @@ use Rattle.nsi_primitive.specs.declared.message.Message.{Message}
 use Rattle.nsi_primitive.specs.declared.message.ReserveRequest.{ReserveRequest}
 use Rattle.child_connection.specs.Holding.{is_reservation}
 use Rattle.connection_record.specs.declared.record.Record.{Record}
-use Rattle.connection_record.specs.Refusal.{refusal, record_refusal, first_refusal, unnamed_refusal, refused_if, or_else, about as refusal_about, place_of, points_of}
+use Rattle.connection_record.specs.Refusal.{refusal, record_refusal, first_refusal, unnamed_refusal, refused_if, or_else, about as refusal_about, named_refusal, record_for, place_of, points_of}
 use Rattle.connection_record.specs.Unrefused.{IsTakenAt}
 use Rattle.connection_record.proofs.Unrefused.{unrefused_agent, unrefused_at, first_criteria}
 use Rattle.agent_state.specs.State.{no_record, record_at}
 use Rattle.circuit_link.specs.Children.{Child}
-use Rattle.circuit_link.specs.Serving.{IsAbout, IsFirst}
+use Rattle.circuit_link.specs.Serving.{IsAbout, IsFirst, IsRefused}
 
 second_none : (a b : Option ErrorName) → or_else a b ≡ None → b ≡ None
 second_none None b h = h
@@ -70,3 +72,23 @@ unnamed_kind _ c n = refl
 pub reserve_unnamed : (body : Body) (q : ReserveRequest) → body ≡ Body.Reserve q → connection_of body ≡ None → q.connection ≡ None
 unfolding connection_of
 reserve_unnamed body q e c = sym (ap connection_of e) ∙ c
+
+-- a request that is refused is refused as the record that it names says
+pub refused_by : (name : List ℕ) (stp_of : List ℕ → Option ℕ) (m : Message) (error : ErrorName) (d : Child) → refusal name stp_of d.records m ≡ Some error → IsRefused name m error d
+unfolding refusal
+refused_by name stp_of m error d r n id p c f = sym (ap (λ o. named_refusal o m.body) row) ∙ at
+  where
+    right : bytes_eq m.header.provider name ≡ true
+    right = (bytes_eq-Decides m.header.provider name).1 p
+
+    named : refusal_about (connection_of m.body) m.header.requester stp_of d.records m.body ≡ Some error
+    named = sym (ap (λ b. or_else (refused_if (not b) ErrorName.WrongProvider) (refusal_about (connection_of m.body) m.header.requester stp_of d.records m.body)) right) ∙ r
+
+    at : named_refusal (record_for id m.header.requester d.records) m.body ≡ Some error
+    at = sym (ap (λ o. refusal_about o m.header.requester stp_of d.records m.body) c) ∙ named
+
+    found : n < length d.records
+    found = (position-Some (λ y. (id == y.id) && bytes_eq m.header.requester y.owner) d.records n no_record f).0
+
+    row : record_for id m.header.requester d.records ≡ Some (record_at n d.records)
+    row = ap (λ o. option_and_then (λ k. slice_get d.records k) o) f ∙ slice_get-get_or d.records n no_record found

@@ -1,5 +1,5 @@
 -- What an entry does at an agent that is asked, whatever its kind, as far as the views of its connections are concerned.
-use Rattle.std.specs.Prelude.{ℕ, ◌≡◌, ◌<◌, true, false, List, [], ◌∷◌, ◌++◌, length, slice_set, Contains, Option, Some, None, ◌⊎◌}
+use Rattle.std.specs.Prelude.{ℕ, ◌≡◌, ◌<◌, true, false, List, [], ◌∷◌, ◌++◌, length, slice_set, Contains, Option, Some, None, option_map, ◌⊎◌}
 use Rattle.nsi_primitive.specs.Messages.{kind_of, connection_of, is_request}
 use Rattle.nsi_primitive.specs.declared.entry.Input.{Input}
 use Rattle.nsi_primitive.specs.declared.kind.ErrorName.{ErrorName}
@@ -7,8 +7,10 @@ use Rattle.nsi_primitive.specs.declared.kind.Kind.{Kind}
 use Rattle.nsi_primitive.specs.declared.message.Body.{Body}
 use Rattle.nsi_primitive.specs.declared.message.Header.{Header}
 use Rattle.nsi_primitive.specs.declared.message.Message.{Message}
+use Rattle.nsi_primitive.specs.declared.message.ReserveConfirmation.{ReserveConfirmation}
 use Rattle.nsi_primitive.specs.declared.message.ReserveRequest.{ReserveRequest}
 use Rattle.nsi_primitive.specs.declared.message.Service.{Service}
+use Rattle.nsi_primitive.specs.declared.state.Rsm.{Rsm}
 use Rattle.nsi_primitive.specs.declared.state.Side.{Side}
 use Rattle.message_retry.specs.Taken.{is_taken, with_taken}
 use Rattle.child_connection.specs.Views.{ChildConnection, sent}
@@ -17,12 +19,21 @@ use Rattle.connection_record.specs.declared.record.Record.{Record}
 use Rattle.connection_record.specs.declared.moves.Reply.{Reply}
 use Rattle.connection_record.specs.Applied.{moves_if, requested}
 use Rattle.connection_record.specs.Courses.{answering, Course}
-use Rattle.connection_record.specs.Moves.{fresh, asked_criteria}
-use Rattle.connection_record.specs.Refusal.{record_refusal}
-use Rattle.connection_record.specs.Replies.{Moved, addressed}
+use Rattle.connection_record.specs.Moves.{fresh, asked_criteria, is_live}
+use Rattle.connection_record.specs.Refusal.{record_refusal, place_of}
+use Rattle.connection_record.specs.Replies.{Moved, id_or, addressed}
 use Rattle.agent_state.specs.Entries.{error_reply}
 use Rattle.agent_state.specs.State.{State, record_at}
 use Rattle.circuit_link.specs.Children.{Child, about, header_of}
+use Rattle.circuit_link.specs.Sides.{version_of}
+
+-- What a record does by itself: it lives on; it checks nothing that it didn't check before; and what it confirms is what it was checking, under the
+-- reserve that asked for it.
+pub record IsByItself (r q : Record) (out : List Reply) : Type 0 where
+  pub lives : is_live r.lsm ≡ true → is_live q.lsm ≡ true
+  pub checks : q.rsm ≡ Rsm.ReserveChecking → (r.rsm ≡ Rsm.ReserveChecking) × (q.pending ≡ r.pending) × (q.reserve_request ≡ r.reserve_request)
+  pub confirms : (y : Reply) (f : ReserveConfirmation) → Contains out y → y.body ≡ Body.ReserveConfirmed f →
+      (r.rsm ≡ Rsm.ReserveChecking) × (y.correlation ≡ id_or r.reserve_request) × (option_map version_of r.pending ≡ Some f.version)
 
 ---- What is said
 
@@ -36,6 +47,7 @@ pub record TakeCourses (name : List ℕ) (old new : List Record) (out : List Mes
   pub long : length new ≡ length old
   pub said : ℕ → List Reply
   pub each : (n : ℕ) → Course (record_at n old) (record_at n new) (said n)
+  pub itself : (n : ℕ) → IsByItself (record_at n old) (record_at n new) (said n)
   pub all : (n c : ℕ) (b : Body) → n < length old → Contains (answering c (said n)) b → Contains (about (header_of (record_at n old).owner name c) out) b
   pub only : (parent : List ℕ) (c : ℕ) (b : Body) → Contains (about (header_of parent name c) out) b → (n : ℕ) × ((record_at n old).owner ≡ parent) × Contains (answering c (said n)) b
 
@@ -49,6 +61,7 @@ pub record IsTurn (side : Side) (name : List ℕ) (now : ℕ) (m : Message) (n :
   pub said : List Reply
   pub more : List Message
   pub course : Course (taken_by side now m (record_at n old)).rec after said
+  pub itself : IsByItself (taken_by side now m (record_at n old)).rec after said
   pub records : new ≡ slice_set old n after
   pub spoken : out ≡ addressed name (taken_by side now m (record_at n old)).rec.owner (taken_by side now m (record_at n old)).out ++ more
   pub tells : Tells name after.owner said more
@@ -84,12 +97,18 @@ pub record IsFirst (name : List ℕ) (m : Message) : Type 0 where
   pub unnamed : reserve.connection ≡ None
   pub asks : asked_criteria reserve [] ≡ None → ⊥
 
+-- a request is refused: one about a record of its sender, for the reason that this record has
+abbrev pub IsRefused : (name : List ℕ) → Message → ErrorName → Child → Type 0
+IsRefused name m error d =
+    (n id : ℕ) → m.header.provider ≡ name → connection_of m.body ≡ Some id → place_of id m.header.requester d.records ≡ Some n →
+    record_refusal m.body (record_at n d.records) ≡ Some error
+
 -- An entry: no request is taken, and records do something by themselves; or one is taken, and nothing is done, as it isn't the reservation's;
 -- or it is refused; or a record takes it; or a record is opened for it.
 pub data Serves (name : List ℕ) (input : Input) (d : Child) (records : List Record) (seen : List Header) (out : List Message) : Type 0 where
   acts : seen ≡ d.seen → TakeCourses name d.records records out → Serves name input d records seen out
   leaves : (m : Message) → IsNew input m d seen → is_reservation (kind_of m.body) ≡ false → records ≡ d.records → out ≡ [] → Serves name input d records seen out
-  refuses : (m : Message) (error : ErrorName) → IsNew input m d seen → records ≡ d.records → out ≡ error_reply name m error ∷ [] → Serves name input d records seen out
+  refuses : (m : Message) (error : ErrorName) → IsNew input m d seen → IsRefused name m error d → records ≡ d.records → out ≡ error_reply name m error ∷ [] → Serves name input d records seen out
   takes : (m : Message) (n : ℕ) (side : Side) (now : ℕ) → IsNew input m d seen → IsAbout name m n d → IsTurn side name now m n d.records records out → Serves name input d records seen out
   opens : (m : Message) (id : ℕ) (service : Service) (source dest : ℕ) (side : Side) (now : ℕ) → IsNew input m d seen → IsFirst name m →
       IsTurn side name now m (length d.records) (d.records ++ fresh id m.header.requester service source dest ∷ []) records out → Serves name input d records seen out

@@ -1,3 +1,6 @@
+pub mod Doing
+pub mod Placing
+pub mod Refusing
 pub mod Backing
 pub mod Serving
 pub mod Minding

@@ -1,5 +1,5 @@
 -- An entry of the parent keeps the pair: its views rest, one asks, or all hear what the child has said.
-use Rattle.std.proofs.Common.{ℕ, ◌≡◌, Bool, true, false, List, [], ◌∷◌, ◌++◌, Contains, Option, Some, None, ◌⊎◌, inl, inr, ◌==◌, ◌&&◌, refl, sym, ap, ◌∙◌, subst, arith, bytes_eq, append-nil, eqb-true, true≢false}
+use Rattle.std.proofs.Common.{ℕ, ◌≡◌, Bool, true, false, List, [], ◌∷◌, ◌++◌, Contains, Option, Some, None, option_map, ◌⊎◌, inl, inr, ◌==◌, ◌&&◌, refl, sym, ap, ◌∙◌, subst, arith, bytes_eq, append-nil, eqb-true, true≢false}
 use Rattle.std.proofs.lemmas.Bool.{cases_eq}
 use Rattle.std.proofs.lemmas.List.Elements.{Contains-append_left, Contains-append_right, Contains-append_cases}
 use Rattle.std.proofs.lemmas.Slice.Eq.{bytes_eq-Decides}
@@ -7,6 +7,7 @@ use Rattle.nsi_primitive.specs.Messages.{kind_of, connection_of, is_request}
 use Rattle.nsi_primitive.specs.declared.entry.Input.{Input}
 use Rattle.nsi_primitive.specs.declared.kind.Kind.{Kind}
 use Rattle.nsi_primitive.specs.declared.message.Body.{Body}
+use Rattle.nsi_primitive.specs.declared.message.Exception.{Exception}
 use Rattle.nsi_primitive.specs.declared.message.Header.{Header}
 use Rattle.nsi_primitive.specs.declared.message.Message.{Message}
 use Rattle.message_retry.specs.Taken.{is_taken}
@@ -22,16 +23,18 @@ use Rattle.child_connection.proofs.Reservations.{request_stays, others_alike}
 use Rattle.connection_record.specs.Speaking.{is_answering, is_asking, is_noting}
 use Rattle.agent_state.specs.State.{record_at}
 use Rattle.circuit_link.specs.Children.{Child, about, header_of, side_of, IsFair}
+use Rattle.aggregator_agent.specs.Asking.{may_abort}
+use Rattle.circuit_link.specs.Sides.{version_of}
 use Rattle.circuit_link.specs.Mates.{IsSeatOf, IsMate, IsOpening}
 use Rattle.circuit_link.proofs.Abouts.{headers_same, same_bytes}
 use Rattle.circuit_link.proofs.Answering.{same_some, only_one, not_there, first_there}
 use Rattle.circuit_link.proofs.Hearing.{other_same}
 use Rattle.circuit_link.proofs.Minding.{alike_heeds, alike_mate, asks_heeds, asking_mate, hears_heeds, hearing_mate, link_asked}
 use Rattle.circuit_pairs.proofs.Backing.{backed_still, backed_more}
-use Rattle.circuit_pairs.specs.Pairs.{IsAsked, IsOfReservation, IsSame, IsCommitOf, AreBacked, IsPair, IsOnce}
+use Rattle.circuit_pairs.specs.Pairs.{IsReserveOf, IsTerminateOf, IsTold, IsAskedFor, IsAsked, IsOfReservation, IsSame, IsCommitOf, AreBacked, IsPair, IsOnce}
 use Rattle.circuit_pairs.specs.Minding.{ReservesNothing, Minds}
 use Rattle.circuit_pairs.specs.Laws.{CanTellApart}
-use Rattle.circuit_pairs.proofs.Serving.{reserving_asks}
+use Rattle.circuit_pairs.proofs.Refusing.{reserving_asks}
 
 ---- Views that are alike
 
@@ -67,6 +70,35 @@ asks_rests k c x e = grind arith
 
 said_more : (parent child : List ℕ) (c : ℕ) (asked more : List Message) (P : Message → Type 0) → IsAsked parent child c asked P → IsAsked parent child c (asked ++ more) P
 said_more parent child c asked more P s = record { message = s.message; there = Contains-append_left asked more s.message s.there; header = s.header; is = s.is }
+
+told_more : (parent child : List ℕ) (asked more : List Message) (id : ℕ) → IsTold parent child asked (IsTerminateOf id) → IsTold parent child (asked ++ more) (IsTerminateOf id)
+told_more parent child asked more id (c, s) = (c, said_more parent child c asked more (IsTerminateOf id) s)
+
+asked_more : (parent child : List ℕ) (asked more : List Message) (d : Child) → IsAskedFor parent child asked d → IsAskedFor parent child (asked ++ more) d
+asked_more parent child asked more d a =
+    record {
+      checks = λ n o e. said_more parent child _ asked more (IsReserveOf (option_map version_of (record_at n d.records).pending)) (a.checks n o e);
+      confirms = λ c f i. said_more parent child c asked more (IsReserveOf (Some f.version)) (a.confirms c f i);
+      ended = λ n o e. told_more parent child asked more (record_at n d.records).id (a.ended n o e);
+    }
+
+-- no message changes the phase that was before a request
+before_stays : (b : Body) (c : ℕ) (x : ChildConnection) → (hears b c x).view.before ≡ x.before
+unfolding hears
+before_stays (Body.ReserveResponse id) c x = grind arith
+before_stays (Body.ReserveConfirmed f) c x = grind arith
+before_stays (Body.ReserveFailed id ex) c x = grind arith
+before_stays (Body.ReserveTimeout t) c x = grind arith
+before_stays (Body.ReserveCommitConfirmed id) c x = grind arith
+before_stays (Body.ReserveCommitFailed id ex) c x = grind arith
+before_stays (Body.ReserveAbortConfirmed id) c x = grind arith
+before_stays (Body.Error id ex) c x = grind arith
+before_stays (Body.ProvisionConfirmed id) c x = grind arith
+before_stays (Body.ReleaseConfirmed id) c x = grind arith
+before_stays (Body.TerminateConfirmed id) c x = grind arith
+before_stays (Body.ErrorEvent f) c x = grind arith
+before_stays (Body.DataPlaneStateChange n) c x = grind arith
+before_stays _ c x = refl
 
 commit_body : (b : Body) → kind_of b ≡ Kind.ReserveCommit → (id : ℕ) × (b ≡ Body.ReserveCommit id) × (connection_of b ≡ Some id)
 unfolding connection_of
@@ -109,6 +141,10 @@ alike_pair I parent child asked d xs ys a pair =
       commits = λ i c r. let w = pair.commits i c (sym (a i).reservation.request ∙ r) in (w.0, (a i).connection ∙ w.1, w.2);
       backed = λ i.
           backed_still parent child (xs i) (ys i) asked asked d d (λ id q. (a i).connection ∙ q) (λ m j. j) (λ c b j. j) (a i).reservation.committed (λ c k r. inl (sym (a i).reservation.request ∙ r)) (pair.backed i);
+      asked_for = pair.asked_for;
+      refuses = λ i c o e r m j.
+          let w = pair.refuses i c o e (sym (a i).reservation.request ∙ r) (sym (ap may_abort (a i).reservation.before) ∙ m) j in
+          (w.0, (a i).connection ∙ w.1, w.2);
     }
 
 some_sent : (a b : Sent) → Some a ≡ Some b → a ≡ b
@@ -133,6 +169,8 @@ module _ (I : Type 0) (dec : CanTellApart I) (parent child : List ℕ) (asked : 
         commits = λ i c r. let w = pair.commits i c r in (w.0, w.1, said_more parent child c asked more (IsCommitOf w.0) w.2);
         backed = λ i.
             backed_still parent child (xs i) (xs i) asked (asked ++ more) d d (λ id q. q) (λ m j. Contains-append_left asked more m j) (λ c b j. j) refl (λ c k r. inl r) (pair.backed i);
+        asked_for = asked_more parent child asked more d pair.asked_for;
+        refuses = λ i c o e r m j. let w = pair.refuses i c o e r m j in (w.0, w.1, told_more parent child asked more w.0 w.2);
       }
     where
       untaken : (m : Message) → IsOfReservation m → m.header.provider ≡ child → is_taken m.header d.seen ≡ false → Contains asked m ⊎ Contains more m → (i : I) × (k : Kind) × ((xs i).reserve_request ≡ Some (sent m.header.correlation k))
@@ -155,6 +193,8 @@ module _ (I : Type 0) (dec : CanTellApart I) (parent child : List ℕ) (asked : 
           untaken = λ n j q p u. untaken n q p u (Contains-append_cases asked (m ∷ []) n j);
           commits = λ j e h. commits j e h (dec j i);
           backed = λ j. backed j (dec j i);
+          asked_for = asked_more parent child asked (m ∷ []) d pair.asked_for;
+          refuses = λ j e o x h a w. refuses j e o x h a w (dec j i);
         }
       where
         request_is : (asks k c (xs i)).reserve_request ≡ Some (sent c k)
@@ -232,6 +272,15 @@ module _ (I : Type 0) (dec : CanTellApart I) (parent child : List ℕ) (asked : 
             let w = pair.commits j e (sym (ap (λ x. x.reserve_request) (there j a)) ∙ h) in
             (w.0, ap (λ x. x.connection) (there j a) ∙ w.1, said_more parent child e asked (m ∷ []) (IsCommitOf w.0) w.2)
 
+        refuses : (j : I) (e : ℕ) (o : Option ℕ) (x : Exception) → (ys j).reserve_request ≡ Some (sent e Kind.ReserveAbort) → may_abort (ys j).before ≡ true → Contains (about (header_of parent child e) d.said) (Body.Error o x) → (j ≡ i) ⊎ (j ≡ i → ⊥) →
+            (id : ℕ) × ((ys j).connection ≡ Some id) × IsTold parent child (asked ++ m ∷ []) (IsTerminateOf id)
+        refuses j e o x h a w (inl q) =
+            absurd (not_there (about (header_of parent child e) d.said) (Body.Error o x) (subst (λ z. about (header_of parent child z) d.said ≡ []) (asked_here e Kind.ReserveAbort j h q).0 (fair.silent c new)) w)
+        refuses j e o x h a w (inr q) =
+            let same = there j q in
+            let v = pair.refuses j e o x (sym (ap (λ y. y.reserve_request) same) ∙ h) (sym (ap (λ y. may_abort y.before) same) ∙ a) w in
+            (v.0, ap (λ y. y.connection) same ∙ v.1, told_more parent child asked (m ∷ []) v.0 v.2)
+
         backed_here : (j : I) → (ys j).connection ≡ (xs j).connection → (ys j).committed ≡ (xs j).committed →
             ((e : ℕ) (l : Kind) → (ys j).reserve_request ≡ Some (sent e l) → ((xs j).reserve_request ≡ Some (sent e l)) ⊎ (about (header_of parent child e) d.said ≡ [])) → AreBacked parent child (ys j) (asked ++ m ∷ []) d
         backed_here j known same waits =
@@ -255,7 +304,7 @@ notice_settles : (b : Body) → is_answering b ≡ false → (settles b ≡ fals
 unfolding is_answering is_asking is_noting settles is_response
 notice_settles b e = grind (arith, e)
 
-notice_alike : (b : Body) (c : ℕ) (x : ChildConnection) → is_answering b ≡ false → IsAlike x (hears b c x).view
+pub notice_alike : (b : Body) (c : ℕ) (x : ChildConnection) → is_answering b ≡ false → IsAlike x (hears b c x).view
 notice_alike b c x e = let w = notice_settles b e in others_alike b c x w.0 w.1
 
 -- a view whose commit is confirmed has nothing unanswered
@@ -275,7 +324,7 @@ module _ (parent child : List ℕ) (d : Child) (fair : IsFair parent child d) (b
   heard_request q r = elim (request_stays b e x) [ inl w ↦ sym w ∙ r | inr w ↦ absurd (no_sent q (sym w ∙ r)) ]
 
   -- what was known stays
-  connected : (id : ℕ) → x.connection ≡ Some id → y.connection ≡ Some id
+  pub connected : (id : ℕ) → x.connection ≡ Some id → y.connection ≡ Some id
   connected id q = by_learnt (messages_teach b e x)
     where
       by_learnt : Learns b e x y → y.connection ≡ Some id
@@ -368,6 +417,11 @@ module _ (I : Type 0) (dec : CanTellApart I) (parent child : List ℕ) (asked : 
             let w = pair.commits i c (heard_request parent child d fair b e (xs i) (pair.place i) said (pair.mates i) (sent c Kind.ReserveCommit) r) in
             (w.0, connected parent child d fair b e (xs i) (pair.place i) said (pair.mates i) w.0 w.1, w.2);
         backed = λ i. backed i (messages_commit b e (xs i));
+        asked_for = pair.asked_for;
+        refuses = λ i c o x r m j.
+            let q = heard_request parent child d fair b e (xs i) (pair.place i) said (pair.mates i) (sent c Kind.ReserveAbort) r in
+            let w = pair.refuses i c o x q (sym (ap may_abort (before_stays b e (xs i))) ∙ m) j in
+            (w.0, connected parent child d fair b e (xs i) (pair.place i) said (pair.mates i) w.0 w.1, w.2);
       }
     where
       head : (m : Message) → Contains asked m → IsOfReservation m → m.header.provider ≡ child → m.header ≡ header_of parent child m.header.correlation

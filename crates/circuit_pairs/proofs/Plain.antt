@@ -15,7 +15,7 @@ use Rattle.connection_record.specs.Speaking.{one, tally, is_asking, asks_for}
 use Rattle.connection_record.proofs.Saying.{tally_append}
 use Rattle.agent_state.specs.Entries.{error_reply}
 use Rattle.circuit_pairs.specs.Minding.{ReservesNothing}
-use Rattle.circuit_pairs.proofs.Serving.{reserving_asks}
+use Rattle.circuit_pairs.proofs.Refusing.{reserving_asks}
 
 pub none_reserves : (child : List ℕ) → ReservesNothing child []
 none_reserves child m i = absurd (nothing_in m i)

@@ -1,10 +1,11 @@
 -- An entry of the child keeps the pair: a request is one view's own, or passes all of them by.
 use Rattle.std.proofs.Common.{ℕ, ◌≡◌, ◌<◌, Bool, true, false, List, length, Contains, Option, Some, ◌⊎◌, inl, inr, refl, sym, ap, ◌∙◌, subst, arith, bytes_eq, true≢false}
 use Rattle.std.proofs.lemmas.Slice.Eq.{bytes_eq-Decides}
-use Rattle.nsi_primitive.specs.Kinds.{is_request_kind}
 use Rattle.nsi_primitive.specs.Messages.{kind_of, connection_of, is_request}
 use Rattle.nsi_primitive.specs.declared.entry.Input.{Input}
 use Rattle.nsi_primitive.specs.declared.kind.Kind.{Kind}
+use Rattle.nsi_primitive.specs.declared.message.Body.{Body}
+use Rattle.nsi_primitive.specs.declared.message.Exception.{Exception}
 use Rattle.nsi_primitive.specs.declared.message.Header.{Header}
 use Rattle.nsi_primitive.specs.declared.message.Message.{Message}
 use Rattle.message_retry.specs.Taken.{is_taken}
@@ -14,15 +15,18 @@ use Rattle.connection_record.specs.declared.record.Record.{Record}
 use Rattle.agent_state.specs.State.{record_at}
 use Rattle.circuit_link.specs.Links.{IsAttempt, Link}
 use Rattle.circuit_link.specs.Sides.{Side}
-use Rattle.circuit_link.specs.Children.{Child, goes_on, header_of, side_of, IsFair}
+use Rattle.aggregator_agent.specs.Asking.{may_abort}
+use Rattle.circuit_link.specs.Children.{Child, goes_on, about, header_of, side_of, IsFair}
 use Rattle.circuit_link.specs.Mates.{IsMate}
 use Rattle.circuit_link.specs.Serving.{Serves, IsForeign, IsOwn, LeavesAlone, IsPlaceAfter}
-use Rattle.circuit_link.proofs.Abouts.{headers_same, about_left, taken_before}
+use Rattle.circuit_link.proofs.Abouts.{headers_same, about_left, about_cases, taken_before}
 use Rattle.circuit_link.proofs.Answering.{same_some}
 use Rattle.circuit_link.proofs.Entering.{passing_mate, own_mate}
 use Rattle.circuit_link.proofs.Likeness.{open_itself}
 use Rattle.circuit_pairs.proofs.Backing.{backed_still}
-use Rattle.circuit_pairs.specs.Pairs.{IsAsked, IsOfReservation, IsSame, IsPair, IsOnce}
+use Rattle.circuit_pairs.proofs.Doing.{serving_asked}
+use Rattle.circuit_pairs.proofs.Refusing.{reserving_asks, serving_refuses}
+use Rattle.circuit_pairs.specs.Pairs.{IsTerminateOf, IsTold, IsAsked, IsOfReservation, IsSame, IsPair, IsOnce}
 use Rattle.circuit_pairs.specs.Laws.{CanTellApart}
 
 ---- What a link says of the kind of its request
@@ -38,22 +42,15 @@ request_kind x s c k (Link.asked d l r' p a y) r = ap is_reservation (same_kind 
     same_kind : (c d : ℕ) (k l : Kind) → Some (sent c k) ≡ Some (sent d l) → l ≡ k
     same_kind c d k l e = let q : sent c k ≡ sent d l = cc in sym (ap (λ z. z.kind) q)
 
-kind_asks : (k : Kind) → is_reservation k ≡ true → is_request_kind k ≡ true
-unfolding is_reservation
-kind_asks k e = grind arith
-
-pub reserving_asks : (m : Message) → is_reservation (kind_of m.body) ≡ true → is_request m.body ≡ true
-reserving_asks m e = kind_asks (kind_of m.body) e
-
 pub seen_fewer : (name : List ℕ) (input : Input) (d : Child) (records : List Record) (seen : List Header) (out : List Message) → Serves name input d records seen out → (h : Header) → is_taken h seen ≡ false → is_taken h d.seen ≡ false
 seen_fewer name input d records seen out (Serves.acts e v) h u = sym (ap (is_taken h) e) ∙ u
 seen_fewer name input d records seen out (Serves.leaves m w k r o) h u = taken_before h m.header d.seen w.untaken (sym (ap (is_taken h) w.counted) ∙ u)
-seen_fewer name input d records seen out (Serves.refuses m error w r o) h u = taken_before h m.header d.seen w.untaken (sym (ap (is_taken h) w.counted) ∙ u)
+seen_fewer name input d records seen out (Serves.refuses m error w v r o) h u = taken_before h m.header d.seen w.untaken (sym (ap (is_taken h) w.counted) ∙ u)
 seen_fewer name input d records seen out (Serves.takes m n side now w a t) h u = taken_before h m.header d.seen w.untaken (sym (ap (is_taken h) w.counted) ∙ u)
 seen_fewer name input d records seen out (Serves.opens m id s source dest side now w b t) h u = taken_before h m.header d.seen w.untaken (sym (ap (is_taken h) w.counted) ∙ u)
 
 module _ (I : Type 0) (dec : CanTellApart I) (parent name : List ℕ) (xs : I → ChildConnection) (asked : List Message) (d : Child) (input : Input) (records : List Record) (seen : List Header) (out : List Message) (fair : IsFair parent name d) (once : IsOnce parent asked)
-    (serves : Serves name input d records seen out) (pair : IsPair I parent name xs asked d) where
+    (serves : Serves name input d records seen out) (pair : IsPair I parent name xs asked d) (were : (m : Message) → input ≡ Input.Got m → is_request m.body ≡ true → m.header.requester ≡ parent → Contains asked m) where
   abbrev after : Child
   after = goes_on d records seen out
 
@@ -72,7 +69,15 @@ module _ (I : Type 0) (dec : CanTellApart I) (parent name : List ℕ) (xs : I �
         commits = pair.commits;
         backed = λ i.
             backed_still parent name (xs i) (xs i) asked asked d (goes_on d records seen out) (λ id q. q) (λ m j. j) (λ c b j. about_left (header_of parent name c) d.said out b j) refl (λ c k r. inl r) (pair.backed i);
+        asked_for = serving_asked parent name asked d pair.asked_for input records seen out were serves;
+        refuses = λ i c o e r m j. refuses i c o e r m (about_cases (header_of parent name c) d.said out (Body.Error o e) j);
       }
+    where
+      refuses : (i : I) (c : ℕ) (o : Option ℕ) (e : Exception) → (xs i).reserve_request ≡ Some (sent c Kind.ReserveAbort) → may_abort (xs i).before ≡ true →
+          Contains (about (header_of parent name c) d.said) (Body.Error o e) ⊎ Contains (about (header_of parent name c) out) (Body.Error o e) → (id : ℕ) × ((xs i).connection ≡ Some id) × IsTold parent name asked (IsTerminateOf id)
+      refuses i c o e r m (inl j) = pair.refuses i c o e r m j
+      refuses i c o e r m (inr j) =
+          serving_refuses parent name asked d fair once pair.asked_for (xs i) (pair.place i) (pair.mates i) (pair.unseen i) (pair.heeds i) c r input records seen out were serves m o e j
 
   -- whose a request is
   data Whose (m : Message) : Type 0 where
@@ -187,11 +192,11 @@ module _ (I : Type 0) (dec : CanTellApart I) (parent name : List ℕ) (xs : I �
   by_message m got mine false b q u = none_comes (λ n e r w. true≢false (sym r ∙ ap (λ (z : Message). is_request z.body) (same_message n m (sym e ∙ got)) ∙ q))
   by_message m got mine true true q u = none_comes (λ n e r w. true≢false (sym u ∙ ap (λ (z : Message). is_taken z.header d.seen) (same_message m n (sym got ∙ e)) ∙ w))
 
-  pub serving_pair : ((m : Message) → input ≡ Input.Got m → is_request m.body ≡ true → m.header.requester ≡ parent → Contains asked m) → IsPair I parent name xs asked (goes_on d records seen out)
-  serving_pair mine = by_input input refl
+  pub serving_pair : IsPair I parent name xs asked (goes_on d records seen out)
+  serving_pair = by_input input refl
     where
       by_input : (i : Input) → input ≡ i → IsPair I parent name xs asked (goes_on d records seen out)
-      by_input (Input.Got m) e = by_message m e (λ r q. mine m e q r) (is_request m.body) (is_taken m.header d.seen) refl refl
+      by_input (Input.Got m) e = by_message m e (λ r q. were m e q r) (is_request m.body) (is_taken m.header d.seen) refl refl
       by_input Input.Tick e = none_comes (λ m g q u. absurd (let w = sym e ∙ g in cc))
       by_input (Input.Acked i) e = none_comes (λ m g q u. absurd (let w = sym e ∙ g in cc))
       by_input (Input.Work n machine) e = none_comes (λ m g q u. absurd (let w = sym e ∙ g in cc))

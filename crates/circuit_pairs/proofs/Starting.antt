@@ -1,5 +1,7 @@
 -- Before anything is said, views that were asked nothing and a child that has taken nothing are a pair.
 use Rattle.std.proofs.Common.{ℕ, List, [], None, inl, inr, refl}
+use Rattle.nsi_primitive.specs.declared.message.Body.{Body}
+use Rattle.connection_record.specs.Moves.{is_live}
 use Rattle.record_index.proofs.Members.{nothing_in}
 use Rattle.child_connection.specs.Views.{ChildConnection}
 use Rattle.child_connection.specs.Holding.{IsHeeded, IsAlike}
@@ -33,6 +35,7 @@ start_mate parent child =
     }
 
 pub start_pair : (I : Type 0) (parent child : List ℕ) (xs : I → ChildConnection) → ((i : I) → IsAlike (no_child child) (xs i)) → IsPair I parent child xs [] no_past
+unfolding about is_live
 start_pair I parent child xs a =
     alike_pair I parent child [] no_past (λ i. no_child child) xs a
     (record {
@@ -46,4 +49,11 @@ start_pair I parent child xs a =
       untaken = λ m i r p u. absurd (nothing_in m i);
       commits = λ i c r. absurd (cc);
       backed = λ i. none_backed parent child (no_child child) [] no_past refl;
+      asked_for =
+          record {
+            checks = λ n o e. absurd (cc);
+            confirms = λ c f i. absurd (nothing_in (Body.ReserveConfirmed f) i);
+            ended = λ n o e. absurd (cc);
+          };
+      refuses = λ i c o e r m j. absurd (cc);
     })
