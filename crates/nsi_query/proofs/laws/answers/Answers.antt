@@ -1,0 +1,10 @@
+use Rattle.nsi_query.proofs.Answering.{answers_are_printable, answers_have_rows, queries_are_answered, summaries_are_printable}
+use Rattle.nsi_query.proofs.laws.answers.Goals as goal
+
+pub returns : goal.returns
+returns c = record {
+  queried = queries_are_answered;
+  rows = answers_have_rows;
+  printable = answers_are_printable;
+  summaries = summaries_are_printable;
+}

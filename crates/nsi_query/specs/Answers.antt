@@ -1,0 +1,40 @@
+-- The answers to queries.
+use Rattle.std.specs.Prelude.{ℕ, List, [], Option, Some, None, unwrap_or}
+use Rattle.nsi_primitive.specs.declared.message.Body.{Body}
+use Rattle.nsi_primitive.specs.declared.message.Notice.{Notice}
+use Rattle.nsi_primitive.specs.declared.message.NumberRange.{NumberRange}
+use Rattle.nsi_primitive.specs.declared.message.Outcome.{Outcome}
+use Rattle.nsi_primitive.specs.declared.message.RecursiveRow.{RecursiveRow}
+use Rattle.nsi_primitive.specs.declared.message.SummaryRow.{SummaryRow}
+use Rattle.nsi_query.specs.declared.rows.Rows.{Rows}
+use Rattle.nsi_query.specs.Summary.{Shown, summary_of}
+use Rattle.nsi_query.specs.Counted.{notifications, results}
+use Rattle.nsi_query.specs.Nested.{own_row, nest}
+
+abbrev pub summary_answer : Rows SummaryRow → Body
+summary_answer found = Body.QuerySummaryConfirmed found.more found.rows
+
+abbrev pub notification_answer : ℕ → Rows Notice → Body
+notification_answer connection found = Body.QueryNotificationConfirmed connection found.more found.rows
+
+abbrev pub result_answer : ℕ → Rows Outcome → Body
+result_answer connection found = Body.QueryResultConfirmed connection found.more found.rows
+
+abbrev pub nested_answer : ℕ → Rows RecursiveRow → Body
+nested_answer connection found = Body.QueryRecursiveConfirmed connection found.more found.rows
+
+-- without a start the numbers are those from the first one, without an end all up to the last
+abbrev pub first_asked : NumberRange → ℕ
+first_asked range = unwrap_or range.start 1
+
+abbrev pub last_asked : NumberRange → ℕ
+last_asked range = unwrap_or range.end 18446744073709551615
+
+-- what an agent that has no child to ask answers to a query about a connection; all else is no query
+unfoldable pub answer_about : List ℕ → Shown → Body → Option Body
+answer_about agent x (Body.QuerySummary connection) = Some (summary_answer (summary_of x))
+answer_about agent x (Body.QueryNotification range) =
+    Some (notification_answer x.0.id (notifications (first_asked range) (last_asked range) x.0))
+answer_about agent x (Body.QueryResult range) = Some (result_answer x.0.id (results (first_asked range) (last_asked range) x.0))
+answer_about agent x (Body.QueryRecursive connection) = Some (nested_answer x.0.id (nest (own_row agent x.0) []))
+answer_about agent x _ = None

@@ -1,0 +1,29 @@
+-- What is true of every answer to a query.
+use Rattle.std.specs.Prelude.{◌≡◌, ℕ, List, true, Some, is_some}
+use Rattle.std.specs.List.{All}
+use Rattle.nsi_primitive.specs.Messages.{has_rows, is_query}
+use Rattle.nsi_primitive.specs.Printable.{IsPrintableBody, IsShort}
+use Rattle.nsi_primitive.specs.declared.message.Body.{Body}
+use Rattle.nsi_query.specs.Answers.{answer_about, summary_answer}
+use Rattle.nsi_query.specs.Summary.{Shown, summary}
+
+-- the queries are answered, and nothing else is
+abbrev pub QueriesAreAnswered : Type 0
+QueriesAreAnswered = (agent : List ℕ) (x : Shown) (query : Body) → is_some (answer_about agent x query) ≡ is_query query
+
+-- an answer is one of the four that have rows
+abbrev pub AnswersHaveRows : Type 0
+AnswersHaveRows = (agent : List ℕ) (x : Shown) (query body : Body) → answer_about agent x query ≡ Some body → has_rows body ≡ true
+
+-- the texts of a connection can be written
+abbrev pub HasShortTexts : Shown → Type 0
+HasShortTexts x = IsShort 256 x.0.service.description × IsShort 128 x.0.service.global
+
+-- where the texts of a connection can be written, so can what is answered about it
+abbrev pub AnswersArePrintable : Type 0
+AnswersArePrintable =
+    (agent : List ℕ) (x : Shown) (query body : Body) → HasShortTexts x → answer_about agent x query ≡ Some body → IsPrintableBody body
+
+-- and what is answered about all of an owner's
+abbrev pub SummariesArePrintable : Type 0
+SummariesArePrintable = (owner : List ℕ) (all : List Shown) → All HasShortTexts all → IsPrintableBody (summary_answer (summary owner all))

@@ -1,0 +1,11 @@
+//! The laws of answers to queries.
+
+ghost use Rattle.nsi_query.specs.Laws.{QueriesAreAnswered, AnswersHaveRows, AnswersArePrintable, SummariesArePrintable};
+
+/// It costs nothing, and tells what is true of every answer.
+pub fn answers()
+    ensures queried { QueriesAreAnswered }
+    ensures rows { AnswersHaveRows }
+    ensures printable { AnswersArePrintable }
+    ensures summaries { SummariesArePrintable }
+{}
