@@ -7,6 +7,7 @@ use Rattle.nsi_primitive.specs.Messages.{identity, addressee}
 use Rattle.nsi_primitive.specs.declared.message.Message.{Message}
 use Rattle.nsi_primitive.specs.declared.message.Parcel.{Parcel}
 use Rattle.agent_node.specs.Doors.{Door, change_first, with_parcel, queue_at, queue_if, says, says_all, pushes, come_through, lying, clears, let_through, learns, most_parcels}
+use Rattle.agent_node.proofs.Joints.{change_nil, change_here, change_there, through_nil, through_here, through_there}
 use Rattle.nsi_world.specs.Worlds.{Homes, World, synced_part, IsSaidBy, IsGot}
 use Rattle.nsi_world.specs.Seats.{MayGo, IsDoor, Follows}
 use Rattle.nsi_world.proofs.Given.{Given}
@@ -14,20 +15,8 @@ use Rattle.nsi_world.proofs.Later.{go_later}
 
 ---- The first door to an agent
 
-change_none : (to : ℕ) (f : Door → Door) → change_first to f [] ≡ []
-unfolding change_first
-change_none to f = refl
-
-change_here : (to : ℕ) (f : Door → Door) (d : Door) (ds : List Door) → d.other ≡ to → change_first to f (d ∷ ds) ≡ f d ∷ ds
-unfolding change_first
-change_here to f d ds e = rw (eq-eqb d.other to e) refl
-
-change_there : (to : ℕ) (f : Door → Door) (d : Door) (ds : List Door) → (d.other ≡ to → ⊥) → change_first to f (d ∷ ds) ≡ d ∷ change_first to f ds
-unfolding change_first
-change_there to f d ds n = rw (ne_eqb d.other to n) refl
-
 change_all : (P : Door → Type 0) (to : ℕ) (f : Door → Door) → ((d : Door) → d.other ≡ to → P d → P (f d)) → (ds : List Door) → All P ds → All P (change_first to f ds)
-change_all P to f step [] h = subst (All P) (sym (change_none to f)) h
+change_all P to f step [] h = subst (All P) (sym (change_nil to f)) h
 change_all P to f step (d ∷ ds) h = elim (cases_eq d.other to) [
   | inl e ↦ subst (All P) (sym (change_here to f d ds e)) (All-cons P (f d) ds (step d e (All-head P d ds h)) (All-tail P d ds h))
   | inr n ↦ subst (All P) (sym (change_there to f d ds n)) (All-cons P d (change_first to f ds) (All-head P d ds h) (change_all P to f step ds (All-tail P d ds h)))
@@ -98,20 +87,8 @@ lying_later homes rests w v a xs f h = All-weaker (IsComing homes w a) (IsComing
 
 ---- Meetings
 
-through_none : (to : ℕ) → let_through to [] ≡ []
-unfolding let_through
-through_none to = refl
-
-through_here : (to : ℕ) (d : Door) (ds : List Door) → d.other ≡ to → let_through to (d ∷ ds) ≡ d.out
-unfolding let_through
-through_here to d ds e = rw (eq-eqb d.other to e) refl
-
-through_there : (to : ℕ) (d : Door) (ds : List Door) → (d.other ≡ to → ⊥) → let_through to (d ∷ ds) ≡ let_through to ds
-unfolding let_through
-through_there to d ds n = rw (ne_eqb d.other to n) refl
-
 pub doors_through : (homes : Homes) (w : World) (a to : ℕ) (ds : List Door) → All (IsDoor homes w a) ds → All (MayGo homes w (synced_part w) a to) (let_through to ds)
-doors_through homes w a to [] h = subst (All (MayGo homes w (synced_part w) a to)) (sym (through_none to)) (All-nil (MayGo homes w (synced_part w) a to))
+doors_through homes w a to [] h = subst (All (MayGo homes w (synced_part w) a to)) (sym (through_nil to)) (All-nil (MayGo homes w (synced_part w) a to))
 doors_through homes w a to (d ∷ ds) h = elim (cases_eq d.other to) [
   | inl e ↦ subst (All (MayGo homes w (synced_part w) a to)) (sym (through_here to d ds e)) (subst (λ o. All (MayGo homes w (synced_part w) a o) d.out) e (All-head (IsDoor homes w a) d ds h).out)
   | inr n ↦ subst (All (MayGo homes w (synced_part w) a to)) (sym (through_there to d ds n)) (doors_through homes w a to ds (All-tail (IsDoor homes w a) d ds h))

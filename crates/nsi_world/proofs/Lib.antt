@@ -8,13 +8,13 @@ mod TurnSteps
 mod NetSteps
 mod ActSteps
 mod PlaySteps
-mod Names
+pub mod Names
 mod Printing
 mod Room
 mod Opening
 mod Asking
 mod PlayAsks
-mod Resting
+pub mod Resting
 mod RunLaws
 mod PlainRequests
 mod PlainRequester

@@ -7,7 +7,7 @@ use Rattle.nsi_primitive.specs.declared.message.Parcel.{Parcel}
 use Rattle.agent_node.specs.Doors.{Door, HasMet, change_first, let_through, learns, others}
 use Rattle.agent_node.specs.Seat.{Seat}
 use Rattle.agent_node.specs.Meetings.{met}
-use Rattle.agent_node.proofs.Joints.{change_nil, change_here, change_there, others_learnt}
+use Rattle.agent_node.proofs.Joints.{change_nil, change_here, change_there, through_nil, through_here, through_there, others_learnt}
 use Rattle.nsi_play.specs.Rounds.{Net, meets_each, meets_all}
 use Rattle.quiet_rounds.specs.Bounded.{numbers}
 use Rattle.quiet_rounds.proofs.Greatest.{HasAll, AtDoors}
@@ -53,20 +53,8 @@ each_keeps P s (o ∷ os) step h = each_keeps P (met o s) os step (met_keeps P o
 
 ---- What is known then was let through
 
-through_none : (to : ℕ) → let_through to [] ≡ []
-unfolding let_through
-through_none to = refl
-
-through_here : (to : ℕ) (d : Door) (ds : List Door) → d.other ≡ to → let_through to (d ∷ ds) ≡ d.out
-unfolding let_through
-through_here to d ds e = rw (eq-eqb d.other to e) refl
-
-through_there : (to : ℕ) (d : Door) (ds : List Door) → (d.other ≡ to → ⊥) → let_through to (d ∷ ds) ≡ let_through to ds
-unfolding let_through
-through_there to d ds n = rw (ne_eqb d.other to n) refl
-
 through_is : (P : List Parcel → Type 0) → P [] → (to : ℕ) (ds : List Door) → All (λ d. P d.out) ds → P (let_through to ds)
-through_is P none to [] h = subst P (sym (through_none to)) none
+through_is P none to [] h = subst P (sym (through_nil to)) none
 through_is P none to (d ∷ ds) h = elim (cases_eq d.other to) [
   | inl e ↦ subst P (sym (through_here to d ds e)) (All-head (λ d. P d.out) d ds h)
   | inr n ↦ subst P (sym (through_there to d ds n)) (through_is P none to ds (All-tail (λ d. P d.out) d ds h))

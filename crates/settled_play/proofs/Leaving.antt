@@ -27,11 +27,13 @@ use Rattle.nsi_world.specs.Runs.{world_after}
 use Rattle.nsi_world.specs.Laws.{PlayRests}
 use Rattle.settled_play.specs.Settled.{AllBut, WasAcked, IsOf, IsHeard, IsOver, none_lost, IsSettled, PlaySettles, IsDone, PlayLeavesNone}
 use Rattle.settled_play.proofs.Finding.{none_there, first_or_later, idle_door}
-use Rattle.settled_play.proofs.Links.{Given, IsLinked, Way, home_name, agent_there, others_within, said_goes}
+use Rattle.nsi_world.proofs.Names.{home_name}
+use Rattle.nsi_world.proofs.Resting.{opening_quiet}
+use Rattle.settled_play.proofs.Links.{Given, IsLinked, Way, agent_there, others_within, said_goes}
 use Rattle.settled_play.proofs.Pairs.{IsFor, IsEmpty, pair_over}
 use Rattle.settled_play.proofs.Journals.{entered_at, journal_after}
 use Rattle.settled_play.proofs.Rounds.{SitsIn, HasMetAll, Rests, numbered}
-use Rattle.settled_play.proofs.Plays.{Ends, plays_end, opening_quiet, opening_rests}
+use Rattle.settled_play.proofs.Plays.{Ends, plays_end, opening_rests}
 
 no_entries : (es : List Entry) → length es ≡ 0 → es ≡ []
 no_entries [] e = refl

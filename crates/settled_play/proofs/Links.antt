@@ -21,6 +21,7 @@ use Rattle.nsi_agent.proofs.OwnMessages.{is_named_as_declared}
 use Rattle.nsi_agent.proofs.LeastWays.{asks_go_along_links}
 use Rattle.agent_node.specs.Openings.{is_provider_of, asks, are_linked, agents, others_of}
 use Rattle.nsi_world.specs.Agents.{IsPlain, NoneIsQuery}
+use Rattle.nsi_world.proofs.Names.{home_name}
 use Rattle.settled_play.proofs.Finding.{none_there, first_there, later_there, first_or_later}
 
 -- what is given: the laws of what agents say, and a topology that a text gives
@@ -129,14 +130,6 @@ IsFromLink t a _ = Unit {0}
 
 abbrev pub IsLinked : Network → ℕ → Entry → Type 0
 IsLinked t a e = IsFromLink t a e.input
-
-pub home_name : (t : Network) (routes : Routes) (a : ℕ) → (home_in t routes a).name ≡ name_of t a
-unfolding home_in
-home_name t routes a = refl
-
-pub home_leads : (t : Network) (routes : Routes) (a : ℕ) → (home_in t routes a).agent_of ≡ agent_of t
-unfolding home_in
-home_leads t routes a = refl
 
 pub own_name : (t : Network) (routes : Routes) (a : ℕ) → name_in (home_in t routes a).role ≡ name_of t a
 own_name t routes a = (is_named_as_declared t routes a).0 ∙ home_name t routes a

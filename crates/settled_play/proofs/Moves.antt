@@ -28,7 +28,8 @@ use Rattle.agent_node.specs.Acts.{asked, forced, is_overdue, overdue, tick_at, t
 use Rattle.nsi_play.specs.Play.{changes, does}
 use Rattle.settled_play.proofs.Finding.{door_to, none_there, first_there, later_there, first_or_later, change_doors, map_door, others_map, lies_there, with_leads, queued_there, queue_keeps, says_keeps, said_there, others_change}
 use Rattle.settled_play.proofs.Waiting.{acked_before}
-use Rattle.settled_play.proofs.Links.{Given, Goes, IsLinked, Way, home_leads, said_goes}
+use Rattle.nsi_world.proofs.Names.{home_leads}
+use Rattle.settled_play.proofs.Links.{Given, Goes, IsLinked, Way, said_goes}
 use Rattle.settled_play.proofs.Steps.{entered_append, IsOwn, IsDoor, IsInHand, AreDoors, Sits, Step, step_none, step_twice, step_entry, Keeps, step_doors, step_taken}
 
 ---- What the doors keep

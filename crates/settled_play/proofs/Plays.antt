@@ -114,26 +114,6 @@ plays_end t routes given past most (g ∷ gs) count x r quiet over =
 
 ---- Before anything has happened
 
-no_work : (role : Role) → is_none (work_of role blank_agent) ≡ true
-no_work (provides setting stp_of) = refl
-no_work (aggregates setting) = refl
-no_work (requests setting) = refl
-
-no_parcels : (bs : List ℕ) → all_idle (map empty_door bs) ≡ true
-no_parcels [] = refl
-no_parcels (b ∷ bs) = no_parcels bs
-
-seat_quiet : (homes : Homes) (t : Network) (a : ℕ) → is_quiet_in homes (seat_of t a) ≡ true
-unfolding is_quiet
-seat_quiet homes t a = ap (λ b. b && all_idle (map empty_door (others_of t a))) (no_work (homes a).role) ∙ no_parcels (others_of t a)
-
-seats_quiet : (homes : Homes) (t : Network) (ns : List ℕ) → all_quiet homes (map (seat_of t) ns) ≡ true
-seats_quiet homes t [] = refl
-seats_quiet homes t (n ∷ ns) = ap (λ b. b && all_quiet homes (map (seat_of t) ns)) (seat_quiet homes t n) ∙ seats_quiet homes t ns
-
-pub opening_quiet : (t : Network) (routes : Routes) → all_quiet (home_in t routes) (opening t) ≡ true
-opening_quiet t routes = seats_quiet (home_in t routes) t (agents t)
-
 numbers_of : (t : Network) (ns : List ℕ) → numbers (map (seat_of t) ns) ≡ ns
 numbers_of t [] = refl
 numbers_of t (n ∷ ns) = ap (λ xs. n ∷ xs) (numbers_of t ns)
