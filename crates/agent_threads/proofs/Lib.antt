@@ -15,3 +15,4 @@ pub mod Growing
 pub mod Bounding
 pub mod Going
 pub mod Keeping
+pub mod Leaves

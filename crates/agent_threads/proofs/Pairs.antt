@@ -5,31 +5,10 @@ use Rattle.nsi_primitive.specs.declared.message.Parcel.{Parcel}
 use Rattle.agent_node.specs.Doors.{Door, others, change_first, let_through, learns}
 use Rattle.agent_node.specs.Seat.{Seat}
 use Rattle.agent_node.specs.Meetings.{met}
+use Rattle.agent_node.proofs.Joints.{change_nil, change_here, change_there, through_here, through_there}
 use Rattle.nsi_play.specs.Rounds.{Net, meets_each, meets_all, met_all}
 use Rattle.agent_threads.specs.Nets.{numbers, IsAbsent, AreApart}
 use Rattle.agent_threads.specs.Made.{met_by_each}
-
----- The first door to an agent
-
-change_nil : (n : ℕ) (f : Door → Door) → change_first n f [] ≡ []
-unfolding change_first
-change_nil n f = refl
-
-change_here : (n : ℕ) (f : Door → Door) (d : Door) (ds : List Door) → d.other ≡ n → change_first n f (d ∷ ds) ≡ f d ∷ ds
-unfolding change_first
-change_here n f d ds e = rw (eq-eqb d.other n e) refl
-
-change_there : (n : ℕ) (f : Door → Door) (d : Door) (ds : List Door) → (d.other ≡ n → ⊥) → change_first n f (d ∷ ds) ≡ d ∷ change_first n f ds
-unfolding change_first
-change_there n f d ds e = rw (ne_eqb d.other n e) refl
-
-through_here : (n : ℕ) (d : Door) (ds : List Door) → d.other ≡ n → let_through n (d ∷ ds) ≡ d.out
-unfolding let_through
-through_here n d ds e = rw (eq-eqb d.other n e) refl
-
-through_there : (n : ℕ) (d : Door) (ds : List Door) → (d.other ≡ n → ⊥) → let_through n (d ∷ ds) ≡ let_through n ds
-unfolding let_through
-through_there n d ds e = rw (ne_eqb d.other n e) refl
 
 -- what one learns changes nothing of what was let through to another
 through_learns : (a b : ℕ) (ps : List Parcel) (ds : List Door) → (a ≡ b → ⊥) → let_through b (change_first a (learns ps) ds) ≡ let_through b ds

@@ -4,3 +4,4 @@ pub mod Coming
 pub mod Promise
 pub mod Journals
 pub mod Bounds
+pub mod Leaving

@@ -53,10 +53,14 @@ AreCalm olds news = EachIs IsCalm olds news
 
 ---- Nets
 
+-- none of its calls has failed
+abbrev pub IsUsable : Kept → Type 0
+IsUsable k = k.fault ≡ None
+
 -- none of their calls has failed
 abbrev pub AreUsable : List Kept → Type 0
 AreUsable [] = Unit {0}
-AreUsable (k ∷ ks) = (k.fault ≡ None) × AreUsable ks
+AreUsable (k ∷ ks) = IsUsable k × AreUsable ks
 
 abbrev pub number_of : Seat → ℕ
 number_of s = s.number

@@ -92,7 +92,8 @@ pub fn act_all<'t, J: Journal + Drop>(
     requires usable { AreUsable nodes.old.items }
     requires few { HaveRoom 1 nodes.old.items }
     requires can { CanAct act.now nodes.old.items }
-    ensures done { OnOk result (EachIs (Does (part_in act.now number)) nodes.old.items nodes.new.items) }
+    ensures done { OnOk result
+        (EachIs (Does (part_in act.now number)) nodes.old.items nodes.new.items) }
     ensures agents { EachIs IsSameAgent nodes.old.items nodes.new.items }
 {
     for node in nodes.iter_mut() {

@@ -9,10 +9,10 @@ ghost use Rattle.nsi_play.specs.Rounds.{round, events_of, all_quiet};
 ghost use Rattle.nsi_play.specs.Play.{asks_among, asks_in, acted, begins, ticked_in};
 ghost use Rattle.quiet_rounds.specs.Bounded.{IsBounded};
 ghost use Rattle.agent_node.specs.Kept.{IsSameAgent};
-ghost use Rattle.agent_threads.specs.Nets.{seats, EachIs, AtHomes, AreSame, AreUsable, AreNet};
+ghost use Rattle.agent_threads.specs.Nets.{seats, EachIs, AtHomes, AreUsable, AreNet};
 ghost use Rattle.agent_threads.specs.Made.{Does, Drained, tick_to, HasRoom, HaveRoom, HasCause};
-ghost use Rattle.agent_threads.specs.Journals.{TakeMore};
-ghost use Rattle.agent_threads.specs.Bounds.{AreUpTo, AreOfOne, GoOn};
+ghost use Rattle.agent_threads.specs.Bounds.{AreUpTo, AreOfOne};
+ghost use Rattle.agent_threads.specs.Leaving.{LeavesNet};
 ghost use Rattle.agent_threads.specs.Coming.{IsTold, IsBegun, IsSettledBy, OverrunsBy};
 ghost use Rattle.agent_threads.specs.Promise.{CanAct, CanDo};
 
@@ -27,6 +27,7 @@ use nsi_primitive::Event;
 use nsi_script::{Act, Group};
 use quiet_rounds::laws::{left_falls, nets_are_bounded};
 use std::alloc::{AllocError, Global};
+use std::thread::Threads;
 
 /// An agent's clock goes on.
 fn tick_one<'t, J: Journal + Drop>(
@@ -113,15 +114,9 @@ fn tick<'t, J: Journal + Drop>(
     ensures ok { AtHomes nodes.old.items (λ homes. OnOk result
         (IsTold (map (ticked_in to homes) (seats nodes.old.items))
         events.old.items events.new.items (seats nodes.new.items))) }
-    ensures net { OnOk result (AreNet nodes.new.items) }
-    ensures same { OnOk result (AreSame nodes.old.items nodes.new.items) }
-    ensures told { OnOk result (events_of (seats nodes.new.items) ≡ []) }
-    ensures printable { OnOk result (All IsPrintableEvent events.new.items) }
+    ensures leaves { OnOk result (LeavesNet to nodes.old.items nodes.new.items
+        events.old.items events.new.items) }
     ensures agents { EachIs IsSameAgent nodes.old.items nodes.new.items }
-    ensures taken { OnOk result (TakeMore nodes.old.items nodes.new.items
-        events.old.items events.new.items) }
-    ensures further { OnOk result (GoOn to nodes.old.items nodes.new.items
-        events.old.items events.new.items) }
 {
     routes_exist();
     tick_all(alloc, nodes, to)?;
@@ -145,15 +140,9 @@ fn act<'t, J: Journal + Drop>(
     ensures ok { AtHomes nodes.old.items (λ homes. OnOk result
         (IsTold (acted act.now number homes (seats nodes.old.items))
         events.old.items events.new.items (seats nodes.new.items))) }
-    ensures net { OnOk result (AreNet nodes.new.items) }
-    ensures same { OnOk result (AreSame nodes.old.items nodes.new.items) }
-    ensures told { OnOk result (events_of (seats nodes.new.items) ≡ []) }
-    ensures printable { OnOk result (All IsPrintableEvent events.new.items) }
+    ensures leaves { OnOk result (LeavesNet 0 nodes.old.items nodes.new.items
+        events.old.items events.new.items) }
     ensures agents { EachIs IsSameAgent nodes.old.items nodes.new.items }
-    ensures taken { OnOk result (TakeMore nodes.old.items nodes.new.items
-        events.old.items events.new.items) }
-    ensures further { OnOk result (GoOn 0 nodes.old.items nodes.new.items
-        events.old.items events.new.items) }
 {
     routes_exist();
     act_all(alloc, nodes, act, number)?;
@@ -191,20 +180,14 @@ pub fn begin<'t, J: Journal + Drop>(
     ensures ok { AtHomes nodes.old.items (λ homes. OnOk result
         (IsBegun homes group.now number (seats nodes.old.items)
         events.new.items (seats nodes.new.items))) }
+    ensures leaves { OnOk result (LeavesNet group.now.at nodes.old.items nodes.new.items
+        events.old.items events.new.items) }
     ensures next { IfOk result (λ n. n ≡ number + asks_among group.now.acts) }
-    ensures net { OnOk result (AreNet nodes.new.items) }
-    ensures same { OnOk result (AreSame nodes.old.items nodes.new.items) }
-    ensures told { OnOk result (events_of (seats nodes.new.items) ≡ []) }
-    ensures printable { OnOk result (All IsPrintableEvent events.new.items) }
     ensures within { OnOk result (length events.new.items ≤ room) }
     ensures long { AtHomes nodes.old.items (λ homes. IsErrOf result RoundFault.Long →
         room < length (begins group.now number homes (seats nodes.old.items)).events) }
     ensures cause { IfErr result (λ e. HasCause e nodes.new.items) }
     ensures agents { EachIs IsSameAgent nodes.old.items nodes.new.items }
-    ensures taken { OnOk result (TakeMore nodes.old.items nodes.new.items
-        events.old.items events.new.items) }
-    ensures further { OnOk result (GoOn group.now.at nodes.old.items nodes.new.items
-        events.old.items events.new.items) }
 {
     tick(alloc, nodes, group.at, events)?;
     let mut next = number;
@@ -223,7 +206,9 @@ pub fn begin<'t, J: Journal + Drop>(
 }
 
 /// A round, and what has happened then, where there is room for its events.
-fn step<'t, J: Journal + Drop>(
+fn step<'t, R: Threads + Sync, J: Journal + Drop + Send>(
+    rt: &R,
+    workers: usize,
     alloc: Global,
     nodes: &mut Vec<Node<'t, J>>,
     events: &mut Vec<Event>,
@@ -238,24 +223,18 @@ fn step<'t, J: Journal + Drop>(
     ensures ok { AtHomes nodes.old.items (λ homes. OnOk result
         (IsTold (round homes (seats nodes.old.items))
         events.old.items events.new.items (seats nodes.new.items))) }
-    ensures net { OnOk result (AreNet nodes.new.items) }
-    ensures same { OnOk result (AreSame nodes.old.items nodes.new.items) }
-    ensures told { OnOk result (events_of (seats nodes.new.items) ≡ []) }
-    ensures printable { OnOk result (All IsPrintableEvent events.new.items) }
+    ensures leaves { OnOk result (LeavesNet 0 nodes.old.items nodes.new.items
+        events.old.items events.new.items) }
     ensures within { OnOk result (length events.new.items ≤ room) }
     ensures long { AtHomes nodes.old.items (λ homes. IsErrOf result RoundFault.Long →
         let more = events_of (round homes (seats nodes.old.items)) in
         room < length events.old.items + length more) }
     ensures cause { IfErr result (λ e. HasCause e nodes.new.items) }
     ensures agents { EachIs IsSameAgent nodes.old.items nodes.new.items }
-    ensures taken { OnOk result (TakeMore nodes.old.items nodes.new.items
-        events.old.items events.new.items) }
-    ensures further { OnOk result (GoOn 0 nodes.old.items nodes.new.items
-        events.old.items events.new.items) }
 {
     routes_exist();
     let left = room - events.len() as u64;
-    round(alloc, nodes, left)?;
+    round(rt, workers, alloc, nodes, left)?;
     drain(nodes, events)?;
     if events.len() as u64 > room {
         return Err(RoundFault::Long);
@@ -264,7 +243,9 @@ fn step<'t, J: Journal + Drop>(
 }
 
 /// Rounds until something happens or all agents are quiet. It answers whether they are.
-fn advance<'t, J: Journal + Drop>(
+fn advance<'t, R: Threads + Sync, J: Journal + Drop + Send>(
+    rt: &R,
+    workers: usize,
     alloc: Global,
     nodes: &mut Vec<Node<'t, J>>,
     events: &mut Vec<Event>,
@@ -281,28 +262,22 @@ fn advance<'t, J: Journal + Drop>(
         × (events.new.items ≡ events.old.items ++ own)
         × IsSettledBy homes (seats nodes.old.items) own (seats nodes.new.items)
         × (quiet ≡ true → all_quiet homes (seats nodes.new.items) ≡ true))) }
+    ensures leaves { OnOk result (LeavesNet 0 nodes.old.items nodes.new.items
+        events.old.items events.new.items) }
     ensures more { IfOk result (λ quiet.
         quiet ≡ false → length events.old.items < length events.new.items) }
-    ensures net { OnOk result (AreNet nodes.new.items) }
-    ensures same { OnOk result (AreSame nodes.old.items nodes.new.items) }
-    ensures told { OnOk result (events_of (seats nodes.new.items) ≡ []) }
-    ensures printable { OnOk result (All IsPrintableEvent events.new.items) }
     ensures within { OnOk result (length events.new.items ≤ room) }
     ensures long { AtHomes nodes.old.items (λ homes. IsErrOf result RoundFault.Long →
         OverrunsBy homes (seats nodes.old.items) (length events.old.items) room) }
     ensures cause { IfErr result (λ e. HasCause e nodes.new.items) }
     ensures agents { EachIs IsSameAgent nodes.old.items nodes.new.items }
-    ensures taken { OnOk result (TakeMore nodes.old.items nodes.new.items
-        events.old.items events.new.items) }
-    ensures further { OnOk result (GoOn 0 nodes.old.items nodes.new.items
-        events.old.items events.new.items) }
 {
     routes_exist();
     nets_are_bounded();
     left_falls();
     while !settled(nodes) {
         let before = events.len();
-        step(alloc, nodes, events, room)?;
+        step(rt, workers, alloc, nodes, events, room)?;
         if events.len() > before {
             return Ok(false);
         }
@@ -311,7 +286,9 @@ fn advance<'t, J: Journal + Drop>(
 }
 
 /// Rounds until all agents are quiet.
-pub fn settle<'t, J: Journal + Drop>(
+pub fn settle<'t, R: Threads + Sync, J: Journal + Drop + Send>(
+    rt: &R,
+    workers: usize,
     alloc: Global,
     nodes: &mut Vec<Node<'t, J>>,
     events: &mut Vec<Event>,
@@ -328,25 +305,19 @@ pub fn settle<'t, J: Journal + Drop>(
         × (events.new.items ≡ events.old.items ++ own)
         × IsSettledBy homes (seats nodes.old.items) own (seats nodes.new.items)
         × (all_quiet homes (seats nodes.new.items) ≡ true))) }
-    ensures net { OnOk result (AreNet nodes.new.items) }
-    ensures same { OnOk result (AreSame nodes.old.items nodes.new.items) }
-    ensures told { OnOk result (events_of (seats nodes.new.items) ≡ []) }
-    ensures printable { OnOk result (All IsPrintableEvent events.new.items) }
+    ensures leaves { OnOk result (LeavesNet 0 nodes.old.items nodes.new.items
+        events.old.items events.new.items) }
     ensures within { OnOk result (length events.new.items ≤ room) }
     ensures long { AtHomes nodes.old.items (λ homes. IsErrOf result RoundFault.Long →
         OverrunsBy homes (seats nodes.old.items) (length events.old.items) room) }
     ensures cause { IfErr result (λ e. HasCause e nodes.new.items) }
     ensures agents { EachIs IsSameAgent nodes.old.items nodes.new.items }
-    ensures taken { OnOk result (TakeMore nodes.old.items nodes.new.items
-        events.old.items events.new.items) }
-    ensures further { OnOk result (GoOn 0 nodes.old.items nodes.new.items
-        events.old.items events.new.items) }
 {
     routes_exist();
     nets_are_bounded();
     let mut quiet = false;
     while !quiet {
-        quiet = advance(alloc, nodes, events, room)?;
+        quiet = advance(rt, workers, alloc, nodes, events, room)?;
     }
     Ok(())
 }

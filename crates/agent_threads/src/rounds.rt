@@ -1,14 +1,14 @@
 //! Rounds of all agents.
 
-ghost use Rattle.std.specs.Prelude.{◌≡◌, ◌<◌, ◌+◌, ℕ, [], ◌∷◌, length, Option, Some, None, IsErrOf, OnOk, OnErr};
-ghost use Rattle.std.specs.List.{list_all};
+ghost use Rattle.std.specs.Prelude.{◌≡◌, ◌<◌, ◌+◌, ℕ, [], ◌∷◌, length, slice_index_or, Option, Some, None, IsErrOf, OnOk, OnErr};
+ghost use Rattle.std.specs.List.{All, list_all};
 ghost use Rattle.agent_node.specs.Made.{IsTurn};
 ghost use Rattle.nsi_play.specs.Rounds.{round, events_of, all_quiet};
-ghost use Rattle.agent_node.specs.Kept.{IsSameAgent};
-ghost use Rattle.agent_threads.specs.Nets.{seats, EachIs, AtHomes, AreSame, AreUsable, AreNet};
+ghost use Rattle.agent_node.specs.Kept.{Kept, IsSameAgent};
+ghost use Rattle.agent_threads.specs.Nets.{seats, EachIs, AtHomes, AreSame, IsUsable, AreUsable, AreNet};
 ghost use Rattle.agent_threads.specs.Journals.{Grows};
 ghost use Rattle.agent_threads.specs.Bounds.{MovesOn};
-ghost use Rattle.agent_threads.specs.Made.{HaveRoom, failure_at, stop_at, first_failure, first_stop, fault_of, answer, HasRisen};
+ghost use Rattle.agent_threads.specs.Made.{HasRoom, HaveRoom, failure_at, stop_at, first_failure, first_stop, fault_of, answer, HasRisen};
 
 use crate::fault::RoundFault;
 use crate::meeting::meet_all;
@@ -16,16 +16,55 @@ use agent_node::{Node, TurnFault};
 use journal_entry::Journal;
 use nsi_base::AgentNo;
 use std::alloc::Global;
+use std::thread;
+use std::thread::Threads;
+
+/// So many turns of agents that have something to do pay for a thread, which costs some 15 microseconds.
+const TURNS_A_WORKER: usize = 8;
+
+/// By how many workers a round is made, of so many: one, where few agents have something to do.
+fn workers_for<'t, J: Journal + Drop>(nodes: &[Node<'t, J>], most: usize) -> usize
+    ensures { 0 < result }
+{
+    if most <= 1 {
+        return 1;
+    }
+    let busy = nodes.iter().filter(|node| !node.quiet()).count();
+    (busy / TURNS_A_WORKER).clamp(1, most)
+}
+
+/// Every agent has its turn, by so many workers at once.
+fn turn_each<'t, R: Threads + Sync, J: Journal + Drop + Send>(
+    rt: &R,
+    workers: usize,
+    alloc: Global,
+    nodes: &mut [Node<'t, J>],
+    room: u64,
+)
+    requires workers { 0 < workers }
+    requires usable { All IsUsable nodes.old }
+    requires few { All (HasRoom room) nodes.old }
+    ensures len { length nodes.new ≡ length nodes.old }
+    ensures each { (i : ℕ) (d : Kept) → i < length nodes.old →
+        IsTurn room (slice_index_or nodes.old i d) (slice_index_or nodes.new i d) }
+{
+    thread::for_each_mut(rt, nodes, workers, &|_, node| node.take_turn(alloc, room));
+}
 
 /// Every agent has its turn, also where another one's fails: each keeps its fault.
-fn turn_all<'t, J: Journal + Drop>(alloc: Global, nodes: &mut Vec<Node<'t, J>>, room: u64)
+fn turn_all<'t, R: Threads + Sync, J: Journal + Drop + Send>(
+    rt: &R,
+    workers: usize,
+    alloc: Global,
+    nodes: &mut Vec<Node<'t, J>>,
+    room: u64,
+)
     requires usable { AreUsable nodes.old.items }
     requires few { HaveRoom room nodes.old.items }
     ensures { EachIs (IsTurn room) nodes.old.items nodes.new.items }
 {
-    for node in nodes.iter_mut() {
-        node.take_turn(alloc, room);
-    }
+    let workers = workers_for(nodes, workers);
+    turn_each(rt, workers, alloc, nodes, room);
 }
 
 fn failure_of(agent: AgentNo, fault: Option<TurnFault>) -> Option<RoundFault>
@@ -80,9 +119,11 @@ fn fault_in<'t, J: Journal + Drop>(nodes: &[Node<'t, J>]) -> Option<RoundFault>
     first_failure(nodes).or(first_stop(nodes))
 }
 
-/// A round: every agent has its turn, as if all at once, and then each learns what was let through to it. Every turn has the whole
-/// room. Where one fails, all are made; the agents are then only good for giving their disks back.
-pub fn round<'t, J: Journal + Drop>(
+/// A round, by so many workers at most: every agent has its turn, as if all at once, and then each learns what was let through to
+/// it. Every turn has the whole room. Where one fails, all are made; the agents are then only good for giving their disks back.
+pub fn round<'t, R: Threads + Sync, J: Journal + Drop + Send>(
+    rt: &R,
+    workers: usize,
     alloc: Global,
     nodes: &mut Vec<Node<'t, J>>,
     room: u64,
@@ -109,7 +150,7 @@ pub fn round<'t, J: Journal + Drop>(
     ensures moves { AtHomes nodes.old.items (λ homes.
         OnOk result (EachIs (MovesOn 0) nodes.old.items nodes.new.items)) }
 {
-    turn_all(alloc, nodes, room);
+    turn_all(rt, workers, alloc, nodes, room);
     if let Some(fault) = fault_in(nodes) {
         return Err(fault);
     }

@@ -15,8 +15,9 @@ ghost use Rattle.quiet_rounds.specs.Bounded.{IsBounded};
 ghost use Rattle.agent_node.specs.Kept.{IsSameAgent};
 ghost use Rattle.agent_threads.specs.Nets.{seats, EachIs, AreOf, AtHomes, AreSame, AreCalm, AreUsable, AreNet};
 ghost use Rattle.agent_threads.specs.Made.{run_fault, HaveRoom, HasCause, HasRunCause, IsOfWriting};
-ghost use Rattle.agent_threads.specs.Journals.{TakeMore, KeepGroup, KeepPlay};
-ghost use Rattle.agent_threads.specs.Bounds.{AreUpTo, AreUnder, AreNumbered, AreReady, GoOn};
+ghost use Rattle.agent_threads.specs.Journals.{KeepGroup, KeepPlay};
+ghost use Rattle.agent_threads.specs.Bounds.{AreUpTo, AreUnder, AreNumbered, AreReady};
+ghost use Rattle.agent_threads.specs.Leaving.{LeavesNet};
 ghost use Rattle.agent_threads.specs.Coming.{IsGroupOver, GroupPasses};
 ghost use Rattle.agent_threads.specs.Promise.{CanDo, CanBePlayed, WritesPlay, WritesTooLong, WritesGroups, WritesSomeOfPlay};
 
@@ -32,10 +33,13 @@ use nsi_primitive::Event;
 use nsi_script::Group;
 use quiet_rounds::laws::nets_are_bounded;
 use std::alloc::Global;
+use std::thread::Threads;
 use stp_topology::Topology;
 
 /// A group, which nobody is told yet. It gives the number of the ask behind it.
-fn make_group<'t, J: Journal + Drop>(
+fn make_group<'t, R: Threads + Sync, J: Journal + Drop + Send>(
+    rt: &R,
+    workers: usize,
     alloc: Global,
     nodes: &mut Vec<Node<'t, J>>,
     group: &Group,
@@ -54,27 +58,21 @@ fn make_group<'t, J: Journal + Drop>(
     ensures ok { AtHomes nodes.old.items (λ homes. OnOk result
         (IsGroupOver homes group.now number (seats nodes.old.items)
         events.new.items (seats nodes.new.items))) }
+    ensures leaves { OnOk result (LeavesNet group.now.at nodes.old.items nodes.new.items
+        events.old.items events.new.items) }
     ensures next { IfOk result (λ n. n ≡ number + asks_among group.now.acts) }
-    ensures net { OnOk result (AreNet nodes.new.items) }
-    ensures same { OnOk result (AreSame nodes.old.items nodes.new.items) }
-    ensures printable { OnOk result (All IsPrintableEvent events.new.items) }
     ensures within { OnOk result (length events.new.items ≤ room) }
     ensures long { AtHomes nodes.old.items (λ homes. IsErrOf result RoundFault.Long →
         GroupPasses room 0 homes group.now number (seats nodes.old.items)) }
     ensures cause { IfErr result (λ e. HasCause e nodes.new.items) }
     ensures agents { EachIs IsSameAgent nodes.old.items nodes.new.items }
-    ensures taken { OnOk result (TakeMore nodes.old.items nodes.new.items
-        events.old.items events.new.items) }
-    ensures told { OnOk result (events_of (seats nodes.new.items) ≡ []) }
     ensures quiet { AtHomes nodes.old.items (λ homes.
         OnOk result (all_quiet homes (seats nodes.new.items) ≡ true)) }
-    ensures further { OnOk result (GoOn group.now.at nodes.old.items nodes.new.items
-        events.old.items events.new.items) }
 {
     routes_exist();
     nets_are_bounded();
     let next = begin(alloc, nodes, group, number, events, room)?;
-    settle(alloc, nodes, events, room)?;
+    settle(rt, workers, alloc, nodes, events, room)?;
     Ok(next)
 }
 
@@ -96,7 +94,9 @@ pub struct Progress {
 }
 
 /// A group, and its text, which isn't written yet.
-fn play_group<'t, J: Journal + Drop>(
+fn play_group<'t, R: Threads + Sync, J: Journal + Drop + Send>(
+    rt: &R,
+    workers: usize,
     alloc: Global,
     topology: &Topology,
     nodes: &mut Vec<Node<'t, J>>,
@@ -135,7 +135,16 @@ fn play_group<'t, J: Journal + Drop>(
 {
     let mut events = Vec::new(alloc);
     let room = limit - before.events;
-    let asks = match make_group(alloc, nodes, group, before.asks, &mut events, room) {
+    let asks = match make_group(
+        rt,
+        workers,
+        alloc,
+        nodes,
+        group,
+        before.asks,
+        &mut events,
+        room,
+    ) {
         Ok(asks) => asks,
         Err(fault) => return Err(run_fault(fault)),
     };
@@ -159,8 +168,11 @@ fn write_text<K: Sink>(out: &mut K, text: &[u8]) -> Result<(), RunFault>
     }
 }
 
-/// Plays groups over agents that stand ready, and writes each group's events in its end. It answers how many events there were.
-pub fn play_all<'t, J: Journal + Drop, K: Sink>(
+/// Plays groups over agents that stand ready, each round by so many workers at most, and writes each group's events in its end. It
+/// answers how many events there were.
+pub fn play_all<'t, R: Threads + Sync, J: Journal + Drop + Send, K: Sink>(
+    rt: &R,
+    workers: usize,
     alloc: Global,
     topology: &Topology,
     nodes: &mut Vec<Node<'t, J>>,
@@ -209,7 +221,7 @@ pub fn play_all<'t, J: Journal + Drop, K: Sink>(
     nets_are_bounded();
     let mut progress = Progress { events: 0, asks: 0 };
     for group in groups {
-        let (text, next) = play_group(alloc, topology, nodes, group, progress, limit)?;
+        let (text, next) = play_group(rt, workers, alloc, topology, nodes, group, progress, limit)?;
         write_text(out, &text)?;
         progress = next;
     }

@@ -2,6 +2,8 @@
 #![tactic(auto)]
 
 #[cfg(test)]
+mod gating;
+#[cfg(test)]
 mod running;
 #[cfg(test)]
 mod stopping;

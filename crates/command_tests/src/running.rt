@@ -3,6 +3,7 @@
 mod clock;
 mod counting;
 mod cutting;
+mod gates;
 mod generating;
 mod holds;
 mod hostile;
@@ -16,11 +17,13 @@ mod playing;
 mod provisioning;
 mod rows;
 mod terminating;
+mod workers;
 
 use nsi_disk::MemoryShelf;
 use nsi_outside::{MemorySink, MemorySource};
 use nsi_program::top_plain;
 use std::alloc::{AllocError, Global};
+use std::thread::Threads;
 
 /// A provider with two points of 1000 Mbps, and its requester.
 const TOPOLOGY: &str =
@@ -47,6 +50,7 @@ struct Failing {
 }
 
 fn run(
+    rt: &(impl Threads + Sync),
     alloc: Global,
     words: &str,
     input: Vec<u8>,
@@ -59,23 +63,32 @@ fn run(
     let mut source = MemorySource::new(input, failing.reads);
     let mut sink = MemorySink::new(alloc, failing.writes);
     let mut shelf = MemoryShelf::new(Vec::new(alloc), Vec::new(alloc));
-    let status = top_plain(alloc, &all, &mut source, &mut sink, &mut shelf).code();
+    let status = top_plain(rt, alloc, &all, &mut source, &mut sink, &mut shelf).code();
     let mut bytes = Vec::new(alloc);
     bytes.extend_from_slice(sink.bytes())?;
     Ok(Written { status, bytes })
 }
 
 /// The command of the words on the bytes, where nothing fails.
-fn run_whole(alloc: Global, words: &str, input: Vec<u8>) -> Result<Written, AllocError> {
+fn run_whole(
+    rt: &(impl Threads + Sync),
+    alloc: Global,
+    words: &str,
+    input: Vec<u8>,
+) -> Result<Written, AllocError> {
     let failing = Failing {
         reads: Vec::new(alloc),
         writes: Vec::new(alloc),
     };
-    run(alloc, words, input, failing)
+    run(rt, alloc, words, input, failing)
 }
 
-fn provide(alloc: Global, input: Vec<u8>) -> Result<Written, AllocError> {
-    run_whole(alloc, "provide", input)
+fn provide(
+    rt: &(impl Threads + Sync),
+    alloc: Global,
+    input: Vec<u8>,
+) -> Result<Written, AllocError> {
+    run_whole(rt, alloc, "provide", input)
 }
 
 /// The topology, and bytes behind it.
@@ -93,15 +106,21 @@ fn in_full(alloc: Global, text: &str) -> Result<String, AllocError> {
 }
 
 /// Whether lines behind the topology, with short ids, are answered so, and all is done.
-fn is_answered(alloc: Global, lines: &str, written: &str) -> Result<bool, AllocError> {
+fn is_answered(
+    rt: &(impl Threads + Sync),
+    alloc: Global,
+    lines: &str,
+    written: &str,
+) -> Result<bool, AllocError> {
     let lines = in_full(alloc, lines)?;
     let written = in_full(alloc, written)?;
     let input = behind_topology(alloc, lines.as_bytes())?;
-    Ok(provide(alloc, input)?.is(0, written.as_bytes()))
+    Ok(provide(rt, alloc, input)?.is(0, written.as_bytes()))
 }
 
 /// Whether the words let the lines behind the topology be answered so.
 fn is_limited(
+    rt: &(impl Threads + Sync),
     alloc: Global,
     words: &str,
     lines: &str,
@@ -111,11 +130,12 @@ fn is_limited(
     let lines = in_full(alloc, lines)?;
     let written = in_full(alloc, written)?;
     let input = behind_topology(alloc, lines.as_bytes())?;
-    Ok(run_whole(alloc, words, input)?.is(status, written.as_bytes()))
+    Ok(run_whole(rt, alloc, words, input)?.is(status, written.as_bytes()))
 }
 
 /// Whether both forms of the option let the lines be answered so.
 fn is_limited_by(
+    rt: &(impl Threads + Sync),
     alloc: Global,
     most: &str,
     lines: &str,
@@ -123,8 +143,8 @@ fn is_limited_by(
     written: &str,
 ) -> Result<bool, AllocError> {
     let parted = format!(in alloc; "provide --events {most}")?;
-    let is_parted = is_limited(alloc, parted.as_str(), lines, status, written)?;
+    let is_parted = is_limited(rt, alloc, parted.as_str(), lines, status, written)?;
     let joined = format!(in alloc; "provide --events={most}")?;
-    let is_joined = is_limited(alloc, joined.as_str(), lines, status, written)?;
+    let is_joined = is_limited(rt, alloc, joined.as_str(), lines, status, written)?;
     Ok(is_parted && is_joined)
 }

@@ -1,4 +1,5 @@
 pub mod Joining
+pub mod Ends
 pub mod Splitting
 pub mod Beginning
 pub mod Counting

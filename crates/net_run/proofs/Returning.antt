@@ -1,5 +1,5 @@
 -- Disks are fetched from a shelf, and given back to it.
-use Rattle.std.proofs.Common.{ℕ, ◌≡◌, Bool, true, false, cond, List, [], ◌∷◌, ◌++◌, Option, Some, None, refl, sym, ap, ◌∙◌, subst, arith, length}
+use Rattle.std.proofs.Common.{ℕ, ◌≡◌, Bool, true, false, cond, List, [], ◌∷◌, ◌++◌, Option, Some, None, refl, sym, ap, ◌∙◌, subst}
 use Rattle.std.specs.Prelude.{Ok, IfSome, is_some, bytes_eq}
 use Rattle.std.proofs.lemmas.Slice.Eq.{bytes_eq-Decides}
 use Rattle.nsi_disk.specs.Disk.{History, MayLeave, seen}
@@ -24,10 +24,6 @@ empty_more t held [] k e p = (p, tt)
 empty_more t held (x ∷ xs) k e p = (e.0, empty_more t held xs k e.1 p)
 
 ---- Given back
-
-pub none_left : (ks : List Kept) → length ks ≡ 0 → ks ≡ []
-none_left [] e = refl
-none_left (k ∷ ks) e = absurd (omega (arith, e))
 
 -- as much is held under the names of none of these
 abbrev pub AgreesOff : Network → List Kept → (now then_held : List ℕ → Option (List ℕ)) → Type 0

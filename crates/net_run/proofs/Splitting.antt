@@ -1,7 +1,6 @@
 -- An agent's ends among all.
-use Rattle.std.proofs.Common.{ℕ, ◌≡◌, ◌==◌, ◌&&◌, ◌||◌, Bool, true, false, cond, List, [], ◌∷◌, ◌++◌, Option, Some, None, refl, sym, ap, ◌∙◌, subst, arith, length, length-append, eqb-true, eq-eqb, ne_eqb}
-use Rattle.std.proofs.lemmas.Bool.{true≢false}
-use Rattle.std.specs.List.{All, list_any}
+use Rattle.std.proofs.Common.{ℕ, ◌≡◌, ◌==◌, ◌&&◌, Bool, true, false, cond, List, [], ◌∷◌, ◌++◌, append_assoc, append-nil, Option, Some, None, refl, sym, ap, ◌∙◌, subst, arith, length, length-append, eqb-true, ne_eqb}
+use Rattle.std.specs.List.{All}
 use Rattle.std.proofs.lemmas.List.Elements.{All-nil, All-push, All-head, All-tail}
 use Rattle.stp_topology.specs.declared.network.Network.{Network}
 use Rattle.agent_link.specs.Link.{Half, Wire}
@@ -10,8 +9,9 @@ use Rattle.agent_node.specs.Openings.{others_of}
 use Rattle.agent_node.specs.Kept.{AreEnds, IsShut, plugs_of}
 use Rattle.agent_threads.specs.Nets.{IsAbsent}
 use Rattle.net_run.specs.declared.joints.Joint.{Joint}
-use Rattle.net_run.specs.Joints.{wires, IsShutJoint, or_else, IsSplit, AreOwn}
+use Rattle.net_run.specs.Joints.{wires, ends_of, IsShutJoint, or_else, IsSplit, AreOwn}
 use Rattle.net_run.proofs.Joining.{cond_or, cond_step, or_assoc, or_none, wires_append}
+use Rattle.net_run.proofs.Ends.{ends_append}
 
 plug_more : (b o : ℕ) (os : List ℕ) (h i : Half) (hs is : List Half) → length hs ≡ length os → length is ≡ length os
     → plug_to b (plugs_of (os ++ o ∷ []) (hs ++ h ∷ []) (is ++ i ∷ [])) ≡ or_else (plug_to b (plugs_of os hs is)) (cond (o == b) (Some (h.wire, i.wire)) None)
@@ -36,6 +36,8 @@ split_none a all s = record {
   left = λ b c n. refl;
   shut = All-nil IsShutJoint;
   behind = s;
+  to = refl;
+  of_others = λ b n. refl;
 }
 
 -- an end of the agent
@@ -62,6 +64,10 @@ split_own a j os hs is rest todo all e s = record {
       ap (λ o. or_else (wires b c rest) o) (ap (λ (z : Bool). cond (z && (j.other == c)) (Some w) (wires b c todo)) (sym not_it)) ∙ s.left b c n;
   shut = s.shut;
   behind = All-tail IsShutJoint j todo s.behind;
+  to = append_assoc os (j.other ∷ []) (ends_of a todo) ∙ (ap (λ (z : Bool). os ++ cond z (j.other ∷ ends_of a todo) (ends_of a todo)) (sym e) ∙ s.to);
+  of_others = λ b n.
+      let not_it : (j.at == b) ≡ false = ne_eqb j.at b (λ q. n (sym q ∙ eqb-true j.at a e)) in
+      ap (λ (z : Bool). ends_of b rest ++ cond z (j.other ∷ ends_of b todo) (ends_of b todo)) (sym not_it) ∙ s.of_others b n;
 }
 
 -- an end of another one
@@ -79,30 +85,22 @@ split_rest a j os hs is rest todo all e s = record {
       ∙ (ap (λ o. or_else (wires b c rest) o) (sym (cond_or ((j.at == b) && (j.other == c)) w (wires b c todo))) ∙ s.left b c n));
   shut = All-push IsShutJoint rest j s.shut (All-head IsShutJoint j todo s.behind);
   behind = All-tail IsShutJoint j todo s.behind;
+  to = ap (λ (z : Bool). os ++ cond z (j.other ∷ ends_of a todo) (ends_of a todo)) (sym e) ∙ s.to;
+  of_others = λ b n.
+      ap (λ (ns : List ℕ). ns ++ ends_of b todo) (ends_append b rest (j ∷ []))
+      ∙ (append_assoc (ends_of b rest) (ends_of b (j ∷ [])) (ends_of b todo)
+      ∙ (ap (λ (ns : List ℕ). ends_of b rest ++ ns) (sym (ends_append b (j ∷ []) todo)) ∙ s.of_others b n));
 }
 
-or_first : (c d : Bool) → (c || d) ≡ false → c ≡ false
-or_first true d e = e
-or_first false d e = refl
-
-or_second : (c d : Bool) → (c || d) ≡ false → d ≡ false
-or_second true true e = e
-or_second true false e = refl
-or_second false d e = e
-
-absent : (a : ℕ) (os : List ℕ) → list_any (λ c. c == a) os ≡ false → IsAbsent a os
-absent a [] e = tt
-absent a (o ∷ os) e =
-    (λ q. true≢false (sym (eq-eqb o a (sym q)) ∙ or_first (o == a) (list_any (λ c. c == a) os) e), absent a os (or_second (o == a) (list_any (λ c. c == a) os) e))
-
-pub own_of : (t : Network) (a : ℕ) (os : List ℕ) (hs is : List Half) (rest all : List Joint) → IsSplit a os hs is rest [] all → os ≡ others_of t a → list_any (λ c. c == a) (others_of t a) ≡ false
+pub own_of : (t : Network) (a : ℕ) (os : List ℕ) (hs is : List Half) (rest all : List Joint) → IsSplit a os hs is rest [] all → os ≡ others_of t a → IsAbsent a (others_of t a)
     → AreOwn t a hs is rest all
 own_of t a os hs is rest all s e n = record {
   ends = subst (λ (ns : List ℕ). AreEnds ns hs is) e s.ends;
   own = λ b. ap (λ (ns : List ℕ). plug_to b (plugs_of ns hs is)) (sym e) ∙ (sym (or_none (plug_to b (plugs_of os hs is))) ∙ s.own b);
   left = λ b c m. sym (or_none (wires b c rest)) ∙ s.left b c m;
   shut = s.shut;
-  alone = absent a (others_of t a) n;
+  alone = n;
+  of_others = λ b m. sym (append-nil (ends_of b rest)) ∙ s.of_others b m;
 }
 
 ---- The loop

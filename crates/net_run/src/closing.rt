@@ -18,7 +18,8 @@ pub fn close_net<'t, H: Shelf>(
 where
     H::Disk: Drop,
     requires listed { AreListed (H.listed shelf.old) topology.now nodes.items }
-    ensures faults { Raised (H.faults shelf.old) (faults_among nodes.entry.items) (H.faults shelf.new) }
+    ensures faults { Raised
+        (H.faults shelf.old) (faults_among nodes.entry.items) (H.faults shelf.new) }
     ensures stops { Raised (H.stops shelf.old) (stops_among nodes.entry.items) (H.stops shelf.new) }
     ensures held { AreToReturn topology.now nodes.entry.items →
         AreRead topology.now (H.holds shelf.new) nodes.entry.items }

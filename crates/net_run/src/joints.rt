@@ -1,8 +1,9 @@
 //! The ends of all links of a net.
 
-ghost use Rattle.std.specs.Prelude.{◌≡◌, ◌==◌, ◌≤◌, ◌<◌, [], true, length, IfOk, OnOk};
-ghost use Rattle.std.specs.List.{All, list_any};
-ghost use Rattle.net_run.specs.Joints.{ArePaired, IsShutJoint, IsSplit, AreOwn};
+ghost use Rattle.std.specs.Prelude.{◌≡◌, ◌+◌, ◌≤◌, ◌<◌, ◌++◌, ℕ, [], length, IfOk, OnOk};
+ghost use Rattle.std.specs.List.{All};
+ghost use Rattle.agent_node.specs.Openings.{others_of};
+ghost use Rattle.net_run.specs.Joints.{ArePaired, AreJoined, IsShutJoint, IsSplit, AreOwn, ends_of, two};
 
 use agent_link::{Incoming, Outgoing, link};
 use agent_node::opening::others;
@@ -37,6 +38,8 @@ fn join(alloc: Global, a: AgentNo, b: AgentNo, joints: &mut Vec<Joint>) -> Resul
     requires shut { All IsShutJoint joints.old.items }
     ensures paired { OnOk result (ArePaired joints.new.items) }
     ensures shut { OnOk result (All IsShutJoint joints.new.items) }
+    ensures ends { OnOk result ((c : ℕ) →
+        ends_of c joints.new.items ≡ ends_of c joints.old.items ++ two a b c) }
 {
     let (there, known_there) = link(alloc, List::new(alloc))?;
     let (back, known_back) = link(alloc, List::new(alloc))?;
@@ -65,9 +68,12 @@ fn join_earlier(
     requires within { agent < length topology.now.agents }
     requires paired { ArePaired joints.old.items }
     requires shut { All IsShutJoint joints.old.items }
+    requires joined { AreJoined topology.now agent joints.old.items }
     ensures paired { OnOk result (ArePaired joints.new.items) }
     ensures shut { OnOk result (All IsShutJoint joints.new.items) }
+    ensures joined { OnOk result (AreJoined topology.now (agent + 1) joints.new.items) }
 {
+    topology.laws();
     for other in others(alloc, topology, agent)? {
         if other.get() < agent.get() {
             join(alloc, agent, other, joints)?;
@@ -80,6 +86,8 @@ fn join_earlier(
 pub fn join_all(alloc: Global, topology: &Topology) -> Result<Vec<Joint>, AllocError>
     ensures paired { IfOk result (λ joints. ArePaired joints.items) }
     ensures shut { IfOk result (λ joints. All IsShutJoint joints.items) }
+    ensures joined { IfOk result
+        (λ joints. AreJoined topology.now (length topology.now.agents) joints.items) }
 {
     let mut joints = Vec::new(alloc);
     for place in 0..topology.agents() {
@@ -129,22 +137,6 @@ fn take_out(alloc: Global, agent: AgentNo, joints: Vec<Joint>) -> Result<Split, 
     })
 }
 
-fn has_agent(agents: &[AgentNo], a: AgentNo) -> bool
-    ensures { result ≡ list_any (λ c. c == a) agents.now }
-{
-    agents.iter().any(|agent| *agent == a)
-}
-
-fn are_same(own: &[AgentNo], others: &[AgentNo]) -> bool
-    ensures { result ≡ true → own.now ≡ others.now }
-{
-    match (own.split_first(), others.split_first()) {
-        (Some((a, own)), Some((b, others))) => *a == *b && are_same(own, others),
-        (None, None) => true,
-        _ => false,
-    }
-}
-
 /// An agent's ends of its links, and the ends of others.
 #[derive(Drop)]
 pub struct Own {
@@ -153,23 +145,20 @@ pub struct Own {
     pub rest: Vec<Joint>,
 }
 
-/// Takes an agent's ends from among all. They go to those that it has links to, in order.
+/// Takes an agent's ends from among all.
 pub fn own_ends(
     alloc: Global,
     topology: &Topology,
     agent: AgentNo,
     joints: Vec<Joint>,
 ) -> Result<Own, AllocError>
-    requires within { agent < length topology.now.agents }
+    requires ends { ends_of agent joints.items ≡ others_of topology.now agent }
     requires shut { All IsShutJoint joints.items }
     ensures { IfOk result (λ own. AreOwn topology.now agent own.outgoing own.incoming
         own.rest.items joints.items) }
 {
-    let others = others(alloc, topology, agent)?;
+    topology.laws();
     let split = take_out(alloc, agent, joints)?;
-    if has_agent(&others, agent) || !are_same(&split.others, &others) {
-        return Err(AllocError);
-    }
     let Split {
         others: _,
         outgoing,

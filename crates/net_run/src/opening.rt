@@ -5,7 +5,7 @@ ghost use Rattle.std.specs.List.{All};
 ghost use Rattle.stp_topology.specs.Network.{name_of};
 ghost use Rattle.agent_node.specs.Openings.{others_of};
 ghost use Rattle.agent_node.specs.Kept.{AreEnds, plugs_of};
-ghost use Rattle.net_run.specs.Joints.{IsShutJoint};
+ghost use Rattle.net_run.specs.Joints.{IsShutJoint, AreJoined};
 ghost use Rattle.net_run.specs.Begun.{IsFresh, AreBegun, AreListed, AreOpened, fault_of};
 ghost use Rattle.net_run.specs.Journals.{no_entries, AreEmpty};
 ghost use Rattle.net_run.specs.Shelves.{IsStartFault};
@@ -82,6 +82,7 @@ where
     H::Disk: Drop,
     requires none { nodes.old.items ≡ [] }
     requires shut { All IsShutJoint joints.items }
+    requires joined { AreJoined topology.now (length topology.now.agents) joints.items }
     ensures begun { AreBegun topology.now joints.items 0 nodes.new.items }
     ensures few { length nodes.new.items ≤ length topology.now.agents }
     ensures all { OnOk result (length nodes.new.items ≡ length topology.now.agents) }

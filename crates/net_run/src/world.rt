@@ -16,12 +16,15 @@ use nsi_play::laws::one_play;
 use nsi_script::Script;
 use quiet_rounds::laws::nets_are_bounded;
 use std::alloc::Global;
+use std::thread::Threads;
 use stp_topology::Topology;
 
-/// Plays the groups of a script with the agents of a topology, whose journals are kept on the disks of their names and begin
-/// empty. Each group's events are written in its end. It answers how many events there were. The disks are given back, however
-/// the run ends.
-pub fn run_world<K: Sink, H: Shelf>(
+/// Plays the groups of a script with the agents of a topology, each round by so many workers at most. Their journals are kept on the
+/// disks of their names, and begin empty. Each group's events are written in its end. It answers how many events there were. The
+/// disks are given back, however the run ends.
+pub fn run_world<R: Threads + Sync, K: Sink, H: Shelf>(
+    rt: &R,
+    workers: usize,
     alloc: Global,
     topology: &Topology,
     script: &Script,
@@ -30,7 +33,7 @@ pub fn run_world<K: Sink, H: Shelf>(
     out: &mut K,
 ) -> Result<u64, RunFault>
 where
-    H::Disk: Drop,
+    H::Disk: Drop + Send,
     requires limit { limit ≤ 2000000 }
     requires fits { Fits topology.now script.now }
 
@@ -72,6 +75,8 @@ where
         Err(fault) => return Err(fault),
     };
     let played = play_all(
+        rt,
+        workers,
         alloc,
         topology,
         &mut nodes,

@@ -4,6 +4,7 @@ use Rattle.std.specs.Prelude.{IfSome, codes}
 use Rattle.nsi_program.specs.declared.status.Status.{Status}
 use Rattle.nsi_program.specs.declared.words.Command.{Command}
 use Rattle.nsi_program.specs.declared.words.Load.{Load}
+use Rattle.nsi_program.specs.declared.words.Play.{Play}
 use Rattle.nsi_script.specs.Load.{load_of}
 use Rattle.nsi_program.specs.Lines.{as_line}
 use Rattle.nsi_program.specs.Check.{Checks, Begins}
@@ -122,28 +123,28 @@ generated_is command load named status content new own other h = subst (λ (l : 
 
 ---- Runs
 
-abbrev runs : ℕ → Option Command
-runs most = Some (Command.Run most)
+abbrev runs : Play → Option Command
+runs play = Some (Command.Run play)
 
-pub run_ended : (command : Option Command) (most : ℕ) (holds : Holds) (content left new : Option (List ℕ)) (status : Status) → command ≡ runs most
-    → IfSome left (λ bytes. WritesSome (RunsTo most bytes status) content new) → HasEnded command holds content left status new
-run_ended command most holds content left new status e h =
+pub run_ended : (command : Option Command) (play : Play) (holds : Holds) (content left new : Option (List ℕ)) (status : Status) → command ≡ runs play
+    → IfSome left (λ bytes. WritesSome (RunsTo play.most bytes status) content new) → HasEnded command holds content left status new
+run_ended command play holds content left new status e h =
     let P : Option Command → Type 0 = λ x. HasEnded x holds content left status new in subst P (sym e) (ended content left h)
   where
-    ended : (content left : Option (List ℕ)) → IfSome left (λ bytes. WritesSome (RunsTo most bytes status) content new) → HasEnded (runs most) holds content left status new
+    ended : (content left : Option (List ℕ)) → IfSome left (λ bytes. WritesSome (RunsTo play.most bytes status) content new) → HasEnded (runs play) holds content left status new
     ended None left h = (None, refl, tt)
     ended (Some c) None h = (None, refl, tt)
     ended (Some c) (Some bytes) h = (Some (status, c ++ h.0), ((status, h.0), h.1, refl), (refl, h.2))
 
-pub run_cut : (command : Option Command) (most : ℕ) (holds : Holds) (content left rest new : Option (List ℕ)) → command ≡ runs most → Writes content new read_fault_line → IsCut command holds content left rest new
-run_cut command most holds content left rest new e w = let P : Option Command → Type 0 = λ x. IsCut x holds content left rest new in subst P (sym e) w
+pub run_cut : (command : Option Command) (play : Play) (holds : Holds) (content left rest new : Option (List ℕ)) → command ≡ runs play → Writes content new read_fault_line → IsCut command holds content left rest new
+run_cut command play holds content left rest new e w = let P : Option Command → Type 0 = λ x. IsCut x holds content left rest new in subst P (sym e) w
 
-pub run_broken : (command : Option Command) (most : ℕ) (holds : Holds) (content left new : Option (List ℕ)) → command ≡ runs most → IfSome left (λ bytes. WritesSome (Breaks most bytes) content new) → IsBroken command holds content left new
-run_broken command most holds content left new e w = let P : Option Command → Type 0 = λ x. IsBroken x holds content left new in subst P (sym e) w
+pub run_broken : (command : Option Command) (play : Play) (holds : Holds) (content left new : Option (List ℕ)) → command ≡ runs play → IfSome left (λ bytes. WritesSome (Breaks play.most bytes) content new) → IsBroken command holds content left new
+run_broken command play holds content left new e w = let P : Option Command → Type 0 = λ x. IsBroken x holds content left new in subst P (sym e) w
 
-pub run_cut_short : (command : Option Command) (most : ℕ) (holds : Holds) (content left rest : Option (List ℕ)) (before after : Counts) (new : Option (List ℕ)) → command ≡ runs most
-    → RunIsCutShort most content left before after new → IsCutShort command holds content left rest before after new
-run_cut_short command most holds content left rest before after new e h = let P : Option Command → Type 0 = λ x. IsCutShort x holds content left rest before after new in subst P (sym e) h
+pub run_cut_short : (command : Option Command) (play : Play) (holds : Holds) (content left rest : Option (List ℕ)) (before after : Counts) (new : Option (List ℕ)) → command ≡ runs play
+    → RunIsCutShort play.most content left before after new → IsCutShort command holds content left rest before after new
+run_cut_short command play holds content left rest before after new e h = let P : Option Command → Type 0 = λ x. IsCutShort x holds content left rest before after new in subst P (sym e) h
 
 -- a faulty topology is all that is told of a run
 run_named : (most : ℕ) (bytes c text : List ℕ) (status : Status) (new : Option (List ℕ)) → RunsTo most bytes status text → new ≡ Some (c ++ text)
@@ -162,5 +163,5 @@ run_names_fault most None left new status k = tt
 run_names_fault most (Some c) None new status k = tt
 run_names_fault most (Some c) (Some bytes) new status k = λ n fault few h. run_named most bytes c k.0 status new k.1 k.2 n fault few h
 
-pub tells_disks : (command : Option Command) (most : ℕ) (status : Status) → command ≡ runs most → TellsDisks command status → status ≡ Status.Long → ⊥
-tells_disks command most status e t = subst (λ (x : Option Command). TellsDisks x status) e t
+pub tells_disks : (command : Option Command) (play : Play) (status : Status) → command ≡ runs play → TellsDisks command status → status ≡ Status.Long → ⊥
+tells_disks command play status e t = subst (λ (x : Option Command). TellsDisks x status) e t

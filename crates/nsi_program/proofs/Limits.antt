@@ -6,7 +6,8 @@ use Rattle.std.proofs.lemmas.Bool.Decides.{nat_tests}
 use Rattle.nsi_base.specs.Digits.{number_of, ranged, are_digits, value_from}
 use Rattle.nsi_program.specs.declared.words.Command.{Command}
 use Rattle.nsi_program.specs.declared.words.Load.{Load}
-use Rattle.nsi_program.specs.Words.{command_of, allowed, events_in, provide_with, run_with, check_with, generate_with, load_asked}
+use Rattle.nsi_program.specs.declared.words.Play.{Play}
+use Rattle.nsi_program.specs.Words.{command_of, allowed, events_in, provide_with, run_with, check_with, run_asked, generate_with, load_asked}
 
 ranged_few : (low high : ℕ) (digits : Bool) (n most : ℕ) → ranged low high digits n ≡ Some most → most ≤ high
 ranged_few low high digits n most e = grind (arith, nat_tests)
@@ -44,9 +45,9 @@ limit_few (word ∷ words) most e = by_test (bytes_eq word (codes "provide")) (b
     by_limit None h e = cc
     by_limit (Some n) h e = let s = same n most e in omega (arith, allowed_few words n h)
 
-    not_run : (o : Option ℕ) → run_with o ≡ provides most → most ≤ 2000000
+    not_run : (o : Option Play) → run_with o ≡ provides most → most ≤ 2000000
     not_run None e = cc
-    not_run (Some n) e = cc
+    not_run (Some play) e = cc
 
     not_check : (ws : List (List ℕ)) → check_with ws ≡ provides most → most ≤ 2000000
     not_check [] e = cc
@@ -57,9 +58,9 @@ limit_few (word ∷ words) most e = by_test (bytes_eq word (codes "provide")) (b
     not_generate (Some load) e = cc
 
     by_test : (b r c d : Bool)
-        → cond b (provide_with (allowed words)) (cond r (run_with (allowed words)) (cond c (check_with words) (cond d (generate_with (load_asked words)) None))) ≡ provides most → most ≤ 2000000
+        → cond b (provide_with (allowed words)) (cond r (run_with (run_asked words)) (cond c (check_with words) (cond d (generate_with (load_asked words)) None))) ≡ provides most → most ≤ 2000000
     by_test true r c d e = by_limit (allowed words) refl e
-    by_test false true c d e = not_run (allowed words) e
+    by_test false true c d e = not_run (run_asked words) e
     by_test false false true d e = not_check words e
     by_test false false false true e = not_generate (load_asked words) e
     by_test false false false false e = cc

@@ -60,7 +60,7 @@ WithReading holds left P = (read : Reading) × IfSome left (λ bytes. IsReading 
 abbrev pub MayEnd : Option Command → (List ℕ → Option (List ℕ)) → Option (List ℕ) → Option (List ℕ) → Option (Status × List ℕ) → Type 0
 MayEnd None holds content left promise = promise ≡ usage_promise content
 MayEnd (Some (Command.Provide most)) holds content left promise = WithReading holds left (λ read. promise ≡ promise_of read most content left)
-MayEnd (Some (Command.Run most)) holds content left promise = Promises (λ bytes end. RunsTo most bytes end.0 end.1) content left promise
+MayEnd (Some (Command.Run play)) holds content left promise = Promises (λ bytes end. RunsTo play.most bytes end.0 end.1) content left promise
 MayEnd (Some Command.Check) holds content left promise = Promises (λ bytes end. Checks bytes end.0 end.1) content left promise
 MayEnd (Some (Command.Generate load)) holds content left promise = promise ≡ load_promise load content
 
@@ -72,7 +72,7 @@ HasEnded command holds content left status new = (promise : Option (Status × Li
 abbrev pub IsCut : Option Command → (List ℕ → Option (List ℕ)) → (content left rest new : Option (List ℕ)) → Type 0
 IsCut None holds content left rest new = ⊥
 IsCut (Some (Command.Provide most)) holds content left rest new = WithReading holds left (λ read. IsCutByFault read most content left rest new)
-IsCut (Some (Command.Run most)) holds content left rest new = Writes content new read_fault_line
+IsCut (Some (Command.Run play)) holds content left rest new = Writes content new read_fault_line
 IsCut (Some Command.Check) holds content left rest new = Writes content new read_fault_line
 IsCut (Some (Command.Generate load)) holds content left rest new = ⊥
 
@@ -82,14 +82,14 @@ abbrev pub IsBroken : Option Command → (List ℕ → Option (List ℕ)) → (c
 IsBroken (Some (Command.Provide most)) holds content left new =
     WithReading holds left (λ read. IfSome content (λ c. IfSome left (λ bytes. (t : Network) × (provider : ℕ) × Serves (lines_in bytes) t provider
     × (text : List ℕ) × AnswersThen read most (given_of greatest_input bytes) (disk_fault_line (name_of t provider)) text × (new ≡ Some (c ++ text)))))
-IsBroken (Some (Command.Run most)) holds content left new = IfSome left (λ bytes. WritesSome (Breaks most bytes) content new)
+IsBroken (Some (Command.Run play)) holds content left new = IfSome left (λ bytes. WritesSome (Breaks play.most bytes) content new)
 IsBroken _ holds content left new = ⊥
 
 -- Writing was cut short, and no read has failed.
 abbrev pub IsCutInAnswers : Option Command → (List ℕ → Option (List ℕ)) → (content left new : Option (List ℕ)) → Type 0
 IsCutInAnswers None holds content left new = WritesFront content new (as_line (codes "fault usage"))
 IsCutInAnswers (Some (Command.Provide most)) holds content left new = WithReading holds left (λ read. IsStopped read most content left new)
-IsCutInAnswers (Some (Command.Run most)) holds content left new = IfSome left (λ bytes. WritesSomeFront (RunBegins most bytes) content new)
+IsCutInAnswers (Some (Command.Run play)) holds content left new = IfSome left (λ bytes. WritesSomeFront (RunBegins play.most bytes) content new)
 IsCutInAnswers (Some Command.Check) holds content left new = IfSome left (λ bytes. WritesSomeFront (Begins bytes) content new)
 IsCutInAnswers (Some (Command.Generate load)) holds content left new = WritesFront content new (load_of load.from load.size)
 
@@ -97,7 +97,7 @@ IsCutInAnswers (Some (Command.Generate load)) holds content left new = WritesFro
 abbrev pub IsCutInFault : Option Command → (List ℕ → Option (List ℕ)) → (content left rest new : Option (List ℕ)) → Type 0
 IsCutInFault None holds content left rest new = ⊥
 IsCutInFault (Some (Command.Provide most)) holds content left rest new = WithReading holds left (λ read. IsFrontOfCut read most content left rest new)
-IsCutInFault (Some (Command.Run most)) holds content left rest new = WritesFront content new read_fault_line
+IsCutInFault (Some (Command.Run play)) holds content left rest new = WritesFront content new read_fault_line
 IsCutInFault (Some Command.Check) holds content left rest new = WritesFront content new read_fault_line
 IsCutInFault (Some (Command.Generate load)) holds content left rest new = ⊥
 
@@ -106,7 +106,7 @@ abbrev pub IsCutInDisk : Option Command → (List ℕ → Option (List ℕ)) →
 IsCutInDisk (Some (Command.Provide most)) holds content left new =
     WithReading holds left (λ read. IfSome content (λ c. IfSome left (λ bytes. (t : Network) × (provider : ℕ) × Serves (lines_in bytes) t provider × (k : ℕ)
     × (text : List ℕ) × AnswersThen read most (given_of greatest_input bytes) (take k (disk_fault_line (name_of t provider))) text × (new ≡ Some (c ++ text)))))
-IsCutInDisk (Some (Command.Run most)) holds content left new = IfSome left (λ bytes. WritesSomeFront (Breaks most bytes) content new)
+IsCutInDisk (Some (Command.Run play)) holds content left new = IfSome left (λ bytes. WritesSomeFront (Breaks play.most bytes) content new)
 IsCutInDisk _ holds content left new = ⊥
 
 -- Writing was cut short: in the answers, or behind a fault of reading or of the disk, whose counts then rose.
@@ -127,11 +127,11 @@ IsChecked content left status = IfSome content (λ _. IfSome left (λ bytes. len
 abbrev pub ReadsTopology : Option Command → Type 0
 ReadsTopology None = ⊥
 ReadsTopology (Some (Command.Provide most)) = ⊤
-ReadsTopology (Some (Command.Run most)) = ⊤
+ReadsTopology (Some (Command.Run play)) = ⊤
 ReadsTopology (Some Command.Check) = ⊤
 ReadsTopology (Some (Command.Generate load)) = ⊥
 
 -- A fault of a disk is told: but where `run` has too many events.
 abbrev pub TellsDisks : Option Command → Status → Type 0
-TellsDisks (Some (Command.Run most)) status = status ≡ Status.Long → ⊥
+TellsDisks (Some (Command.Run play)) status = status ≡ Status.Long → ⊥
 TellsDisks _ status = ⊤

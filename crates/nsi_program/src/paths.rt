@@ -26,7 +26,8 @@ fn push_segment(
     segment: &Segment,
 ) -> Result<(), AllocError>
     requires { IsKnown topology.now segment.now }
-    ensures { OnOk result (text.new.items ≡ text.old.items ++ segment_text topology.now segment.now) }
+    ensures { OnOk result
+        (text.new.items ≡ text.old.items ++ segment_text topology.now segment.now) }
 {
     push_name(text, topology.name(segment.child))?;
     push_name(text, topology.stp_name(segment.entry))?;

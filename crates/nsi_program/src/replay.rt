@@ -71,7 +71,8 @@ pub(crate) fn replay(
 ) -> Result<(), AllocError>
     requires { All IsPrintableEntry entries.now }
     ensures state { let p = provider.old in
-        let then = after_all p.setting (own_stp topology.now p.setting.number) p.state entries.now in
+        let then = after_all p.setting
+        (own_stp topology.now p.setting.number) p.state entries.now in
         OnOk result (provider.new ≡ record p { state = then.state }) }
     ensures taken { OnOk result
         (provider.new.state.taken ≤ provider.old.state.taken + length entries.now) }

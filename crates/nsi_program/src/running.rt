@@ -10,11 +10,12 @@ ghost use Rattle.nsi_program.specs.RunsTo.{RunsTo, status_of_run};
 ghost use Rattle.nsi_program.specs.Writes.{WritesSome};
 
 use crate::status::Status;
-use crate::words::EventLimit;
+use crate::words::{EventLimit, Workers};
 use nsi_disk::Shelf;
 use nsi_outside::{Sink, Source};
 use run_command::RunEnd;
 use std::alloc::Global;
+use std::thread::Threads;
 
 /// The status of the end of a run.
 fn status_of(end: RunEnd) -> Status
@@ -36,15 +37,17 @@ fn status_of(end: RunEnd) -> Status
 }
 
 /// The command `run`.
-pub(crate) fn run<S: Source, K: Sink, H: Shelf>(
+pub(crate) fn run<R: Threads + Sync, S: Source, K: Sink, H: Shelf>(
+    rt: &R,
     alloc: Global,
     most: EventLimit,
+    workers: Workers,
     input: &mut S,
     out: &mut K,
     shelf: &mut H,
 ) -> Status
 where
-    H::Disk: Drop,
+    H::Disk: Drop + Send,
     ensures ends { is_told result ≡ true → IfSome (S.left input.old)
         (λ bytes. WritesSome (RunsTo most bytes result) (K.content out.old) (K.content out.new)) }
     ensures not_usage { result ≡ Status.Usage → ⊥ }
@@ -74,6 +77,6 @@ where
         (λ bytes. KeepsRun bytes (H.holds shelf.old) (H.holds shelf.new)) }
 {
     let limit = most.get();
-    let end = run_command::run(alloc, limit, input, out, shelf);
+    let end = run_command::run(rt, workers.get(), alloc, limit, input, out, shelf);
     status_of(end)
 }

@@ -8,6 +8,7 @@ ghost use Rattle.nsi_program.specs.Promise.{is_told, read_fault_line, Writes, Wr
 ghost use Rattle.nsi_program.specs.Words.{command_of};
 ghost use Rattle.nsi_program.specs.declared.words.Command.TheVariants.{Provide as ProvideValue, Run as RunValue, Generate as GenerateValue};
 ghost use Rattle.nsi_program.specs.declared.words.Load.{Load};
+ghost use Rattle.nsi_program.specs.declared.words.Play.{Play};
 ghost use Rattle.nsi_script.specs.Load.{load_of};
 ghost use Rattle.run_command.specs.Runs.{KeepsRun};
 ghost use Rattle.nsi_program.specs.Ends.{HasEnded, IsChecked, IsCut, IsBroken, IsCutShort, WithReading, counted, HasDiskFault, ReadsTopology, TellsDisks};
@@ -22,13 +23,15 @@ use crate::words::{Command, command_of};
 use nsi_disk::Shelf;
 use nsi_outside::{Sink, Source};
 use std::alloc::Global;
+use std::thread::Threads;
 
 /// Runs the command that the words name, on the bytes of the input. The words are those behind the program's name.
 ///
 /// `provide` reads as it goes: a line is answered before the next one is read. A line of more than 65,536 bytes is
 /// refused; an input of more than 67,108,864 bytes is answered up to there. `check` and `run` read the whole input first,
 /// `generate` none.
-pub fn top_plain<S: Source, K: Sink, H: Shelf>(
+pub fn top_plain<R: Threads + Sync, S: Source, K: Sink, H: Shelf>(
+    rt: &R,
     alloc: Global,
     words: &[String],
     input: &mut S,
@@ -36,7 +39,7 @@ pub fn top_plain<S: Source, K: Sink, H: Shelf>(
     shelf: &mut H,
 ) -> Status
 where
-    H::Disk: Drop,
+    H::Disk: Drop + Send,
     // The words, the bytes and the journal say how it ends and all that is written.
     ensures ends { is_told result ≡ true →
         HasEnded (command_of (map string_bytes words.now)) (H.holds shelf.old) (K.content out.old)
@@ -91,8 +94,8 @@ where
         (K.content out.new) }
 
     // With Done the disk of each agent of `run` reads as its journal of the play, where the shelf told what it held.
-    ensures journals { (most : ℕ) → command_of (map string_bytes words.now) ≡ Some (RunValue most) →
-        result ≡ Status.Done → IfSome (S.left input.old)
+    ensures journals { (play : Play) → command_of (map string_bytes words.now) ≡ Some (RunValue play)
+        → result ≡ Status.Done → IfSome (S.left input.old)
         (λ bytes. KeepsRun bytes (H.holds shelf.old) (H.holds shelf.new)) }
 
     // No fault is swallowed, and none is told as want of memory; but a failed read is, or a failed disk, where there is no memory for
@@ -110,7 +113,7 @@ where
     };
     match &command {
         Command::Provide(most) => provide(alloc, *most, input, out, shelf),
-        Command::Run(most) => run(alloc, *most, input, out, shelf),
+        Command::Run(play) => run(rt, alloc, play.most, play.workers, input, out, shelf),
         Command::Check => check(alloc, input, out),
         Command::Generate(load) => generate(alloc, *load, out),
     }

@@ -2,7 +2,9 @@
 
 ghost use Rattle.std.specs.Prelude.{◌≡◌, ◌≤◌, map, string_bytes};
 ghost use Rattle.nsi_base.specs.Range.{within};
-ghost use Rattle.nsi_program.specs.Words.{command_of, allowed, joined, parted, events_in, most_events, load_asked, joined_choice, parted_choice, both, from_in, size_in, most_reserves, greatest_number};
+ghost use Rattle.nsi_program.specs.Words.{command_of, allowed, joined, parted, events_in, workers_in, most_events};
+ghost use Rattle.nsi_program.specs.Words.{run_asked, one_option, both_options, joined_option, parted_option};
+ghost use Rattle.nsi_program.specs.Words.{load_asked, joined_choice, parted_choice, both, from_in, size_in, most_reserves, greatest_number};
 
 use nsi_base::digits::number_of;
 use std::marker::Model;
@@ -54,11 +56,71 @@ impl EventLimit {
     }
 }
 
+/// By how many workers a round is made at most.
+#[derive(Clone, Copy, Debug, PartialEq, Eq)]
+pub struct Workers {
+    value: u8,
+}
+
+impl Model for Workers {
+    ghost use Rattle.std.specs.Prelude.{ℕ, ◌≤◌};
+
+    ghost Value = { ℕ };
+
+    ghost view = { λ n. n.value };
+
+    ghost invariant = { λ n. n.value ≤ 64 };
+
+    ghost inverse = { λ n. record { value = n } };
+}
+
+impl Workers {
+    /// The greatest number, which is that of the agents of a topology.
+    pub const MAX: u64 = 64;
+
+    /// The number where none is given.
+    pub fn one() -> Self
+        ensures { result ≡ 1 }
+    {
+        Workers { value: 1 }
+    }
+
+    pub fn new(n: u64) -> Option<Self>
+        ensures { result ≡ within 1 Self.MAX n }
+    {
+        if 1 <= n && n <= Self::MAX {
+            Some(Workers { value: n as u8 })
+        } else {
+            None
+        }
+    }
+
+    pub fn get(self) -> usize
+        ensures { result ≡ self }
+    {
+        usize::from(self.value)
+    }
+}
+
 /// A load that is to be made: the number that it is drawn from, and how many reserves it has.
 #[derive(Clone, Copy, Debug, PartialEq, Eq)]
 pub struct Load {
     pub from: u64,
     pub size: u32,
+}
+
+/// How a script is to be played: in how many events at most, and each round by how many workers at most.
+#[derive(Clone, Copy, Debug, PartialEq, Eq)]
+pub struct Play {
+    pub most: EventLimit,
+    pub workers: Workers,
+}
+
+/// One option of `run`.
+#[derive(Clone, Copy, Debug, PartialEq, Eq)]
+enum RunOption {
+    Events(EventLimit),
+    Workers(Workers),
 }
 
 /// One option of `generate`.
@@ -73,8 +135,8 @@ enum Choice {
 pub enum Command {
     /// One provider answers lines, in no more events than that.
     Provide(EventLimit),
-    /// All agents play a script, in no more events than that.
-    Run(EventLimit),
+    /// All agents play a script.
+    Run(Play),
     Check,
     /// A topology and a script are made.
     Generate(Load),
@@ -89,8 +151,8 @@ pub(crate) fn command_of(words: &[String]) -> Option<Command>
         let most = allowed(options)?;
         Some(Command::Provide(most))
     } else if command.as_str() == "run" {
-        let most = allowed(options)?;
-        Some(Command::Run(most))
+        let play = run_asked(options)?;
+        Some(Command::Run(play))
     } else if command.as_str() == "check" && options.is_empty() {
         Some(Command::Check)
     } else if command.as_str() == "generate" {
@@ -101,7 +163,7 @@ pub(crate) fn command_of(words: &[String]) -> Option<Command>
     }
 }
 
-/// How many events the words behind `provide` or `run` let be.
+/// How many events the words behind `provide` let be.
 fn allowed(options: &[String]) -> Option<EventLimit>
     ensures { result ≡ allowed (map string_bytes options.now) }
 {
@@ -140,6 +202,109 @@ fn events_in(word: &[u8]) -> Option<EventLimit>
     let n = number_of(1, EventLimit::MAX, word)?;
     match EventLimit::new(n) {
         Some(limit) => Some(limit),
+        None => unreachable!(),
+    }
+}
+
+/// What the words behind `run` ask for: none, one or both of its options, in either order.
+fn run_asked(options: &[String]) -> Option<Play>
+    ensures { result ≡ run_asked (map string_bytes options.now) }
+{
+    match options.len() {
+        0 => Some(Play {
+            most: EventLimit::greatest(),
+            workers: Workers::one(),
+        }),
+        1 => one_option(joined_option(options[0].as_str())),
+        2 => match one_option(parted_option(options[0].as_str(), options[1].as_str())) {
+            Some(play) => Some(play),
+            None => both_options(
+                joined_option(options[0].as_str()),
+                joined_option(options[1].as_str()),
+            ),
+        },
+        3 => match both_options(
+            parted_option(options[0].as_str(), options[1].as_str()),
+            joined_option(options[2].as_str()),
+        ) {
+            Some(play) => Some(play),
+            None => both_options(
+                joined_option(options[0].as_str()),
+                parted_option(options[1].as_str(), options[2].as_str()),
+            ),
+        },
+        4 => both_options(
+            parted_option(options[0].as_str(), options[1].as_str()),
+            parted_option(options[2].as_str(), options[3].as_str()),
+        ),
+        _ => None,
+    }
+}
+
+fn one_option(option: Option<RunOption>) -> Option<Play>
+    ensures { result ≡ one_option option }
+{
+    match option? {
+        RunOption::Events(most) => Some(Play {
+            most,
+            workers: Workers::one(),
+        }),
+        RunOption::Workers(workers) => Some(Play {
+            most: EventLimit::greatest(),
+            workers,
+        }),
+    }
+}
+
+fn both_options(first: Option<RunOption>, second: Option<RunOption>) -> Option<Play>
+    ensures { result ≡ both_options first second }
+{
+    let (first, second) = (first?, second?);
+    match (&first, &second) {
+        (RunOption::Events(most), RunOption::Workers(workers))
+        | (RunOption::Workers(workers), RunOption::Events(most)) => Some(Play {
+            most: *most,
+            workers: *workers,
+        }),
+        _ => None,
+    }
+}
+
+fn joined_option(word: &str) -> Option<RunOption>
+    ensures { result ≡ joined_option word.now }
+{
+    if word.as_bytes().starts_with(b"--events=") {
+        let most = events_in(&word.as_bytes()[9..])?;
+        Some(RunOption::Events(most))
+    } else if word.as_bytes().starts_with(b"--workers=") {
+        let workers = workers_in(&word.as_bytes()[10..])?;
+        Some(RunOption::Workers(workers))
+    } else {
+        None
+    }
+}
+
+fn parted_option(option: &str, word: &str) -> Option<RunOption>
+    ensures { result ≡ parted_option option.now word.now }
+{
+    if option == "--events" {
+        let most = events_in(word.as_bytes())?;
+        Some(RunOption::Events(most))
+    } else if option == "--workers" {
+        let workers = workers_in(word.as_bytes())?;
+        Some(RunOption::Workers(workers))
+    } else {
+        None
+    }
+}
+
+#[tactic(auto, unfolding(nsi_base::specs::Digits::number_of))]
+fn workers_in(word: &[u8]) -> Option<Workers>
+    ensures { result ≡ workers_in word.now }
+{
+    let n = number_of(1, Workers::MAX, word)?;
+    match Workers::new(n) {
+        Some(workers) => Some(workers),
         None => unreachable!(),
     }
 }

@@ -25,6 +25,7 @@ use nsi_world::laws::{asks_whole, play_runs};
 use safe_runs::laws::{every_play_safe_at_each_agent, every_run_safe_at_each_agent};
 use settled_play::laws::settled;
 use std::alloc::Global;
+use std::thread::Threads;
 use stp_topology::{Topology, TopologyFault, TopologyRefusal};
 
 /// How a run ends.
@@ -116,7 +117,9 @@ fn fail<K: Sink>(alloc: Global, out: &mut K, topology: &Topology, fault: &RunFau
 }
 
 /// Plays a script.
-fn play<K: Sink, H: Shelf>(
+fn play<R: Threads + Sync, K: Sink, H: Shelf>(
+    rt: &R,
+    workers: usize,
     alloc: Global,
     limit: u64,
     topology: &Topology,
@@ -125,7 +128,7 @@ fn play<K: Sink, H: Shelf>(
     shelf: &mut H,
 ) -> RunEnd
 where
-    H::Disk: Drop,
+    H::Disk: Drop + Send,
     requires limit { limit ≤ 2000000 }
     requires fits { Fits topology.now script.now }
     ensures played { HasPlayed limit topology.now script.now.groups
@@ -142,14 +145,16 @@ where
     asks_whole();
     every_play_safe_at_each_agent();
     settled();
-    match run_world(alloc, topology, script, limit, shelf, out) {
+    match run_world(rt, workers, alloc, topology, script, limit, shelf, out) {
         Ok(events) => tell_events(alloc, out, events),
         Err(fault) => fail(alloc, out, topology, &fault),
     }
 }
 
 /// Reads the script that stands behind a topology, and plays it.
-fn run_script<K: Sink, H: Shelf>(
+fn run_script<R: Threads + Sync, K: Sink, H: Shelf>(
+    rt: &R,
+    workers: usize,
     alloc: Global,
     limit: u64,
     bytes: &[u8],
@@ -158,7 +163,7 @@ fn run_script<K: Sink, H: Shelf>(
     shelf: &mut H,
 ) -> RunEnd
 where
-    H::Disk: Drop,
+    H::Disk: Drop + Send,
     requires limit { limit ≤ 2000000 }
     requires size { length bytes.now ≤ greatest_input }
     requires declared { IsDeclared bytes.now declared.now }
@@ -177,14 +182,25 @@ where
         declared.lines + 1,
         &declared.topology,
     ) {
-        Ok(script) => play(alloc, limit, &declared.topology, &script, out, shelf),
+        Ok(script) => play(
+            rt,
+            workers,
+            alloc,
+            limit,
+            &declared.topology,
+            &script,
+            out,
+            shelf,
+        ),
         Err(ScriptRefusal::Fault { line, fault }) => bad_script(alloc, out, line, fault),
         Err(ScriptRefusal::NoMemory) => RunEnd::NoMemory,
     }
 }
 
 /// Reads a topology and a script, and plays it.
-fn run_bytes<K: Sink, H: Shelf>(
+fn run_bytes<R: Threads + Sync, K: Sink, H: Shelf>(
+    rt: &R,
+    workers: usize,
     alloc: Global,
     limit: u64,
     bytes: &[u8],
@@ -192,7 +208,7 @@ fn run_bytes<K: Sink, H: Shelf>(
     shelf: &mut H,
 ) -> RunEnd
 where
-    H::Disk: Drop,
+    H::Disk: Drop + Send,
     requires limit { limit ≤ 2000000 }
     requires size { length bytes.now ≤ greatest_input }
     ensures read { HasRead limit bytes.now (K.content out.old) (K.content out.new)
@@ -204,15 +220,17 @@ where
 {
     every_run_safe_at_each_agent();
     match read_declared(alloc, bytes) {
-        Ok(declared) => run_script(alloc, limit, bytes, &declared, out, shelf),
+        Ok(declared) => run_script(rt, workers, alloc, limit, bytes, &declared, out, shelf),
         Err(TopologyRefusal::Fault { line, fault }) => bad_topology(alloc, out, line, fault),
         Err(TopologyRefusal::NoMemory) => RunEnd::NoMemory,
     }
 }
 
-/// Plays the script that stands in the input behind a topology, with at most so many events. The whole input is read first, and each group's
-/// events are written in its end. Journals begin empty.
-pub fn run<S: Source, K: Sink, H: Shelf>(
+/// Plays the script that stands in the input behind a topology, with at most so many events, each round by so many workers at most. The
+/// whole input is read first, and each group's events are written in its end. Journals begin empty.
+pub fn run<R: Threads + Sync, S: Source, K: Sink, H: Shelf>(
+    rt: &R,
+    workers: usize,
     alloc: Global,
     limit: u64,
     input: &mut S,
@@ -220,7 +238,7 @@ pub fn run<S: Source, K: Sink, H: Shelf>(
     shelf: &mut H,
 ) -> RunEnd
 where
-    H::Disk: Drop,
+    H::Disk: Drop + Send,
     requires { limit ≤ 2000000 }
     // The bytes say how it ends and all that is written.
     ensures ends { is_told result ≡ true → IfSome (S.left input.old)
@@ -257,7 +275,7 @@ where
 {
     every_run_safe_at_each_agent();
     match read_whole(alloc, input, GREATEST_INPUT) {
-        Ok(Some(bytes)) => run_bytes(alloc, limit, &bytes, out, shelf),
+        Ok(Some(bytes)) => run_bytes(rt, workers, alloc, limit, &bytes, out, shelf),
         Ok(None) => close(out, b"fault long\n", RunEnd::Long),
         Err(ReadError::Failed) => close(out, b"fault read\n", RunEnd::ReadFault),
         Err(ReadError::NoMemory) => RunEnd::NoMemory,

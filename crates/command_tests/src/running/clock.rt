@@ -4,11 +4,12 @@ use super::{is_answered, is_limited_by};
 use crate::tables::clock::{EVENTS, TICKS};
 use std::alloc::{AllocError, Global};
 use std::test::Fail;
+use std::thread::Threads;
 
 #[test]
 fn ticks_are_taken(rt: HostRuntime) -> Result<(), Fail> {
     for (what, lines, written) in &TICKS {
-        let is_right = is_answered(rt.alloc(), lines, written)?;
+        let is_right = is_answered(&rt, rt.alloc(), lines, written)?;
         assert!(rt; is_right, "{what}");
     }
     Ok(())
@@ -38,7 +39,7 @@ const TICK: &str = "{\"errorId\":\"PAYLOAD\",\"fault\":\"Tick\",\"kind\":\"error
 #[test]
 fn ticks_have_one_form(rt: HostRuntime) -> Result<(), Fail> {
     for line in &BAD_TICKS {
-        let is_right = is_answered(rt.alloc(), line, TICK)?;
+        let is_right = is_answered(&rt, rt.alloc(), line, TICK)?;
         assert!(rt; is_right, "{line:?}");
     }
     Ok(())
@@ -47,7 +48,7 @@ fn ticks_have_one_form(rt: HostRuntime) -> Result<(), Fail> {
 #[test]
 fn events_are_counted(rt: HostRuntime) -> Result<(), Fail> {
     for (what, most, lines, status, written) in &EVENTS {
-        let is_right = is_limited_by(rt.alloc(), most, lines, *status, written)?;
+        let is_right = is_limited_by(&rt, rt.alloc(), most, lines, *status, written)?;
         assert!(rt; is_right, "{what}");
     }
     Ok(())
@@ -69,7 +70,7 @@ fn push_fault(alloc: Global, written: &mut String, turn: u64) -> Result<(), Allo
 }
 
 /// Whether a run of 1,000 lines stops at its tick 300, the first that 600 events don't let be.
-fn stops_in_the_middle(alloc: Global) -> Result<bool, AllocError> {
+fn stops_in_the_middle(rt: &(impl Threads + Sync), alloc: Global) -> Result<bool, AllocError> {
     let mut lines = String::new(alloc);
     for turn in 0u64..500 {
         push_pair(alloc, &mut lines, turn)?;
@@ -79,12 +80,12 @@ fn stops_in_the_middle(alloc: Global) -> Result<bool, AllocError> {
         push_fault(alloc, &mut written, turn)?;
     }
     written.push_str("fault long\n")?;
-    is_limited_by(alloc, "600", lines.as_str(), 8, written.as_str())
+    is_limited_by(rt, alloc, "600", lines.as_str(), 8, written.as_str())
 }
 
 #[test]
 fn a_long_run_stops_in_the_middle(rt: HostRuntime) -> Result<(), Fail> {
-    let is_right = stops_in_the_middle(rt.alloc())?;
+    let is_right = stops_in_the_middle(&rt, rt.alloc())?;
     assert!(rt; is_right);
     Ok(())
 }

@@ -3,6 +3,7 @@
 use super::{Failing, TOPOLOGY, run};
 use std::alloc::{AllocError, Global};
 use std::test::Fail;
+use std::thread::Threads;
 
 /// What the lines behind the topology are answered.
 const ANSWERS: [&str; 4] = [
@@ -32,7 +33,13 @@ struct Cut {
     status: u8,
 }
 
-fn is_cut(alloc: Global, reads: &[u64], writes: &[u64], cut: &Cut) -> Result<bool, AllocError> {
+fn is_cut(
+    rt: &(impl Threads + Sync),
+    alloc: Global,
+    reads: &[u64],
+    writes: &[u64],
+    cut: &Cut,
+) -> Result<bool, AllocError> {
     let mut wanted = Vec::new(alloc);
     for answer in ANSWERS.iter().take(cut.answers) {
         wanted.extend_from_slice(answer.as_bytes())?;
@@ -42,7 +49,7 @@ fn is_cut(alloc: Global, reads: &[u64], writes: &[u64], cut: &Cut) -> Result<boo
         reads: Vec::from_slice(alloc, reads)?,
         writes: Vec::from_slice(alloc, writes)?,
     };
-    let written = run(alloc, "provide", four_lines(alloc)?, failing)?;
+    let written = run(rt, alloc, "provide", four_lines(alloc)?, failing)?;
     Ok(written.is(cut.status, &wanted))
 }
 
@@ -84,7 +91,7 @@ const READS: [Cut; 5] = [
 #[test]
 fn lines_that_ended_are_answered_before_a_failed_read(rt: HostRuntime) -> Result<(), Fail> {
     for cut in &READS {
-        let is_right = is_cut(rt.alloc(), &[cut.call], &[], cut)?;
+        let is_right = is_cut(&rt, rt.alloc(), &[cut.call], &[], cut)?;
         assert!(rt; is_right, "read {}", cut.call);
     }
     Ok(())
@@ -127,7 +134,7 @@ const WRITES: [Cut; 5] = [
 #[test]
 fn answers_stand_before_a_failed_write(rt: HostRuntime) -> Result<(), Fail> {
     for cut in &WRITES {
-        let is_right = is_cut(rt.alloc(), &[], &[cut.call], cut)?;
+        let is_right = is_cut(&rt, rt.alloc(), &[], &[cut.call], cut)?;
         assert!(rt; is_right, "write {}", cut.call);
     }
     Ok(())
@@ -141,25 +148,30 @@ fn a_failed_write_of_a_failed_read(rt: HostRuntime) -> Result<(), Fail> {
         end: "",
         status: 3,
     };
-    let is_right = is_cut(rt.alloc(), &[cut.call], &[cut.call], &cut)?;
+    let is_right = is_cut(&rt, rt.alloc(), &[cut.call], &[cut.call], &cut)?;
     assert!(rt; is_right);
     Ok(())
 }
 
 /// `check` on the topology and two bad lines, where one call fails.
-fn checked(alloc: Global, reads: &[u64], writes: &[u64]) -> Result<super::Written, AllocError> {
+fn checked(
+    rt: &(impl Threads + Sync),
+    alloc: Global,
+    reads: &[u64],
+    writes: &[u64],
+) -> Result<super::Written, AllocError> {
     let input = super::behind_topology(alloc, b"x\n\ny\n")?;
     let failing = Failing {
         reads: Vec::from_slice(alloc, reads)?,
         writes: Vec::from_slice(alloc, writes)?,
     };
-    run(alloc, "check", input, failing)
+    run(rt, alloc, "check", input, failing)
 }
 
 #[test]
 fn check_tells_a_failed_read_alone(rt: HostRuntime) -> Result<(), Fail> {
     for call in 1..=2 {
-        let written = checked(rt.alloc(), &[call], &[])?;
+        let written = checked(&rt, rt.alloc(), &[call], &[])?;
         assert!(rt; written.is(2, b"fault read\n"), "read {call}");
     }
     Ok(())
@@ -172,7 +184,7 @@ fn check_answers_before_a_failed_write(rt: HostRuntime) -> Result<(), Fail> {
         (2, "agents 2 stps 2 sdps 0\n"),
         (3, "agents 2 stps 2 sdps 0\nbad\n"),
     ] {
-        let written = checked(rt.alloc(), &[], &[call])?;
+        let written = checked(&rt, rt.alloc(), &[], &[call])?;
         assert!(rt; written.is(3, text.as_bytes()), "write {call}");
     }
     Ok(())

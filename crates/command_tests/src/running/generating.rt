@@ -3,6 +3,7 @@
 use super::{Failing, Written, run, run_whole};
 use std::alloc::{AllocError, Global};
 use std::test::Fail;
+use std::thread::Threads;
 
 /// Both options in each order, and each in both of its forms.
 const WORDS: [&str; 9] = [
@@ -51,12 +52,16 @@ fn count_lines(text: &[u8]) -> usize {
     text.iter().filter(|b| **b == b'\n').count()
 }
 
-fn generated(alloc: Global, words: &str) -> Result<Written, AllocError> {
-    run_whole(alloc, words, Vec::new(alloc))
+fn generated(
+    rt: &(impl Threads + Sync),
+    alloc: Global,
+    words: &str,
+) -> Result<Written, AllocError> {
+    run_whole(rt, alloc, words, Vec::new(alloc))
 }
 
-fn is_made(alloc: Global, words: &str) -> Result<bool, AllocError> {
-    let made = generated(alloc, words)?;
+fn is_made(rt: &(impl Threads + Sync), alloc: Global, words: &str) -> Result<bool, AllocError> {
+    let made = generated(rt, alloc, words)?;
     let text = made.bytes.as_slice();
     Ok(
         made.status == 0
@@ -66,19 +71,24 @@ fn is_made(alloc: Global, words: &str) -> Result<bool, AllocError> {
     )
 }
 
-fn is_long(alloc: Global, words: &str, lines: usize) -> Result<bool, AllocError> {
-    let made = generated(alloc, words)?;
+fn is_long(
+    rt: &(impl Threads + Sync),
+    alloc: Global,
+    words: &str,
+    lines: usize,
+) -> Result<bool, AllocError> {
+    let made = generated(rt, alloc, words)?;
     Ok(made.status == 0 && count_lines(made.bytes.as_slice()) == lines)
 }
 
-fn is_refused(alloc: Global, words: &str) -> Result<bool, AllocError> {
-    Ok(generated(alloc, words)?.is(4, b"fault usage\n"))
+fn is_refused(rt: &(impl Threads + Sync), alloc: Global, words: &str) -> Result<bool, AllocError> {
+    Ok(generated(rt, alloc, words)?.is(4, b"fault usage\n"))
 }
 
 #[test]
 fn options_stand_in_any_order(rt: HostRuntime) -> Result<(), Fail> {
     for words in &WORDS {
-        let is_right = is_made(rt.alloc(), words)?;
+        let is_right = is_made(&rt, rt.alloc(), words)?;
         assert!(rt; is_right, "{words}");
     }
     Ok(())
@@ -87,7 +97,7 @@ fn options_stand_in_any_order(rt: HostRuntime) -> Result<(), Fail> {
 #[test]
 fn other_options_are_refused(rt: HostRuntime) -> Result<(), Fail> {
     for words in &REFUSED {
-        let is_right = is_refused(rt.alloc(), words)?;
+        let is_right = is_refused(&rt, rt.alloc(), words)?;
         assert!(rt; is_right, "{words}");
     }
     Ok(())
@@ -95,9 +105,10 @@ fn other_options_are_refused(rt: HostRuntime) -> Result<(), Fail> {
 
 #[test]
 fn the_least_and_the_greatest_are_made(rt: HostRuntime) -> Result<(), Fail> {
-    assert!(rt; is_long(rt.alloc(), "generate --from 0 --size 0", 33)?);
+    assert!(rt; is_long(&rt, rt.alloc(), "generate --from 0 --size 0", 33)?);
     assert!(rt;
         is_long(
+            &rt,
             rt.alloc(),
             "generate --from 18446744073709551615 --size 5000",
             20_033
@@ -107,8 +118,14 @@ fn the_least_and_the_greatest_are_made(rt: HostRuntime) -> Result<(), Fail> {
 }
 
 /// A load with the first read and the first write failing, where they are asked for.
-fn failing(alloc: Global, reads: Vec<u64>, writes: Vec<u64>) -> Result<Written, AllocError> {
+fn failing(
+    rt: &(impl Threads + Sync),
+    alloc: Global,
+    reads: Vec<u64>,
+    writes: Vec<u64>,
+) -> Result<Written, AllocError> {
     run(
+        rt,
         alloc,
         "generate --from 0 --size 0",
         Vec::new(alloc),
@@ -119,10 +136,10 @@ fn failing(alloc: Global, reads: Vec<u64>, writes: Vec<u64>) -> Result<Written, 
 #[test]
 fn generate_reads_nothing_and_tells_a_failed_write(rt: HostRuntime) -> Result<(), Fail> {
     let first = vec![in rt.alloc(); 1]?;
-    let unread = failing(rt.alloc(), first, Vec::new(rt.alloc()))?;
+    let unread = failing(&rt, rt.alloc(), first, Vec::new(rt.alloc()))?;
     assert!(rt; unread.status == 0);
     let first = vec![in rt.alloc(); 1]?;
-    let unwritten = failing(rt.alloc(), Vec::new(rt.alloc()), first)?;
+    let unwritten = failing(&rt, rt.alloc(), Vec::new(rt.alloc()), first)?;
     assert!(rt; unwritten.is(3, b""));
     Ok(())
 }

@@ -12,6 +12,7 @@ use nsi_disk::{FailAt, MemoryShelf, NamedDisk, Stop};
 use nsi_outside::{MemorySink, MemorySource};
 use nsi_program::top_plain;
 use std::alloc::{AllocError, Global};
+use std::thread::Threads;
 
 /// The commit of the reserve, and its answer.
 const COMMIT: &str =
@@ -95,6 +96,7 @@ fn words_of(alloc: Global, words: &str) -> Result<Vec<String>, AllocError> {
 
 /// The command of the words on the bytes.
 fn run_input(
+    rt: &(impl Threads + Sync),
     alloc: Global,
     words: &str,
     input: Vec<u8>,
@@ -104,7 +106,7 @@ fn run_input(
     let mut source = MemorySource::new(input, Vec::from_slice(alloc, before.reads)?);
     let mut sink = MemorySink::new(alloc, Vec::from_slice(alloc, before.writes)?);
     let mut shelf = shelf_of(alloc, before)?;
-    let status = top_plain(alloc, &words, &mut source, &mut sink, &mut shelf).code();
+    let status = top_plain(rt, alloc, &words, &mut source, &mut sink, &mut shelf).code();
     let written = Vec::from_slice(alloc, sink.bytes())?;
     let disk = shelf.content(alloc)?;
     Ok(Ended {
@@ -115,15 +117,27 @@ fn run_input(
 }
 
 /// The command of the words on lines behind the topology, with short ids.
-fn run(alloc: Global, words: &str, lines: &str, before: &Before<'_>) -> Result<Ended, AllocError> {
+fn run(
+    rt: &(impl Threads + Sync),
+    alloc: Global,
+    words: &str,
+    lines: &str,
+    before: &Before<'_>,
+) -> Result<Ended, AllocError> {
     let lines = in_full(alloc, lines)?;
     let input = behind_topology(alloc, lines.as_bytes())?;
-    run_input(alloc, words, input, before)
+    run_input(rt, alloc, words, input, before)
 }
 
 /// A run over a disk on which nothing fails.
-fn run_on(alloc: Global, words: &str, lines: &str, disk: &[u8]) -> Result<Ended, AllocError> {
-    run(alloc, words, lines, &Before::of(disk))
+fn run_on(
+    rt: &(impl Threads + Sync),
+    alloc: Global,
+    words: &str,
+    lines: &str,
+    disk: &[u8],
+) -> Result<Ended, AllocError> {
+    run(rt, alloc, words, lines, &Before::of(disk))
 }
 
 /// Whether the run ended with the status, and wrote the text, which has short ids.

@@ -7,7 +7,7 @@ use std::test::Fail;
 #[test]
 fn only_requests_are_served(rt: HostRuntime) -> Result<(), Fail> {
     for (what, lines, written) in &ANSWERS {
-        let is_right = is_answered(rt.alloc(), lines, written)?;
+        let is_right = is_answered(&rt, rt.alloc(), lines, written)?;
         assert!(rt; is_right, "{what}");
     }
     Ok(())
@@ -72,7 +72,7 @@ const ACKNOWLEDGEMENTS: [(&str, &str, &str); 2] = [
 #[test]
 fn acknowledgements_write_nothing(rt: HostRuntime) -> Result<(), Fail> {
     for (what, lines, written) in &ACKNOWLEDGEMENTS {
-        let is_right = is_answered(rt.alloc(), lines, written)?;
+        let is_right = is_answered(&rt, rt.alloc(), lines, written)?;
         assert!(rt; is_right, "{what}");
     }
     Ok(())
@@ -81,7 +81,7 @@ fn acknowledgements_write_nothing(rt: HostRuntime) -> Result<(), Fail> {
 #[test]
 fn queries_are_unbuilt(rt: HostRuntime) -> Result<(), Fail> {
     for (what, lines, written) in &QUERIES {
-        let is_right = is_answered(rt.alloc(), lines, written)?;
+        let is_right = is_answered(&rt, rt.alloc(), lines, written)?;
         assert!(rt; is_right, "{what}");
     }
     Ok(())
@@ -90,7 +90,7 @@ fn queries_are_unbuilt(rt: HostRuntime) -> Result<(), Fail> {
 #[test]
 fn they_change_nothing(rt: HostRuntime) -> Result<(), Fail> {
     for (what, lines, written) in &BETWEEN {
-        let is_right = is_answered(rt.alloc(), lines, written)?;
+        let is_right = is_answered(&rt, rt.alloc(), lines, written)?;
         assert!(rt; is_right, "{what}");
     }
     Ok(())

@@ -7,7 +7,7 @@ use std::test::Fail;
 #[test]
 fn modifications_are_held_and_committed(rt: HostRuntime) -> Result<(), Fail> {
     for (what, lines, written) in &HELD {
-        let is_right = is_answered(rt.alloc(), lines, written)?;
+        let is_right = is_answered(&rt, rt.alloc(), lines, written)?;
         assert!(rt; is_right, "{what}");
     }
     Ok(())
@@ -16,7 +16,7 @@ fn modifications_are_held_and_committed(rt: HostRuntime) -> Result<(), Fail> {
 #[test]
 fn versions_rise(rt: HostRuntime) -> Result<(), Fail> {
     for (what, lines, written) in &VERSIONS {
-        let is_right = is_answered(rt.alloc(), lines, written)?;
+        let is_right = is_answered(&rt, rt.alloc(), lines, written)?;
         assert!(rt; is_right, "{what}");
     }
     Ok(())
@@ -25,7 +25,7 @@ fn versions_rise(rt: HostRuntime) -> Result<(), Fail> {
 #[test]
 fn modifications_find_their_bandwidth(rt: HostRuntime) -> Result<(), Fail> {
     for (what, lines, written) in &BANDWIDTH {
-        let is_right = is_answered(rt.alloc(), lines, written)?;
+        let is_right = is_answered(&rt, rt.alloc(), lines, written)?;
         assert!(rt; is_right, "{what}");
     }
     Ok(())
@@ -34,7 +34,7 @@ fn modifications_find_their_bandwidth(rt: HostRuntime) -> Result<(), Fail> {
 #[test]
 fn modifications_keep_the_rest(rt: HostRuntime) -> Result<(), Fail> {
     for (what, lines, written) in &KEPT {
-        let is_right = is_answered(rt.alloc(), lines, written)?;
+        let is_right = is_answered(&rt, rt.alloc(), lines, written)?;
         assert!(rt; is_right, "{what}");
     }
     Ok(())

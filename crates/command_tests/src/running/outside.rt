@@ -3,6 +3,7 @@
 use super::{Failing, Written, behind_topology, provide, run};
 use std::alloc::{AllocError, Global};
 use std::test::Fail;
+use std::thread::Threads;
 
 /// Topologies, and what is written for them.
 const TOPOLOGIES: [(&str, &str); 20] = [
@@ -46,16 +47,21 @@ const TOPOLOGIES: [(&str, &str); 20] = [
     ("agent p1 provider 60\n{}\n---\n", "fault topology 2 Word\n"),
 ];
 
-fn is_bad_topology(alloc: Global, text: &str, written: &str) -> Result<bool, AllocError> {
+fn is_bad_topology(
+    rt: &(impl Threads + Sync),
+    alloc: Global,
+    text: &str,
+    written: &str,
+) -> Result<bool, AllocError> {
     let mut input = Vec::new(alloc);
     input.extend_from_slice(text.as_bytes())?;
-    Ok(provide(alloc, input)?.is(5, written.as_bytes()))
+    Ok(provide(rt, alloc, input)?.is(5, written.as_bytes()))
 }
 
 #[test]
 fn bad_topologies_are_refused(rt: HostRuntime) -> Result<(), Fail> {
     for (text, written) in &TOPOLOGIES {
-        let is_right = is_bad_topology(rt.alloc(), text, written)?;
+        let is_right = is_bad_topology(&rt, rt.alloc(), text, written)?;
         assert!(rt; is_right, "{text}");
     }
     Ok(())
@@ -103,24 +109,25 @@ const WORDS: [&str; 36] = [
 
 /// A run in which one call of the source or of the sink fails.
 fn failing(
+    rt: &(impl Threads + Sync),
     alloc: Global,
     words: &str,
     reads: Vec<u64>,
     writes: Vec<u64>,
 ) -> Result<Written, AllocError> {
     let input = behind_topology(alloc, b"{\n")?;
-    run(alloc, words, input, Failing { reads, writes })
+    run(rt, alloc, words, input, Failing { reads, writes })
 }
 
-fn is_usage(alloc: Global, words: &str) -> Result<bool, AllocError> {
-    let written = failing(alloc, words, Vec::new(alloc), Vec::new(alloc))?;
+fn is_usage(rt: &(impl Threads + Sync), alloc: Global, words: &str) -> Result<bool, AllocError> {
+    let written = failing(rt, alloc, words, Vec::new(alloc), Vec::new(alloc))?;
     Ok(written.is(4, b"fault usage\n"))
 }
 
 #[test]
 fn other_words_are_refused(rt: HostRuntime) -> Result<(), Fail> {
     for words in &WORDS {
-        let is_right = is_usage(rt.alloc(), words)?;
+        let is_right = is_usage(&rt, rt.alloc(), words)?;
         assert!(rt; is_right, "{words}");
     }
     Ok(())
@@ -129,7 +136,7 @@ fn other_words_are_refused(rt: HostRuntime) -> Result<(), Fail> {
 #[test]
 fn a_failed_read_is_told(rt: HostRuntime) -> Result<(), Fail> {
     let first = vec![in rt.alloc(); 1]?;
-    let written = failing(rt.alloc(), "provide", first, Vec::new(rt.alloc()))?;
+    let written = failing(&rt, rt.alloc(), "provide", first, Vec::new(rt.alloc()))?;
     assert!(rt; written.is(2, b"fault read\n"));
     Ok(())
 }
@@ -137,7 +144,7 @@ fn a_failed_read_is_told(rt: HostRuntime) -> Result<(), Fail> {
 #[test]
 fn a_failed_write_is_told(rt: HostRuntime) -> Result<(), Fail> {
     let first = vec![in rt.alloc(); 1]?;
-    let written = failing(rt.alloc(), "provide", Vec::new(rt.alloc()), first)?;
+    let written = failing(&rt, rt.alloc(), "provide", Vec::new(rt.alloc()), first)?;
     assert!(rt; written.is(3, b""));
     Ok(())
 }
@@ -145,7 +152,7 @@ fn a_failed_write_is_told(rt: HostRuntime) -> Result<(), Fail> {
 #[test]
 fn a_failed_write_of_a_fault_is_told(rt: HostRuntime) -> Result<(), Fail> {
     let first = vec![in rt.alloc(); 1]?;
-    let written = failing(rt.alloc(), "run", Vec::new(rt.alloc()), first)?;
+    let written = failing(&rt, rt.alloc(), "run", Vec::new(rt.alloc()), first)?;
     assert!(rt; written.is(3, b""));
     Ok(())
 }

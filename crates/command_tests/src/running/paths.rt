@@ -3,6 +3,7 @@
 use super::{Failing, Written, run};
 use std::alloc::{AllocError, Global};
 use std::test::Fail;
+use std::thread::Threads;
 
 /// Two joined providers below an aggregator.
 const JOINED: &str = r"agent p1 provider 60
@@ -358,23 +359,30 @@ child a5 a4
 ];
 
 /// The command `check` on the bytes, where nothing fails.
-fn check(alloc: Global, input: Vec<u8>) -> Result<Written, AllocError> {
+fn check(rt: &(impl Threads + Sync), alloc: Global, input: Vec<u8>) -> Result<Written, AllocError> {
     let failing = Failing {
         reads: Vec::new(alloc),
         writes: Vec::new(alloc),
     };
-    run(alloc, "check", input, failing)
+    run(rt, alloc, "check", input, failing)
 }
 
 /// Whether `check` ends so on the text.
-fn is_checked(alloc: Global, text: &str, status: u8, written: &str) -> Result<bool, AllocError> {
+fn is_checked(
+    rt: &(impl Threads + Sync),
+    alloc: Global,
+    text: &str,
+    status: u8,
+    written: &str,
+) -> Result<bool, AllocError> {
     let mut input = Vec::new(alloc);
     input.extend_from_slice(text.as_bytes())?;
-    Ok(check(alloc, input)?.is(status, written.as_bytes()))
+    Ok(check(rt, alloc, input)?.is(status, written.as_bytes()))
 }
 
 /// Whether lines behind a topology are answered so, and all is done.
 fn is_answered(
+    rt: &(impl Threads + Sync),
     alloc: Global,
     topology: &str,
     lines: &str,
@@ -383,13 +391,14 @@ fn is_answered(
 ) -> Result<bool, AllocError> {
     let input = format!(in alloc; "{topology}{lines}")?;
     let written = format!(in alloc; "{front}{answers}")?;
-    is_checked(alloc, input.as_str(), 0, written.as_str())
+    is_checked(rt, alloc, input.as_str(), 0, written.as_str())
 }
 
 #[test]
 fn paths_are_found(rt: HostRuntime) -> Result<(), Fail> {
     for (what, lines, written) in &ROWS {
         let is_right = is_answered(
+            &rt,
             rt.alloc(),
             JOINED,
             lines,
@@ -404,7 +413,7 @@ fn paths_are_found(rt: HostRuntime) -> Result<(), Fail> {
 #[test]
 fn least_paths_are_found(rt: HostRuntime) -> Result<(), Fail> {
     for (what, topology, lines, written) in &TOPOLOGIES {
-        let is_right = is_answered(rt.alloc(), topology, lines, "", written)?;
+        let is_right = is_answered(&rt, rt.alloc(), topology, lines, "", written)?;
         assert!(rt; is_right, "{what}");
     }
     Ok(())
@@ -413,7 +422,7 @@ fn least_paths_are_found(rt: HostRuntime) -> Result<(), Fail> {
 #[test]
 fn faults_are_told(rt: HostRuntime) -> Result<(), Fail> {
     for (text, written) in &FAULTS {
-        let is_right = is_checked(rt.alloc(), text, 5, written)?;
+        let is_right = is_checked(&rt, rt.alloc(), text, 5, written)?;
         assert!(rt; is_right, "{text}");
     }
     Ok(())
@@ -447,11 +456,12 @@ fn joins(alloc: Global, sdps: u32) -> Result<String, AllocError> {
 }
 
 /// The greatest topology is taken, with all its points joined.
-fn greatest_is_taken(alloc: Global) -> Result<bool, AllocError> {
+fn greatest_is_taken(rt: &(impl Threads + Sync), alloc: Global) -> Result<bool, AllocError> {
     let topology = great_topology(alloc, 64, 4_096)?;
     let joins = joins(alloc, 2_048)?;
     let input = format!(in alloc; "{topology}{joins}---\npath p0 s0 s1\n")?;
     is_checked(
+        rt,
         alloc,
         input.as_str(),
         0,
@@ -461,6 +471,7 @@ fn greatest_is_taken(alloc: Global) -> Result<bool, AllocError> {
 
 /// Whether a line behind a topology is one too many.
 fn is_one_too_many(
+    rt: &(impl Threads + Sync),
     alloc: Global,
     stps: u32,
     line: &str,
@@ -468,14 +479,15 @@ fn is_one_too_many(
 ) -> Result<bool, AllocError> {
     let topology = great_topology(alloc, 64, stps)?;
     let input = format!(in alloc; "{topology}{line}\n---\n")?;
-    is_checked(alloc, input.as_str(), 5, written)
+    is_checked(rt, alloc, input.as_str(), 5, written)
 }
 
 #[test]
 fn limits_are_met_and_passed(rt: HostRuntime) -> Result<(), Fail> {
-    let is_taken = greatest_is_taken(rt.alloc())?;
+    let is_taken = greatest_is_taken(&rt, rt.alloc())?;
     assert!(rt; is_taken);
     let agent = is_one_too_many(
+        &rt,
         rt.alloc(),
         0,
         "agent a1 aggregator",
@@ -483,6 +495,7 @@ fn limits_are_met_and_passed(rt: HostRuntime) -> Result<(), Fail> {
     )?;
     assert!(rt; agent);
     let stp = is_one_too_many(
+        &rt,
         rt.alloc(),
         4_096,
         "stp p0 z 1",
@@ -493,9 +506,15 @@ fn limits_are_met_and_passed(rt: HostRuntime) -> Result<(), Fail> {
 }
 
 /// A run of `check` on two lines in which one call of the source or of the sink fails.
-fn failing(alloc: Global, reads: Vec<u64>, writes: Vec<u64>) -> Result<Written, AllocError> {
+fn failing(
+    rt: &(impl Threads + Sync),
+    alloc: Global,
+    reads: Vec<u64>,
+    writes: Vec<u64>,
+) -> Result<Written, AllocError> {
     let input = format!(in alloc; "{JOINED}path a1 A B\npath a1 A D\n")?;
     run(
+        rt,
         alloc,
         "check",
         input.into_bytes(),
@@ -515,7 +534,7 @@ fn call(alloc: Global, number: u64) -> Result<Vec<u64>, AllocError> {
 fn a_failed_read_stands_alone(rt: HostRuntime) -> Result<(), Fail> {
     for number in [1, 2] {
         let reads = call(rt.alloc(), number)?;
-        let written = failing(rt.alloc(), reads, Vec::new(rt.alloc()))?;
+        let written = failing(&rt, rt.alloc(), reads, Vec::new(rt.alloc()))?;
         assert!(rt; written.is(2, b"fault read\n"), "{number}");
     }
     Ok(())
@@ -532,7 +551,7 @@ const CUT: [(u64, &str); 3] = [
 fn a_failed_write_ends_the_run(rt: HostRuntime) -> Result<(), Fail> {
     for (number, front) in CUT {
         let writes = call(rt.alloc(), number)?;
-        let written = failing(rt.alloc(), Vec::new(rt.alloc()), writes)?;
+        let written = failing(&rt, rt.alloc(), Vec::new(rt.alloc()), writes)?;
         assert!(rt; written.is(3, front.as_bytes()), "{number}");
     }
     Ok(())
@@ -549,19 +568,19 @@ const WORDS: [&str; 7] = [
     "check --events=3",
 ];
 
-fn is_usage(alloc: Global, words: &str) -> Result<bool, AllocError> {
+fn is_usage(rt: &(impl Threads + Sync), alloc: Global, words: &str) -> Result<bool, AllocError> {
     let input = format!(in alloc; "{JOINED}")?;
     let failing = Failing {
         reads: Vec::new(alloc),
         writes: Vec::new(alloc),
     };
-    Ok(run(alloc, words, input.into_bytes(), failing)?.is(4, b"fault usage\n"))
+    Ok(run(rt, alloc, words, input.into_bytes(), failing)?.is(4, b"fault usage\n"))
 }
 
 #[test]
 fn other_words_are_no_check(rt: HostRuntime) -> Result<(), Fail> {
     for words in &WORDS {
-        let is_right = is_usage(rt.alloc(), words)?;
+        let is_right = is_usage(&rt, rt.alloc(), words)?;
         assert!(rt; is_right, "{words}");
     }
     Ok(())
@@ -578,10 +597,10 @@ fn filled(alloc: Global, text: &str, size: usize) -> Result<Vec<u8>, AllocError>
 #[test]
 fn the_size_is_met_and_passed(rt: HostRuntime) -> Result<(), Fail> {
     let input = filled(rt.alloc(), "\nagent a1 aggregator\n---\n", 67_108_864)?;
-    let written = check(rt.alloc(), input)?;
+    let written = check(&rt, rt.alloc(), input)?;
     assert!(rt; written.is(0, b"agents 1 stps 0 sdps 0\n"));
     let input = filled(rt.alloc(), "\nno form\n---\n", 67_108_865)?;
-    let written = check(rt.alloc(), input)?;
+    let written = check(&rt, rt.alloc(), input)?;
     assert!(rt; written.is(8, b"fault long\n"));
     Ok(())
 }

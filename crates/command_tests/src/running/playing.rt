@@ -7,14 +7,21 @@ use crate::tables::playing::{
 };
 use std::alloc::{AllocError, Global};
 use std::test::Fail;
+use std::thread::Threads;
 
 /// A script behind the topology of one provider, by these words.
-fn played(alloc: Global, words: &str, script: &str) -> Result<Written, AllocError> {
-    run_whole(alloc, words, behind_topology(alloc, script.as_bytes())?)
+fn played(
+    rt: &(impl Threads + Sync),
+    alloc: Global,
+    words: &str,
+    script: &str,
+) -> Result<Written, AllocError> {
+    run_whole(rt, alloc, words, behind_topology(alloc, script.as_bytes())?)
 }
 
 /// Whether the words play the script so.
 fn is_played(
+    rt: &(impl Threads + Sync),
     alloc: Global,
     words: &str,
     script: &str,
@@ -22,18 +29,18 @@ fn is_played(
     text: &str,
 ) -> Result<bool, AllocError> {
     let text = in_full(alloc, text)?;
-    Ok(played(alloc, words, script)?.is(status, text.as_bytes()))
+    Ok(played(rt, alloc, words, script)?.is(status, text.as_bytes()))
 }
 
 #[test]
 fn a_reserve_makes_fifteen_events(rt: HostRuntime) -> Result<(), Fail> {
     let alloc = rt.alloc();
     let whole = format!(in alloc; "{RESERVED}settled 15\n")?;
-    let is_whole = is_played(alloc, "run", RESERVE, 0, whole.as_str())?;
+    let is_whole = is_played(&rt, alloc, "run", RESERVE, 0, whole.as_str())?;
     assert!(rt; is_whole);
-    let fits = is_played(alloc, "run --events 15", RESERVE, 0, whole.as_str())?;
+    let fits = is_played(&rt, alloc, "run --events 15", RESERVE, 0, whole.as_str())?;
     assert!(rt; fits);
-    let is_long = is_played(alloc, "run --events=14", RESERVE, 8, "fault long\n")?;
+    let is_long = is_played(&rt, alloc, "run --events=14", RESERVE, 8, "fault long\n")?;
     assert!(rt; is_long);
     Ok(())
 }
@@ -41,17 +48,17 @@ fn a_reserve_makes_fifteen_events(rt: HostRuntime) -> Result<(), Fail> {
 #[test]
 fn whole_groups_are_written(rt: HostRuntime) -> Result<(), Fail> {
     let alloc = rt.alloc();
-    let nothing = is_played(alloc, "run", "", 0, "settled 0\n")?;
+    let nothing = is_played(&rt, alloc, "run", "", 0, "settled 0\n")?;
     assert!(rt; nothing);
     let once = format!(in alloc; "{TICKED}settled 4\n")?;
-    let is_ticked = is_played(alloc, "run", "at 0\n", 0, once.as_str())?;
+    let is_ticked = is_played(&rt, alloc, "run", "at 0\n", 0, once.as_str())?;
     assert!(rt; is_ticked);
     let first = format!(in alloc; "{TICKED}fault long\n")?;
     for words in &["run --events 4", "run --events 5", "run --events 7"] {
-        let is_long = is_played(alloc, words, "at 0\nat 1\n", 8, first.as_str())?;
+        let is_long = is_played(&rt, alloc, words, "at 0\nat 1\n", 8, first.as_str())?;
         assert!(rt; is_long, "{words}");
     }
-    let twice = played(alloc, "run --events 8", "at 0\nat 1\n")?;
+    let twice = played(&rt, alloc, "run --events 8", "at 0\nat 1\n")?;
     assert!(rt; twice.status == 0 && twice.bytes.ends_with(b"sync r1 2\nsettled 8\n"));
     Ok(())
 }
@@ -61,10 +68,15 @@ fn the_first_fault_of_a_script_is_named(rt: HostRuntime) -> Result<(), Fail> {
     let alloc = rt.alloc();
     for (script, fault) in &FAULTS {
         let text = format!(in alloc; "fault script {fault}\n")?;
-        let is_named = is_played(alloc, "run", script, 6, text.as_str())?;
+        let is_named = is_played(&rt, alloc, "run", script, 6, text.as_str())?;
         assert!(rt; is_named, "{script}");
     }
-    let no_agent = run_whole(alloc, "run", Vec::from_slice(alloc, b"---\nat 5\nat 4\n")?)?;
+    let no_agent = run_whole(
+        &rt,
+        alloc,
+        "run",
+        Vec::from_slice(alloc, b"---\nat 5\nat 4\n")?,
+    )?;
     assert!(rt; no_agent.is(5, b"fault topology 1 Empty\n"));
     Ok(())
 }
@@ -85,7 +97,7 @@ fn lines_of(alloc: Global, text: &[u8], fronts: &[&[u8]]) -> Result<Vec<u8>, All
 fn asks_are_answered_by_what_is_known(rt: HostRuntime) -> Result<(), Fail> {
     let alloc = rt.alloc();
     let asked = in_full(alloc, ASKED)?;
-    let written = played(alloc, "run", ASKS)?;
+    let written = played(&rt, alloc, "run", ASKS)?;
     let lines = lines_of(alloc, written.bytes.as_slice(), &[b"ask "])?;
     assert!(rt; written.status == 0);
     assert!(rt; lines.as_slice() == asked.as_bytes());
@@ -103,10 +115,10 @@ fn with_ids(alloc: Global, text: &str) -> Result<String, AllocError> {
 }
 
 /// Whether the requesters take what they have to, and the run ends so.
-fn is_taken(alloc: Global, row: &Played) -> Result<bool, AllocError> {
+fn is_taken(rt: &(impl Threads + Sync), alloc: Global, row: &Played) -> Result<bool, AllocError> {
     let taken = with_ids(alloc, row.taken)?;
     let input = Vec::from_slice(alloc, row.input.as_bytes())?;
-    let written = run_whole(alloc, "run", input)?;
+    let written = run_whole(rt, alloc, "run", input)?;
     let text = written.bytes.as_slice();
     let lines = lines_of(alloc, text, &[b"got r", b"force "])?;
     Ok(
@@ -119,7 +131,7 @@ fn is_taken(alloc: Global, row: &Played) -> Result<bool, AllocError> {
 #[test]
 fn circuits_go_over_networks(rt: HostRuntime) -> Result<(), Fail> {
     for row in &[LACKING, WHOLE, WITHOUT_PATH, AT_ONCE, RANKED] {
-        let is_right = is_taken(rt.alloc(), row)?;
+        let is_right = is_taken(&rt, rt.alloc(), row)?;
         assert!(rt; is_right, "{}", row.settled);
     }
     Ok(())
@@ -129,8 +141,8 @@ fn circuits_go_over_networks(rt: HostRuntime) -> Result<(), Fail> {
 #[test]
 fn loads_are_played(rt: HostRuntime) -> Result<(), Fail> {
     let alloc = rt.alloc();
-    let load = run_whole(alloc, "generate --from 7 --size 20", Vec::new(alloc))?;
-    let played = run_whole(alloc, "run", load.bytes)?;
+    let load = run_whole(&rt, alloc, "generate --from 7 --size 20", Vec::new(alloc))?;
+    let played = run_whole(&rt, alloc, "run", load.bytes)?;
     let text = played.bytes.as_slice();
     let events = text
         .iter()
@@ -144,26 +156,31 @@ fn loads_are_played(rt: HostRuntime) -> Result<(), Fail> {
 }
 
 /// The reserve, where this read and this write fail; none is the number 0.
-fn interrupted(alloc: Global, read: u64, write: u64) -> Result<Written, AllocError> {
+fn interrupted(
+    rt: &(impl Threads + Sync),
+    alloc: Global,
+    read: u64,
+    write: u64,
+) -> Result<Written, AllocError> {
     let mut reads = Vec::new(alloc);
     reads.push(read)?;
     let mut writes = Vec::new(alloc);
     writes.push(write)?;
     let input = behind_topology(alloc, RESERVE.as_bytes())?;
-    run(alloc, "run", input, Failing { reads, writes })
+    run(rt, alloc, "run", input, Failing { reads, writes })
 }
 
 #[test]
 fn faults_from_outside_end_a_run(rt: HostRuntime) -> Result<(), Fail> {
     let alloc = rt.alloc();
     for read in 1..3 {
-        let ended = interrupted(alloc, read, 0)?;
+        let ended = interrupted(&rt, alloc, read, 0)?;
         assert!(rt; ended.is(2, b"fault read\n"), "{read}");
     }
-    let unwritten = interrupted(alloc, 0, 1)?;
+    let unwritten = interrupted(&rt, alloc, 0, 1)?;
     assert!(rt; unwritten.is(3, b""));
     let events = in_full(alloc, RESERVED)?;
-    let behind = interrupted(alloc, 0, 2)?;
+    let behind = interrupted(&rt, alloc, 0, 2)?;
     assert!(rt; behind.status == 3);
     assert!(rt; events.as_bytes().starts_with(behind.bytes.as_slice()));
     Ok(())
@@ -176,7 +193,7 @@ fn every_front_of_an_input_is_answered(rt: HostRuntime) -> Result<(), Fail> {
     let whole = format!(in alloc; "{TOPOLOGY}{RESERVE}")?;
     let bytes = whole.as_bytes();
     for length in 0..bytes.len() {
-        let written = run_whole(alloc, "run", Vec::from_slice(alloc, &bytes[..length])?)?;
+        let written = run_whole(&rt, alloc, "run", Vec::from_slice(alloc, &bytes[..length])?)?;
         let text = written.bytes.as_slice();
         let status = written.status;
         let is_told = match status {

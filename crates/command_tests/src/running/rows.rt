@@ -4,11 +4,12 @@ use super::{TOPOLOGY, behind_topology, in_full, is_answered, provide};
 use crate::tables::rows::{ANSWER, RESERVE, ROWS};
 use std::alloc::{AllocError, Global};
 use std::test::Fail;
+use std::thread::Threads;
 
 #[test]
 fn rows_are_answered(rt: HostRuntime) -> Result<(), Fail> {
     for (what, lines, written) in &ROWS {
-        let is_right = is_answered(rt.alloc(), lines, written)?;
+        let is_right = is_answered(&rt, rt.alloc(), lines, written)?;
         assert!(rt; is_right, "{what}");
     }
     Ok(())
@@ -17,18 +18,24 @@ fn rows_are_answered(rt: HostRuntime) -> Result<(), Fail> {
 /// The reserve in a text, with ends of lines of all kinds.
 const ENDS: [(&str, &str); 3] = [("", ""), ("\r\n", "\r\n"), ("\r\n\r\n", "")];
 
-fn is_answered_between(alloc: Global, front: &str, end: &str) -> Result<bool, AllocError> {
+fn is_answered_between(
+    rt: &(impl Threads + Sync),
+    alloc: Global,
+    front: &str,
+    end: &str,
+) -> Result<bool, AllocError> {
     let line = format!(in alloc; "{front}{RESERVE}{end}")?;
-    is_answered(alloc, line.as_str(), ANSWER)
+    is_answered(rt, alloc, line.as_str(), ANSWER)
 }
 
 #[test]
 fn ends_of_lines_are_read(rt: HostRuntime) -> Result<(), Fail> {
     for (front, end) in &ENDS {
-        let is_right = is_answered_between(rt.alloc(), front, end)?;
+        let is_right = is_answered_between(&rt, rt.alloc(), front, end)?;
         assert!(rt; is_right, "{front:?} {end:?}");
     }
     let alone = is_answered(
+        &rt,
         rt.alloc(),
         "\r",
         "{\"errorId\":\"PAYLOAD\",\"fault\":\"NotJson\",\"kind\":\"error\",\"line\":6}\n",
@@ -38,17 +45,17 @@ fn ends_of_lines_are_read(rt: HostRuntime) -> Result<(), Fail> {
 }
 
 /// The whole input, in which each line ends with a carriage return and a line feed.
-fn is_answered_with_returns(alloc: Global) -> Result<bool, AllocError> {
+fn is_answered_with_returns(rt: &(impl Threads + Sync), alloc: Global) -> Result<bool, AllocError> {
     let lines = in_full(alloc, RESERVE)?;
     let text = format!(in alloc; "{TOPOLOGY}{lines}\n")?;
     let input = text.replace(alloc, "\n", "\r\n")?;
     let written = in_full(alloc, ANSWER)?;
-    Ok(provide(alloc, input.into_bytes())?.is(0, written.as_bytes()))
+    Ok(provide(rt, alloc, input.into_bytes())?.is(0, written.as_bytes()))
 }
 
 #[test]
 fn carriage_returns_are_dropped(rt: HostRuntime) -> Result<(), Fail> {
-    let is_right = is_answered_with_returns(rt.alloc())?;
+    let is_right = is_answered_with_returns(&rt, rt.alloc())?;
     assert!(rt; is_right);
     Ok(())
 }
@@ -62,10 +69,15 @@ fn without_last_line(text: &str) -> &str {
 }
 
 /// Whether the input cut there is answered as the whole is, up to the line that was cut.
-fn is_front(alloc: Global, input: &[u8], whole: &[u8]) -> Result<bool, AllocError> {
+fn is_front(
+    rt: &(impl Threads + Sync),
+    alloc: Global,
+    input: &[u8],
+    whole: &[u8],
+) -> Result<bool, AllocError> {
     let mut cut = Vec::new(alloc);
     cut.extend_from_slice(input)?;
-    let written = provide(alloc, cut)?;
+    let written = provide(rt, alloc, cut)?;
     let Ok(text) = str::from_utf8(&written.bytes) else {
         return Ok(false);
     };
@@ -86,7 +98,7 @@ fn a_cut_input_is_answered_up_to_there(rt: HostRuntime) -> Result<(), Fail> {
     let (_, _, written) = ROWS[1];
     let whole = in_full(rt.alloc(), written)?;
     for place in 0..input.len() {
-        let is_right = is_front(rt.alloc(), &input[..place], whole.as_bytes())?;
+        let is_right = is_front(&rt, rt.alloc(), &input[..place], whole.as_bytes())?;
         assert!(rt; is_right, "{place}");
     }
     Ok(())

@@ -7,33 +7,28 @@ use Rattle.nsi_play.specs.Rounds.{Net, round, events_of, all_quiet}
 use Rattle.quiet_rounds.specs.Left.{left}
 use Rattle.agent_threads.specs.Nets.{seats, AtHomes}
 use Rattle.agent_threads.specs.Coming.{IsSettledBy}
-use Rattle.agent_threads.proofs.Same.{all_same, still_of, same_twice, same_agents, same_agents_twice}
+use Rattle.agent_threads.proofs.Same.{still_of, same_agents, same_agents_twice}
 use Rattle.agent_threads.proofs.Coming.{settled_none, settled_more}
 use Rattle.agent_threads.proofs.Causes.{same_error}
-use Rattle.agent_threads.proofs.Growing.{more_none, more_then}
+use Rattle.agent_threads.proofs.Leaves.{leaves_none, leaves_then}
 use Rattle.agent_threads.proofs.Bounding.{settled_bounded, falls_told}
-use Rattle.agent_threads.proofs.Going.{anyhow, still_one, room_after, go_none, go_then, go_count}
+use Rattle.agent_threads.proofs.Going.{anyhow, still_one, room_after, go_count}
 use Rattle.agent_threads.proofs.group.advance.Goals as goal
 
 pub loop-alloc-init : goal.loop-alloc-init
 loop-alloc-init g c = record {
   way = λ t o routes r. ([], sym (append-nil c.args.events.now.items), settled_none (home_in t routes) (seats c.args.nodes.now.items));
-  net = c.requires.net;
-  same = all_same c.args.nodes.now.items;
-  told = c.requires.told;
-  taken = more_none c.args.nodes.now.items c.args.events.now.items;
-  further = go_none 0 c.args.nodes.now.items c.args.events.now.items;
-  printable = c.requires.printable;
+  leaves = leaves_none 0 c.args.nodes.now.items c.args.events.now.items c.requires.net c.requires.told c.requires.printable;
   within = c.requires.within;
 }
 
 pub step-requires-clause-one : goal.step-requires-clause-one
-step-requires-clause-one g c = still_one c.args.nodes.now.items c.loop-alloc.nodes.items c.loop-alloc.invariant.same c.requires.one
+step-requires-clause-one g c κs within = still_one c.args.nodes.now.items c.loop-alloc.nodes.items c.loop-alloc.invariant.leaves.same c.requires.one
 
 pub step-requires-clause-few : goal.step-requires-clause-few
-step-requires-clause-few g c =
+step-requires-clause-few g c κs within =
     let l = c.loop-alloc in
-    let f = l.invariant.further in
+    let f = l.invariant.leaves.further in
     let count = go_count 0 c.args.nodes.now.items l.nodes.items c.args.events.now.items l.events.items f in
     room_after 0 (c.args.room - length c.args.events.now.items) (c.args.room - length l.events.items) (length f.own) c.args.nodes.now.items l.nodes.items
     (omega (arith, count, l.invariant.within)) f.each c.requires.few
@@ -42,7 +37,7 @@ pub returns-in_err-step-clause-long : goal.returns-in_err-step-clause-long
 returns-in_err-step-clause-long g c = λ t o routes r h.
     let l = c.loop-alloc in
     let w = l.invariant.way t o routes r in
-    let now = still_of t c.args.nodes.now.items l.nodes.items l.invariant.same o in
+    let now = still_of t c.args.nodes.now.items l.nodes.items l.invariant.leaves.same o in
     let q : AtHomes l.nodes.items (λ homes. c.settled.result ≡ all_quiet homes (seats l.nodes.items)) =
     subst (λ (ks : List Kept). AtHomes ks (λ homes. c.settled.result ≡ all_quiet homes (seats ks))) c.deref.ensures.value c.settled.ensures in
     let p = err_from_is_err_and c.from_residual.result c.from_residual.ensures.1 in
@@ -50,7 +45,7 @@ returns-in_err-step-clause-long g c = λ t o routes r h.
     (w.0, seats l.nodes.items, w.2, sym (q t now routes r) ∙ c.loop-alloc-test.true, omega (arith, long, ap length w.1, length-append c.args.events.now.items w.0))
 
 pub returns-in_err-step-clause-agents : goal.returns-in_err-step-clause-agents
-returns-in_err-step-clause-agents g c = same_agents_twice c.args.nodes.now.items c.loop-alloc.nodes.items c.step.new.nodes.items (same_agents c.args.nodes.now.items c.loop-alloc.nodes.items c.loop-alloc.invariant.same) c.in_err-step.ensures.agents
+returns-in_err-step-clause-agents g c = same_agents_twice c.args.nodes.now.items c.loop-alloc.nodes.items c.step.new.nodes.items (same_agents c.args.nodes.now.items c.loop-alloc.nodes.items c.loop-alloc.invariant.leaves.same) c.in_err-step.ensures.agents
 
 pub returns-then-len-before-clause-ok : goal.returns-then-len-before-clause-ok
 returns-then-len-before-clause-ok g c = λ t o routes r.
@@ -58,7 +53,7 @@ returns-then-len-before-clause-ok g c = λ t o routes r.
     let q : AtHomes l.nodes.items (λ homes. c.settled.result ≡ all_quiet homes (seats l.nodes.items)) =
     subst (λ (ks : List Kept). AtHomes ks (λ homes. c.settled.result ≡ all_quiet homes (seats ks))) c.deref.ensures.value c.settled.ensures in
     let w = l.invariant.way t o routes r in
-    let now = still_of t c.args.nodes.now.items l.nodes.items l.invariant.same o in
+    let now = still_of t c.args.nodes.now.items l.nodes.items l.invariant.leaves.same o in
     let s = c.in_ok-step.ensures.ok t now routes r in
     let noisy : all_quiet (home_in t routes) (seats l.nodes.items) ≡ false = sym (q t now routes r) ∙ c.loop-alloc-test.true in
     let more : List Event = events_of (round (home_in t routes) (seats l.nodes.items)) in (
@@ -68,29 +63,20 @@ returns-then-len-before-clause-ok g c = λ t o routes r.
       (λ q. cc),
     )
 
-pub returns-then-len-before-clause-same : goal.returns-then-len-before-clause-same
-returns-then-len-before-clause-same g c = same_twice c.args.nodes.now.items c.loop-alloc.nodes.items c.step.new.nodes.items c.loop-alloc.invariant.same c.in_ok-step.ensures.same
-
 pub returns-then-len-before-clause-agents : goal.returns-then-len-before-clause-agents
-returns-then-len-before-clause-agents g c = same_agents_twice c.args.nodes.now.items c.loop-alloc.nodes.items c.step.new.nodes.items (same_agents c.args.nodes.now.items c.loop-alloc.nodes.items c.loop-alloc.invariant.same) c.in_ok-step.ensures.agents
-
-pub returns-then-len-before-clause-taken : goal.returns-then-len-before-clause-taken
-returns-then-len-before-clause-taken g c = more_then c.args.nodes.now.items c.loop-alloc.nodes.items c.step.new.nodes.items c.args.events.now.items c.loop-alloc.events.items c.step.new.events.items c.loop-alloc.invariant.same c.loop-alloc.invariant.told c.loop-alloc.invariant.taken c.in_ok-step.ensures.taken
-
-pub returns-then-len-before-clause-further : goal.returns-then-len-before-clause-further
-returns-then-len-before-clause-further g c = go_then 0 c.args.nodes.now.items c.loop-alloc.nodes.items c.step.new.nodes.items c.args.events.now.items c.loop-alloc.events.items c.step.new.events.items c.loop-alloc.invariant.same c.loop-alloc.invariant.further c.in_ok-step.ensures.further
+returns-then-len-before-clause-agents g c = same_agents_twice c.args.nodes.now.items c.loop-alloc.nodes.items c.step.new.nodes.items (same_agents c.args.nodes.now.items c.loop-alloc.nodes.items c.loop-alloc.invariant.leaves.same) c.in_ok-step.ensures.agents
 
 pub loop-alloc-smaller : goal.loop-alloc-smaller
 loop-alloc-smaller g c =
     let l = c.loop-alloc in
     let olds = c.args.nodes.now.items in
-    let one = still_one olds l.nodes.items l.invariant.same c.requires.one in
+    let one = still_one olds l.nodes.items l.invariant.leaves.same c.requires.one in
     let q : AtHomes l.nodes.items (λ homes. c.settled.result ≡ all_quiet homes (seats l.nodes.items)) =
     subst (λ (ks : List Kept). AtHomes ks (λ homes. c.settled.result ≡ all_quiet homes (seats ks))) c.deref.ensures.value c.settled.ensures in
     let less : left (seats c.step.new.nodes.items) < left (seats l.nodes.items) =
     anyhow c.routes_exist.ensures.exist olds (left (seats c.step.new.nodes.items) < left (seats l.nodes.items)) c.requires.one
     (λ t o routes r.
-    let now = still_of t olds l.nodes.items l.invariant.same o in
+    let now = still_of t olds l.nodes.items l.invariant.leaves.same o in
     let w = l.invariant.way t o routes r in
     let s = c.in_ok-step.ensures.ok t now routes r in
     let noisy : all_quiet (home_in t routes) (seats l.nodes.items) ≡ false = sym (q t now routes r) ∙ c.loop-alloc-test.true in
@@ -108,7 +94,7 @@ loop-alloc-preserved g c = record {
       let q : AtHomes l.nodes.items (λ homes. c.settled.result ≡ all_quiet homes (seats l.nodes.items)) =
       subst (λ (ks : List Kept). AtHomes ks (λ homes. c.settled.result ≡ all_quiet homes (seats ks))) c.deref.ensures.value c.settled.ensures in
       let w = l.invariant.way t o routes r in
-      let now = still_of t c.args.nodes.now.items l.nodes.items l.invariant.same o in
+      let now = still_of t c.args.nodes.now.items l.nodes.items l.invariant.leaves.same o in
       let s = c.in_ok-step.ensures.ok t now routes r in
       let noisy : all_quiet (home_in t routes) (seats l.nodes.items) ≡ false = sym (q t now routes r) ∙ c.loop-alloc-test.true in
       let more : List Event = events_of (round (home_in t routes) (seats l.nodes.items)) in (
@@ -116,12 +102,7 @@ loop-alloc-preserved g c = record {
         s.told ∙ (ap (λ es. es ++ more) w.1 ∙ append_assoc c.args.events.now.items w.0 more),
         subst (λ (y : Net). IsSettledBy (home_in t routes) (seats c.args.nodes.now.items) (w.0 ++ more) y) (sym s.rest) (settled_more (home_in t routes) (seats c.args.nodes.now.items) w.0 (seats l.nodes.items) w.2 noisy),
       );
-  net = c.in_ok-step.ensures.net;
-  same = same_twice c.args.nodes.now.items c.loop-alloc.nodes.items c.step.new.nodes.items c.loop-alloc.invariant.same c.in_ok-step.ensures.same;
-  told = c.in_ok-step.ensures.told;
-  taken = more_then c.args.nodes.now.items c.loop-alloc.nodes.items c.step.new.nodes.items c.args.events.now.items c.loop-alloc.events.items c.step.new.events.items c.loop-alloc.invariant.same c.loop-alloc.invariant.told c.loop-alloc.invariant.taken c.in_ok-step.ensures.taken;
-  further = go_then 0 c.args.nodes.now.items c.loop-alloc.nodes.items c.step.new.nodes.items c.args.events.now.items c.loop-alloc.events.items c.step.new.events.items c.loop-alloc.invariant.same c.loop-alloc.invariant.further c.in_ok-step.ensures.further;
-  printable = c.in_ok-step.ensures.printable;
+  leaves = leaves_then 0 c.args.nodes.now.items c.loop-alloc.nodes.items c.step.new.nodes.items c.args.events.now.items c.loop-alloc.events.items c.step.new.events.items c.loop-alloc.invariant.leaves c.in_ok-step.ensures.leaves;
   within = c.in_ok-step.ensures.within;
 }
 
@@ -131,7 +112,10 @@ returns-clause-ok g c = λ t o routes r.
     let w = l.invariant.way t o routes r in
     let q : AtHomes l.nodes.items (λ homes. c.settled.result ≡ all_quiet homes (seats l.nodes.items)) =
     subst (λ (ks : List Kept). AtHomes ks (λ homes. c.settled.result ≡ all_quiet homes (seats ks))) c.deref.ensures.value c.settled.ensures in
-    (w.0, w.1, w.2, λ e. sym (q t (still_of t c.args.nodes.now.items l.nodes.items l.invariant.same o) routes r) ∙ c.loop-alloc-test.false)
+    (w.0, w.1, w.2, λ e. sym (q t (still_of t c.args.nodes.now.items l.nodes.items l.invariant.leaves.same o) routes r) ∙ c.loop-alloc-test.false)
 
 pub returns-clause-agents : goal.returns-clause-agents
-returns-clause-agents g c = same_agents c.args.nodes.now.items c.loop-alloc.nodes.items c.loop-alloc.invariant.same
+returns-clause-agents g c = same_agents c.args.nodes.now.items c.loop-alloc.nodes.items c.loop-alloc.invariant.leaves.same
+
+pub returns-then-len-before-clause-leaves : goal.returns-then-len-before-clause-leaves
+returns-then-len-before-clause-leaves g c = leaves_then 0 c.args.nodes.now.items c.loop-alloc.nodes.items c.step.new.nodes.items c.args.events.now.items c.loop-alloc.events.items c.step.new.events.items c.loop-alloc.invariant.leaves c.in_ok-step.ensures.leaves

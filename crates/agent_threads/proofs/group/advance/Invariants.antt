@@ -1,13 +1,9 @@
-use Rattle.std.proofs.Common.{◌≡◌, ◌≤◌, ◌++◌, [], List, length}
-use Rattle.std.specs.List.{All}
-use Rattle.nsi_primitive.specs.Printable.{IsPrintableEvent}
+use Rattle.std.proofs.Common.{◌≡◌, ◌≤◌, ◌++◌, List, length}
 use Rattle.nsi_primitive.specs.declared.entry.Event.{Event}
-use Rattle.nsi_play.specs.Rounds.{events_of}
 use Rattle.quiet_rounds.specs.Left.{left}
-use Rattle.agent_threads.specs.Nets.{seats, AtHomes, AreNet, AreSame}
+use Rattle.agent_threads.specs.Nets.{seats, AtHomes}
 use Rattle.agent_threads.specs.Coming.{IsSettledBy}
-use Rattle.agent_threads.specs.Journals.{TakeMore}
-use Rattle.agent_threads.specs.Bounds.{GoOn}
+use Rattle.agent_threads.specs.Leaving.{LeavesNet}
 use Rattle.agent_threads.proofs.group.advance.Given as goal
 
 abbrev pub decreases-loop-alloc : goal.decreases-loop-alloc
@@ -16,11 +12,6 @@ decreases-loop-alloc g l = left (seats l.nodes.items)
 abbrev pub invariant-loop-alloc : goal.invariant-loop-alloc
 invariant-loop-alloc g l = record {
   way : AtHomes l.fn.nodes.items (λ homes. (own : List Event) × (l.events.items ≡ l.fn.events.items ++ own) × IsSettledBy homes (seats l.fn.nodes.items) own (seats l.nodes.items));
-  net : AreNet l.nodes.items;
-  same : AreSame l.fn.nodes.items l.nodes.items;
-  told : events_of (seats l.nodes.items) ≡ [];
-  taken : TakeMore l.fn.nodes.items l.nodes.items l.fn.events.items l.events.items;
-  further : GoOn 0 l.fn.nodes.items l.nodes.items l.fn.events.items l.events.items;
-  printable : All IsPrintableEvent l.events.items;
+  leaves : LeavesNet 0 l.fn.nodes.items l.nodes.items l.fn.events.items l.events.items;
   within : length l.events.items ≤ l.room;
 }

@@ -6,11 +6,11 @@ use Rattle.nsi_play.specs.Play.{behind, acts, asks_in, acted, ticked_in}
 use Rattle.agent_threads.specs.Nets.{seats}
 use Rattle.agent_threads.specs.Coming.{IsTold}
 use Rattle.agent_threads.specs.Promise.{CanBeDone}
-use Rattle.agent_threads.proofs.Same.{still_of, same_twice, same_agents, same_agents_twice}
+use Rattle.agent_threads.proofs.Same.{still_of, same_agents, same_agents_twice}
 use Rattle.agent_threads.proofs.Coming.{acts_first, acts_next, acts_end, asks_next, asks_end}
 use Rattle.agent_threads.proofs.Told.{act_at}
-use Rattle.agent_threads.proofs.Growing.{more_then}
-use Rattle.agent_threads.proofs.Going.{room_less, room_after, go_then, go_count}
+use Rattle.agent_threads.proofs.Leaves.{leaves_then}
+use Rattle.agent_threads.proofs.Going.{room_less, room_after, go_count}
 use Rattle.agent_threads.proofs.group.begin.Goals as goal
 
 pub tick-requires-clause-one : goal.tick-requires-clause-one
@@ -27,12 +27,7 @@ loop-action-init g c = record {
       acts_first (home_in t routes) c.tick.new.events.items c.args.group.now c.args.number (seats c.args.nodes.now.items) (seats c.tick.new.nodes.items)
       (subst (λ (es : List Event). IsTold (map (ticked_in c.args.group.now.at (home_in t routes)) (seats c.args.nodes.now.items)) es c.tick.new.events.items (seats c.tick.new.nodes.items)) c.requires.none (c.in_ok-tick.ensures.ok t o routes r));
   asks = refl;
-  net = c.in_ok-tick.ensures.net;
-  same = c.in_ok-tick.ensures.same;
-  told = c.in_ok-tick.ensures.told;
-  taken = c.in_ok-tick.ensures.taken;
-  further = c.in_ok-tick.ensures.further;
-  printable = c.in_ok-tick.ensures.printable;
+  leaves = c.in_ok-tick.ensures.leaves;
 }
 
 pub act-requires-clause-can : goal.act-requires-clause-can
@@ -45,7 +40,7 @@ act-requires-clause-can g c =
     let is : get_or todo l.action-index c.action-item.result ≡ c.action-item.result = sym (c.action-item.is ∙ ap (λ (xs : List Act). get_or xs l.action-index c.action-item.result) c.items-action-items.ensures) in
     record {
       network = can.network;
-      of = still_of can.network c.args.nodes.now.items l.nodes.items l.invariant.same can.of;
+      of = still_of can.network c.args.nodes.now.items l.nodes.items l.invariant.leaves.same can.of;
       can = subst (λ (a : Act). CanBeDone can.network a) is one;
     }
 
@@ -61,7 +56,7 @@ next_ask-later-requires g c =
 pub act-requires-clause-few : goal.act-requires-clause-few
 act-requires-clause-few g c =
     let l = c.loop-action in
-    let f = l.invariant.further in
+    let f = l.invariant.leaves.further in
     let count = go_count c.args.group.now.at c.args.nodes.now.items l.nodes.items c.args.events.now.items l.events.items f in
     room_after c.args.group.now.at (c.args.room + 1) 1 (length f.own) c.args.nodes.now.items l.nodes.items
     (omega (arith, count, ap length c.requires.none, c.if-len-room.false)) f.each c.requires.few
@@ -76,18 +71,13 @@ loop-action-preserved g c =
     let later = c.next_ask-later.ensures ∙ ap (λ (a : Act). l.next + asks_in a) is in
     record {
       way = λ t o routes r.
-          let now = still_of t c.args.nodes.now.items l.nodes.items l.invariant.same o in
+          let now = still_of t c.args.nodes.now.items l.nodes.items l.invariant.leaves.same o in
           let one = subst (λ (a : Act). IsTold (acted a l.next (home_in t routes) (seats l.nodes.items)) l.events.items c.act.new.events.items (seats c.act.new.nodes.items)) is (c.in_ok-act.ensures.ok t now routes r) in
           ap (λ n. behind c.act.new.events.items (acts (drop (l.action-index + 1) todo) n (home_in t routes) (seats c.act.new.nodes.items))) later
           ∙ (acts_next (home_in t routes) l.events.items c.act.new.events.items todo l.action-index l.next d (seats l.nodes.items) (seats c.act.new.nodes.items) here one
           ∙ l.invariant.way t o routes r);
       asks = omega (arith, later, asks_next todo l.action-index d here, l.invariant.asks);
-      net = c.in_ok-act.ensures.net;
-      same = same_twice c.args.nodes.now.items l.nodes.items c.act.new.nodes.items l.invariant.same c.in_ok-act.ensures.same;
-      told = c.in_ok-act.ensures.told;
-      taken = more_then c.args.nodes.now.items l.nodes.items c.act.new.nodes.items c.args.events.now.items l.events.items c.act.new.events.items l.invariant.same l.invariant.told l.invariant.taken c.in_ok-act.ensures.taken;
-      further = go_then c.args.group.now.at c.args.nodes.now.items l.nodes.items c.act.new.nodes.items c.args.events.now.items l.events.items c.act.new.events.items l.invariant.same l.invariant.further c.in_ok-act.ensures.further;
-      printable = c.in_ok-act.ensures.printable;
+      leaves = leaves_then c.args.group.now.at c.args.nodes.now.items l.nodes.items c.act.new.nodes.items c.args.events.now.items l.events.items c.act.new.events.items l.invariant.leaves c.in_ok-act.ensures.leaves;
     }
 
 pub returns-clause-ok : goal.returns-clause-ok
@@ -102,13 +92,13 @@ returns-clause-next g c =
     omega (arith, l.invariant.asks, asks_end c.args.group.now.acts l.action-index (omega (arith, c.loop-action-test.false, ap length c.items-action-items.ensures)))
 
 pub returns-then-len-room-clause-agents : goal.returns-then-len-room-clause-agents
-returns-then-len-room-clause-agents g c = same_agents c.args.nodes.now.items c.loop-action.nodes.items c.loop-action.invariant.same
+returns-then-len-room-clause-agents g c = same_agents c.args.nodes.now.items c.loop-action.nodes.items c.loop-action.invariant.leaves.same
 
 pub returns-then-len-room-2-clause-agents : goal.returns-then-len-room-2-clause-agents
-returns-then-len-room-2-clause-agents g c = same_agents c.args.nodes.now.items c.loop-action.nodes.items c.loop-action.invariant.same
+returns-then-len-room-2-clause-agents g c = same_agents c.args.nodes.now.items c.loop-action.nodes.items c.loop-action.invariant.leaves.same
 
 pub returns-clause-agents : goal.returns-clause-agents
-returns-clause-agents g c = same_agents c.args.nodes.now.items c.loop-action.nodes.items c.loop-action.invariant.same
+returns-clause-agents g c = same_agents c.args.nodes.now.items c.loop-action.nodes.items c.loop-action.invariant.leaves.same
 
 pub returns-in_err-act-clause-agents : goal.returns-in_err-act-clause-agents
-returns-in_err-act-clause-agents g c = same_agents_twice c.args.nodes.now.items c.loop-action.nodes.items c.act.new.nodes.items (same_agents c.args.nodes.now.items c.loop-action.nodes.items c.loop-action.invariant.same) c.in_err-act.ensures.agents
+returns-in_err-act-clause-agents g c = same_agents_twice c.args.nodes.now.items c.loop-action.nodes.items c.act.new.nodes.items (same_agents c.args.nodes.now.items c.loop-action.nodes.items c.loop-action.invariant.leaves.same) c.in_err-act.ensures.agents

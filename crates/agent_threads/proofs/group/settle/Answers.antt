@@ -3,28 +3,23 @@ use Rattle.std.proofs.lemmas.Result.{err_from_is_err_and}
 use Rattle.nsi_agent.specs.Homes.{home_in}
 use Rattle.quiet_rounds.specs.Bounded.{IsBounded}
 use Rattle.agent_threads.specs.Nets.{seats}
-use Rattle.agent_threads.proofs.Same.{all_same, still_of, same_twice, same_agents, same_agents_twice}
+use Rattle.agent_threads.proofs.Same.{still_of, same_agents, same_agents_twice}
 use Rattle.agent_threads.proofs.Coming.{settled_none, settled_then, settled_overruns}
 use Rattle.agent_threads.proofs.Causes.{same_error}
-use Rattle.agent_threads.proofs.Growing.{more_none, more_then}
+use Rattle.agent_threads.proofs.Leaves.{leaves_none, leaves_then}
 use Rattle.agent_threads.proofs.Bounding.{settled_bounded}
-use Rattle.agent_threads.proofs.Going.{anyhow, still_one, room_after, go_none, go_then, go_count}
+use Rattle.agent_threads.proofs.Going.{anyhow, still_one, room_after, go_count}
 use Rattle.agent_threads.proofs.group.settle.Goals as goal
 
 pub loop-quiet-init : goal.loop-quiet-init
 loop-quiet-init g c = record {
   way = λ t o routes r. ([], sym (append-nil c.args.events.now.items), settled_none (home_in t routes) (seats c.args.nodes.now.items), λ q. cc);
-  net = c.requires.net;
-  same = all_same c.args.nodes.now.items;
-  told = c.requires.told;
-  taken = more_none c.args.nodes.now.items c.args.events.now.items;
-  further = go_none 0 c.args.nodes.now.items c.args.events.now.items;
-  printable = c.requires.printable;
+  leaves = leaves_none 0 c.args.nodes.now.items c.args.events.now.items c.requires.net c.requires.told c.requires.printable;
   within = c.requires.within;
 }
 
 pub advance-requires-clause-bounded : goal.advance-requires-clause-bounded
-advance-requires-clause-bounded g c =
+advance-requires-clause-bounded g c κs within =
     let l = c.loop-quiet in
     let olds = c.args.nodes.now.items in
     anyhow c.routes_exist.ensures.exist olds (IsBounded (seats l.nodes.items)) c.requires.one
@@ -33,12 +28,12 @@ advance-requires-clause-bounded g c =
     settled_bounded c.nets_are_bounded.ensures.plays (home_in t routes) (seats olds) w.0 (seats l.nodes.items) w.2 c.requires.bounded)
 
 pub advance-requires-clause-one : goal.advance-requires-clause-one
-advance-requires-clause-one g c = still_one c.args.nodes.now.items c.loop-quiet.nodes.items c.loop-quiet.invariant.same c.requires.one
+advance-requires-clause-one g c κs within = still_one c.args.nodes.now.items c.loop-quiet.nodes.items c.loop-quiet.invariant.leaves.same c.requires.one
 
 pub advance-requires-clause-few : goal.advance-requires-clause-few
-advance-requires-clause-few g c =
+advance-requires-clause-few g c κs within =
     let l = c.loop-quiet in
-    let f = l.invariant.further in
+    let f = l.invariant.leaves.further in
     let count = go_count 0 c.args.nodes.now.items l.nodes.items c.args.events.now.items l.events.items f in
     room_after 0 (c.args.room - length c.args.events.now.items) (c.args.room - length l.events.items) (length f.own) c.args.nodes.now.items l.nodes.items
     (omega (arith, count, l.invariant.within)) f.each c.requires.few
@@ -47,14 +42,14 @@ pub returns-in_err-quiet-clause-long : goal.returns-in_err-quiet-clause-long
 returns-in_err-quiet-clause-long g c = λ t o routes r h.
     let l = c.loop-quiet in
     let w = l.invariant.way t o routes r in
-    let now = still_of t c.args.nodes.now.items l.nodes.items l.invariant.same o in
+    let now = still_of t c.args.nodes.now.items l.nodes.items l.invariant.leaves.same o in
     let p = err_from_is_err_and c.from_residual.result c.from_residual.ensures.1 in
     let long = c.in_err-quiet.ensures.long t now routes r (ap (λ e. Err e) (same_error c.from_residual.result p.0 c.in_err-quiet.field-0.0 _ p.1 p.2 h)) in
     settled_overruns (home_in t routes) (seats c.args.nodes.now.items) w.0 (seats l.nodes.items) (length c.args.events.now.items) (length l.events.items) c.args.room w.2
     (ap length w.1 ∙ length-append c.args.events.now.items w.0) long
 
 pub returns-in_err-quiet-clause-agents : goal.returns-in_err-quiet-clause-agents
-returns-in_err-quiet-clause-agents g c = same_agents_twice c.args.nodes.now.items c.loop-quiet.nodes.items c.advance.new.nodes.items (same_agents c.args.nodes.now.items c.loop-quiet.nodes.items c.loop-quiet.invariant.same) c.in_err-quiet.ensures.agents
+returns-in_err-quiet-clause-agents g c = same_agents_twice c.args.nodes.now.items c.loop-quiet.nodes.items c.advance.new.nodes.items (same_agents c.args.nodes.now.items c.loop-quiet.nodes.items c.loop-quiet.invariant.leaves.same) c.in_err-quiet.ensures.agents
 
 pub loop-quiet-preserved : goal.loop-quiet-preserved
 loop-quiet-preserved g c =
@@ -65,18 +60,13 @@ loop-quiet-preserved g c =
     record {
       way = λ t o routes r.
           let w = l.invariant.way t o routes r in
-          let s = c.in_ok-quiet.ensures.ok t (still_of t olds mids l.invariant.same o) routes r in (
+          let s = c.in_ok-quiet.ensures.ok t (still_of t olds mids l.invariant.leaves.same o) routes r in (
             w.0 ++ s.0,
             s.1 ∙ (ap (λ es. es ++ s.0) w.1 ∙ append_assoc c.args.events.now.items w.0 s.0),
             settled_then (home_in t routes) (seats olds) w.0 (seats mids) s.0 (seats news) w.2 s.2,
             s.3,
           );
-      net = c.in_ok-quiet.ensures.net;
-      same = same_twice olds mids news l.invariant.same c.in_ok-quiet.ensures.same;
-      told = c.in_ok-quiet.ensures.told;
-      taken = more_then olds mids news c.args.events.now.items l.events.items c.advance.new.events.items l.invariant.same l.invariant.told l.invariant.taken c.in_ok-quiet.ensures.taken;
-      further = go_then 0 olds mids news c.args.events.now.items l.events.items c.advance.new.events.items l.invariant.same l.invariant.further c.in_ok-quiet.ensures.further;
-      printable = c.in_ok-quiet.ensures.printable;
+      leaves = leaves_then 0 c.args.nodes.now.items c.loop-quiet.nodes.items c.advance.new.nodes.items c.args.events.now.items c.loop-quiet.events.items c.advance.new.events.items c.loop-quiet.invariant.leaves c.in_ok-quiet.ensures.leaves;
       within = c.in_ok-quiet.ensures.within;
     }
 
@@ -86,4 +76,4 @@ returns-clause-ok g c = λ t o routes r.
     (w.0, w.1, w.2, w.3 c.loop-quiet-test.false)
 
 pub returns-clause-agents : goal.returns-clause-agents
-returns-clause-agents g c = same_agents c.args.nodes.now.items c.loop-quiet.nodes.items c.loop-quiet.invariant.same
+returns-clause-agents g c = same_agents c.args.nodes.now.items c.loop-quiet.nodes.items c.loop-quiet.invariant.leaves.same

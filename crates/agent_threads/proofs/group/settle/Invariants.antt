@@ -1,12 +1,9 @@
-use Rattle.std.proofs.Common.{◌≡◌, ◌≤◌, ◌+◌, ◌*◌, ◌-◌, ◌++◌, true, [], List, length, if◌then◌else◌}
-use Rattle.std.specs.List.{All}
-use Rattle.nsi_primitive.specs.Printable.{IsPrintableEvent}
+use Rattle.std.proofs.Common.{◌≡◌, ◌≤◌, ◌+◌, ◌*◌, ◌-◌, ◌++◌, true, List, length, if◌then◌else◌}
 use Rattle.nsi_primitive.specs.declared.entry.Event.{Event}
-use Rattle.nsi_play.specs.Rounds.{events_of, all_quiet}
-use Rattle.agent_threads.specs.Nets.{seats, AtHomes, AreNet, AreSame}
+use Rattle.nsi_play.specs.Rounds.{all_quiet}
+use Rattle.agent_threads.specs.Nets.{seats, AtHomes}
 use Rattle.agent_threads.specs.Coming.{IsSettledBy}
-use Rattle.agent_threads.specs.Journals.{TakeMore}
-use Rattle.agent_threads.specs.Bounds.{GoOn}
+use Rattle.agent_threads.specs.Leaving.{LeavesNet}
 use Rattle.agent_threads.proofs.group.settle.Given as goal
 
 abbrev pub decreases-loop-quiet : goal.decreases-loop-quiet
@@ -16,11 +13,6 @@ abbrev pub invariant-loop-quiet : goal.invariant-loop-quiet
 invariant-loop-quiet g l = record {
   way : AtHomes l.fn.nodes.items (λ homes. (own : List Event) × (l.events.items ≡ l.fn.events.items ++ own) × IsSettledBy homes (seats l.fn.nodes.items) own (seats l.nodes.items)
       × (l.quiet ≡ true → all_quiet homes (seats l.nodes.items) ≡ true));
-  net : AreNet l.nodes.items;
-  same : AreSame l.fn.nodes.items l.nodes.items;
-  told : events_of (seats l.nodes.items) ≡ [];
-  taken : TakeMore l.fn.nodes.items l.nodes.items l.fn.events.items l.events.items;
-  further : GoOn 0 l.fn.nodes.items l.nodes.items l.fn.events.items l.events.items;
-  printable : All IsPrintableEvent l.events.items;
+  leaves : LeavesNet 0 l.fn.nodes.items l.nodes.items l.fn.events.items l.events.items;
   within : length l.events.items ≤ l.room;
 }

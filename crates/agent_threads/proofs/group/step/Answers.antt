@@ -4,14 +4,14 @@ use Rattle.nsi_agent.specs.Homes.{home_in}
 use Rattle.nsi_play.specs.Rounds.{round}
 use Rattle.agent_threads.specs.declared.fault.RoundFault.{RoundFault}
 use Rattle.agent_threads.specs.Made.{HasCause}
-use Rattle.agent_threads.proofs.Same.{same_twice, same_agents_twice}
-use Rattle.agent_threads.proofs.Draining.{drained_net, drained_same, drained_told, is_told}
+use Rattle.agent_threads.proofs.Same.{same_agents_twice}
+use Rattle.agent_threads.proofs.Draining.{is_told}
 use Rattle.agent_threads.proofs.Causes.{if_err, cause_of}
-use Rattle.agent_threads.proofs.Growing.{take_more}
 use Rattle.agent_threads.specs.Nets.{seats, EachIs}
 use Rattle.agent_threads.specs.Journals.{Grows}
 use Rattle.agent_threads.specs.Bounds.{MovesOn}
-use Rattle.agent_threads.proofs.Going.{anyhow, go_on}
+use Rattle.agent_threads.proofs.Going.{anyhow}
+use Rattle.agent_threads.proofs.Leaves.{leaves_drained}
 use Rattle.agent_threads.proofs.group.step.Goals as goal
 
 pub returns-in_err-round-clause-cause : goal.returns-in_err-round-clause-cause
@@ -27,16 +27,6 @@ returns-clause-ok g c = λ t o routes r.
     is_told (round (home_in t routes) (seats c.args.nodes.now.items)) c.round.new.nodes.items c.drain.new.nodes.items c.args.events.now.items c.drain.new.events.items
     (c.in_ok-round.ensures.ok t o routes r) c.in_ok-drain.ensures.made c.in_ok-drain.ensures.events
 
-pub returns-clause-net : goal.returns-clause-net
-returns-clause-net g c = drained_net c.round.new.nodes.items c.drain.new.nodes.items c.in_ok-drain.ensures.made c.in_ok-round.ensures.net
-
-pub returns-clause-same : goal.returns-clause-same
-returns-clause-same g c =
-    same_twice c.args.nodes.now.items c.round.new.nodes.items c.drain.new.nodes.items c.in_ok-round.ensures.same (drained_same c.round.new.nodes.items c.drain.new.nodes.items c.in_ok-drain.ensures.made)
-
-pub returns-clause-told : goal.returns-clause-told
-returns-clause-told g c = drained_told c.round.new.nodes.items c.drain.new.nodes.items c.in_ok-drain.ensures.made
-
 pub returns-in_err-drain-clause-agents : goal.returns-in_err-drain-clause-agents
 returns-in_err-drain-clause-agents g c = same_agents_twice c.args.nodes.now.items c.round.new.nodes.items c.drain.new.nodes.items c.in_ok-round.ensures.agents c.in_err-drain.ensures.agents
 
@@ -46,16 +36,12 @@ returns-then-len-room-clause-agents g c = same_agents_twice c.args.nodes.now.ite
 pub returns-clause-agents : goal.returns-clause-agents
 returns-clause-agents g c = same_agents_twice c.args.nodes.now.items c.round.new.nodes.items c.drain.new.nodes.items c.in_ok-round.ensures.agents c.in_ok-drain.ensures.agents
 
-pub returns-clause-taken : goal.returns-clause-taken
-returns-clause-taken g c =
-    take_more c.args.nodes.now.items c.round.new.nodes.items c.drain.new.nodes.items c.args.events.now.items c.drain.new.events.items c.in_ok-round.ensures.grow c.in_ok-drain.ensures.made c.requires.net.apart c.in_ok-drain.ensures.events
-
-pub returns-clause-further : goal.returns-clause-further
-returns-clause-further g c =
+pub returns-clause-leaves : goal.returns-clause-leaves
+returns-clause-leaves g c =
     let olds = c.args.nodes.now.items in
     let mids = c.round.new.nodes.items in
     let exist = c.routes_exist.ensures.exist in
-    go_on 0 olds mids c.drain.new.nodes.items c.args.events.now.items c.drain.new.events.items
+    leaves_drained 0 olds mids c.drain.new.nodes.items c.args.events.now.items c.drain.new.events.items c.requires.net c.in_ok-round.ensures.net c.in_ok-round.ensures.same
     (anyhow exist olds (EachIs Grows olds mids) c.requires.one c.in_ok-round.ensures.grow)
     (anyhow exist olds (EachIs (MovesOn 0) olds mids) c.requires.one c.in_ok-round.ensures.moves)
-    c.in_ok-drain.ensures.made c.requires.told c.in_ok-drain.ensures.events
+    c.in_ok-drain.ensures.made c.requires.told c.in_ok-drain.ensures.events c.in_ok-drain.ensures.printable

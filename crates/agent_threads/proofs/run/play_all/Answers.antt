@@ -38,7 +38,7 @@ loop-group-init g c = record {
 }
 
 pub play_group-requires-clause-can : goal.play_group-requires-clause-can
-play_group-requires-clause-can g c =
+play_group-requires-clause-can g c κs within =
     let l = c.loop-group in
     let h : l.group-index < length c.args.groups.now = omega (arith, c.loop-group-test.true) in
     record {
@@ -48,20 +48,20 @@ play_group-requires-clause-can g c =
     }
 
 pub play_group-requires-clause-asks : goal.play_group-requires-clause-asks
-play_group-requires-clause-asks g c =
+play_group-requires-clause-asks g c κs within =
     let l = c.loop-group in
     let h : l.group-index < length c.args.groups.now = omega (arith, c.loop-group-test.true) in
     let d = c.group-item.result in
     omega (arith, ap (λ (z : Group). asks_among z.acts) c.group-item.is, asks_later c.args.groups.now l.group-index d h, l.invariant.asks, c.requires.asks)
 
 pub play_group-requires-clause-numbers : goal.play_group-requires-clause-numbers
-play_group-requires-clause-numbers g c = still_numbered c.args.topology.now c.args.nodes.now.items c.loop-group.nodes.items c.loop-group.invariant.same c.requires.ready.numbers
+play_group-requires-clause-numbers g c κs within = still_numbered c.args.topology.now c.args.nodes.now.items c.loop-group.nodes.items c.loop-group.invariant.same c.requires.ready.numbers
 
 pub play_group-requires-clause-told : goal.play_group-requires-clause-told
-play_group-requires-clause-told g c = c.loop-group.invariant.told c.requires.ready.told
+play_group-requires-clause-told g c κs within = c.loop-group.invariant.told c.requires.ready.told
 
 pub play_group-requires-clause-later : goal.play_group-requires-clause-later
-play_group-requires-clause-later g c =
+play_group-requires-clause-later g c κs within =
     let l = c.loop-group in
     let h : l.group-index < length c.args.groups.now = omega (arith, c.loop-group-test.true) in
     subst (λ (z : Group). AreUpTo z.at l.nodes.items) (sym c.group-item.is) (l.invariant.clocks c.group-item.result h)
@@ -223,7 +223,7 @@ pub returns-clause-usable : goal.returns-clause-usable
 returns-clause-usable g c = c.loop-group.invariant.net.usable
 
 pub play_group-requires-clause-bounded : goal.play_group-requires-clause-bounded
-play_group-requires-clause-bounded g c =
+play_group-requires-clause-bounded g c κs within =
     let l = c.loop-group in
     let w = l.invariant.way in
     let start = c.args.nodes.now.items in

@@ -8,23 +8,23 @@ use Rattle.agent_threads.proofs.run.play_group.Goals as goal
 
 pub returns-clause-keeps : goal.returns-clause-keeps
 returns-clause-keeps g c =
-    group_kept c.args.group.now c.args.before.asks c.args.nodes.now.items c.make_group.new.nodes.items c.new-events.result.items c.make_group.new.events.items c.new-events.ensures.items c.in-Ok.ensures.ok c.in-Ok.ensures.taken c.in-Ok.ensures.quiet
+    group_kept c.args.group.now c.args.before.asks c.args.nodes.now.items c.make_group.new.nodes.items c.new-events.result.items c.make_group.new.events.items c.new-events.ensures.items c.in-Ok.ensures.ok c.in-Ok.ensures.leaves.taken c.in-Ok.ensures.quiet
 
 pub make_group-requires-clause-few : goal.make_group-requires-clause-few
-make_group-requires-clause-few g c = under_room c.args.before.events _ c.args.nodes.now.items (omega arith) c.requires.few
+make_group-requires-clause-few g c κs within = under_room c.args.before.events _ c.args.nodes.now.items (omega arith) c.requires.few
 
 pub lines-requires : goal.lines-requires
 lines-requires g c =
-    let all = go_first c.args.group.now.at c.args.nodes.now.items c.make_group.new.nodes.items c.new-events.result.items c.make_group.new.events.items c.new-events.ensures.items c.in-Ok.ensures.further in
+    let all = go_first c.args.group.now.at c.args.nodes.now.items c.make_group.new.nodes.items c.new-events.result.items c.make_group.new.events.items c.new-events.ensures.items c.in-Ok.ensures.leaves.further in
     subst (λ (es : List Event). All (HasLine c.args.topology.now) es) (sym c.deref.ensures.value)
-    (have_lines c.args.topology.now c.args.nodes.now.items c.make_group.new.events.items c.requires.numbers all.0 c.in-Ok.ensures.printable)
+    (have_lines c.args.topology.now c.args.nodes.now.items c.make_group.new.events.items c.requires.numbers all.0 c.in-Ok.ensures.leaves.printable)
 
 pub returns-clause-few : goal.returns-clause-few
 returns-clause-few g c =
-    let all = go_first c.args.group.now.at c.args.nodes.now.items c.make_group.new.nodes.items c.new-events.result.items c.make_group.new.events.items c.new-events.ensures.items c.in-Ok.ensures.further in
+    let all = go_first c.args.group.now.at c.args.nodes.now.items c.make_group.new.nodes.items c.new-events.result.items c.make_group.new.events.items c.new-events.ensures.items c.in-Ok.ensures.leaves.further in
     under_after c.args.group.now.at c.args.before.events (length c.make_group.new.events.items) _ c.args.nodes.now.items c.make_group.new.nodes.items (omega arith) all.1 c.requires.few
 
 pub returns-clause-clocks : goal.returns-clause-clocks
 returns-clause-clocks g c =
-    let all = go_first c.args.group.now.at c.args.nodes.now.items c.make_group.new.nodes.items c.new-events.result.items c.make_group.new.events.items c.new-events.ensures.items c.in-Ok.ensures.further in
+    let all = go_first c.args.group.now.at c.args.nodes.now.items c.make_group.new.nodes.items c.new-events.result.items c.make_group.new.events.items c.new-events.ensures.items c.in-Ok.ensures.leaves.further in
     up_to_after c.args.group.now.at (length c.make_group.new.events.items) c.args.group.now.at c.args.nodes.now.items c.make_group.new.nodes.items (omega arith) all.1 c.requires.later

@@ -6,6 +6,7 @@ use crate::tables::rows::{ANSWER, RESERVE};
 use nsi_disk::{Image, Stop};
 use std::alloc::{AllocError, Global};
 use std::test::Fail;
+use std::thread::Threads;
 
 /// How many of the two lines a run has answered, or a disk has kept.
 #[derive(Clone, Copy, Debug, PartialEq, Eq)]
@@ -36,18 +37,22 @@ impl Lines {
 }
 
 /// The two lines over the disk.
-fn run_both(alloc: Global, before: &Before<'_>) -> Result<Ended, AllocError> {
+fn run_both(
+    rt: &(impl Threads + Sync),
+    alloc: Global,
+    before: &Before<'_>,
+) -> Result<Ended, AllocError> {
     let lines = format!(in alloc; "{RESERVE}\n{COMMIT}\n")?;
-    run(alloc, "provide", lines.as_str(), before)
+    run(rt, alloc, "provide", lines.as_str(), before)
 }
 
 /// The two lines over an empty disk whose call with this number fails.
-fn run_failing(alloc: Global, call: u64) -> Result<Ended, AllocError> {
+fn run_failing(rt: &(impl Threads + Sync), alloc: Global, call: u64) -> Result<Ended, AllocError> {
     let before = Before {
         failing: &[call],
         ..Before::of(b"")
     };
-    run_both(alloc, &before)
+    run_both(rt, alloc, &before)
 }
 
 /// Whether the run answered these lines, and then ended with a fault of the disk.
@@ -58,11 +63,16 @@ fn is_cut(alloc: Global, ended: &Ended, answered: Lines) -> Result<bool, AllocEr
 }
 
 /// Whether a run of the two lines and of a provision over the disk answers only what the disk hasn't kept.
-fn goes_on(alloc: Global, disk: &[u8], kept: Lines) -> Result<bool, AllocError> {
+fn goes_on(
+    rt: &(impl Threads + Sync),
+    alloc: Global,
+    disk: &[u8],
+    kept: Lines,
+) -> Result<bool, AllocError> {
     let lines = format!(in alloc; "{RESERVE}\n{COMMIT}\n{PROVISION}\n")?;
     let answers = kept.answers_behind(alloc)?;
     let text = format!(in alloc; "{answers}{PROVISIONED}")?;
-    let second = run_on(alloc, "provide", lines.as_str(), disk)?;
+    let second = run_on(rt, alloc, "provide", lines.as_str(), disk)?;
     is_written(alloc, &second, 0, text.as_str())
 }
 
@@ -86,16 +96,16 @@ const FAULTS: [Row; 13] = [
     (13, Lines::First, Lines::Both),
 ];
 
-fn is_failed_row(alloc: Global, row: Row) -> Result<bool, AllocError> {
+fn is_failed_row(rt: &(impl Threads + Sync), alloc: Global, row: Row) -> Result<bool, AllocError> {
     let (call, answered, kept) = row;
-    let first = run_failing(alloc, call)?;
-    Ok(is_cut(alloc, &first, answered)? && goes_on(alloc, &first.disk, kept)?)
+    let first = run_failing(rt, alloc, call)?;
+    Ok(is_cut(alloc, &first, answered)? && goes_on(rt, alloc, &first.disk, kept)?)
 }
 
 #[test]
 fn each_call_fails_in_turn(rt: HostRuntime) -> Result<(), Fail> {
     for row in FAULTS {
-        let is_right = is_failed_row(rt.alloc(), row)?;
+        let is_right = is_failed_row(&rt, rt.alloc(), row)?;
         assert!(rt; is_right, "{row:?}");
     }
     Ok(())
@@ -118,7 +128,7 @@ const STOPS: [Row; 13] = [
     (13, Lines::First, Lines::Both),
 ];
 
-fn is_stopped_row(alloc: Global, row: Row) -> Result<bool, AllocError> {
+fn is_stopped_row(rt: &(impl Threads + Sync), alloc: Global, row: Row) -> Result<bool, AllocError> {
     let (call, answered, kept) = row;
     let before = Before {
         stops: &[Stop {
@@ -127,14 +137,14 @@ fn is_stopped_row(alloc: Global, row: Row) -> Result<bool, AllocError> {
         }],
         ..Before::of(b"")
     };
-    let first = run_both(alloc, &before)?;
-    Ok(is_cut(alloc, &first, answered)? && goes_on(alloc, &first.disk, kept)?)
+    let first = run_both(rt, alloc, &before)?;
+    Ok(is_cut(alloc, &first, answered)? && goes_on(rt, alloc, &first.disk, kept)?)
 }
 
 #[test]
 fn each_call_stops_in_turn(rt: HostRuntime) -> Result<(), Fail> {
     for row in STOPS {
-        let is_right = is_stopped_row(rt.alloc(), row)?;
+        let is_right = is_stopped_row(&rt, rt.alloc(), row)?;
         assert!(rt; is_right, "{row:?}");
     }
     Ok(())
@@ -160,21 +170,26 @@ fn torn(alloc: Global, old: &[u8], new: &[u8]) -> Result<Vec<u8>, AllocError> {
 }
 
 /// The write itself fails, and leaves what was there; the sync behind it fails, and leaves what was written.
-fn is_written_row(alloc: Global, call: u64, kept: [Lines; 3]) -> Result<bool, AllocError> {
+fn is_written_row(
+    rt: &(impl Threads + Sync),
+    alloc: Global,
+    call: u64,
+    kept: [Lines; 3],
+) -> Result<bool, AllocError> {
     let [if_old, if_new, if_torn] = kept;
-    let old = run_failing(alloc, call)?;
-    let new = run_failing(alloc, call.saturating_add(1))?;
+    let old = run_failing(rt, alloc, call)?;
+    let new = run_failing(rt, alloc, call.saturating_add(1))?;
     let torn = torn(alloc, &old.disk, &new.disk)?;
-    let is_old = goes_on(alloc, &old.disk, if_old)?;
-    let is_new = goes_on(alloc, &new.disk, if_new)?;
-    let is_torn = goes_on(alloc, &torn, if_torn)?;
+    let is_old = goes_on(rt, alloc, &old.disk, if_old)?;
+    let is_new = goes_on(rt, alloc, &new.disk, if_new)?;
+    let is_torn = goes_on(rt, alloc, &torn, if_torn)?;
     Ok(old.disk != new.disk && is_old && is_new && is_torn)
 }
 
 #[test]
 fn each_image_of_each_write_goes_on(rt: HostRuntime) -> Result<(), Fail> {
     for (call, kept) in WRITES {
-        let is_right = is_written_row(rt.alloc(), call, kept)?;
+        let is_right = is_written_row(&rt, rt.alloc(), call, kept)?;
         assert!(rt; is_right, "{call}");
     }
     Ok(())
@@ -183,10 +198,10 @@ fn each_image_of_each_write_goes_on(rt: HostRuntime) -> Result<(), Fail> {
 /// A crash within the write of a batch may leave any front of it.
 #[test]
 fn each_front_of_a_batch_goes_on(rt: HostRuntime) -> Result<(), Fail> {
-    let old = run_failing(rt.alloc(), 10)?;
-    let new = run_failing(rt.alloc(), 11)?;
+    let old = run_failing(&rt, rt.alloc(), 10)?;
+    let new = run_failing(&rt, rt.alloc(), 11)?;
     for length in old.disk.len()..new.disk.len() {
-        let is_right = goes_on(rt.alloc(), &new.disk[..length], Lines::First)?;
+        let is_right = goes_on(&rt, rt.alloc(), &new.disk[..length], Lines::First)?;
         assert!(rt; is_right, "{length}");
     }
     Ok(())
@@ -203,21 +218,21 @@ const AGAIN: [Row; 7] = [
     (7, Lines::None, Lines::Both),
 ];
 
-fn is_row_again(alloc: Global, row: Row) -> Result<bool, AllocError> {
+fn is_row_again(rt: &(impl Threads + Sync), alloc: Global, row: Row) -> Result<bool, AllocError> {
     let (call, answered, kept) = row;
-    let first = run_on(alloc, "provide", RESERVE, b"")?;
+    let first = run_on(rt, alloc, "provide", RESERVE, b"")?;
     let before = Before {
         failing: &[call],
         ..Before::of(&first.disk)
     };
-    let second = run_both(alloc, &before)?;
-    Ok(is_cut(alloc, &second, answered)? && goes_on(alloc, &second.disk, kept)?)
+    let second = run_both(rt, alloc, &before)?;
+    Ok(is_cut(alloc, &second, answered)? && goes_on(rt, alloc, &second.disk, kept)?)
 }
 
 #[test]
 fn each_call_of_a_second_run_fails_in_turn(rt: HostRuntime) -> Result<(), Fail> {
     for row in AGAIN {
-        let is_right = is_row_again(rt.alloc(), row)?;
+        let is_right = is_row_again(&rt, rt.alloc(), row)?;
         assert!(rt; is_right, "{row:?}");
     }
     Ok(())

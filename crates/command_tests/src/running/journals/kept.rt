@@ -4,59 +4,72 @@ use super::{Before, COMMIT, COMMITTED, Ended, PROVISION, PROVISIONED, is_written
 use crate::tables::rows::{ANSWER, RESERVE};
 use std::alloc::{AllocError, Global};
 use std::test::Fail;
+use std::thread::Threads;
 
 /// A commit that comes twice is answered once, and is in the journal once.
-fn repeated_commit_is_kept_once(alloc: Global) -> Result<bool, AllocError> {
+fn repeated_commit_is_kept_once(
+    rt: &(impl Threads + Sync),
+    alloc: Global,
+) -> Result<bool, AllocError> {
     let once = format!(in alloc; "{RESERVE}\n{COMMIT}\n")?;
     let twice = format!(in alloc; "{RESERVE}\n{COMMIT}\n{COMMIT}\n")?;
     let answers = format!(in alloc; "{ANSWER}{COMMITTED}")?;
-    let first = run_on(alloc, "provide", once.as_str(), b"")?;
-    let second = run_on(alloc, "provide", twice.as_str(), b"")?;
+    let first = run_on(rt, alloc, "provide", once.as_str(), b"")?;
+    let second = run_on(rt, alloc, "provide", twice.as_str(), b"")?;
     let is_answered = is_written(alloc, &second, 0, answers.as_str())?;
     Ok(is_answered && second.disk == first.disk && 9 < first.disk.len())
 }
 
 #[test]
 fn a_repeated_request_is_kept_once(rt: HostRuntime) -> Result<(), Fail> {
-    let is_right = repeated_commit_is_kept_once(rt.alloc())?;
+    let is_right = repeated_commit_is_kept_once(&rt, rt.alloc())?;
     assert!(rt; is_right);
     Ok(())
 }
 
 /// What was kept is read again: a request that was taken is answered by nothing, and the next one goes on from there.
-fn second_run_goes_on(alloc: Global) -> Result<bool, AllocError> {
+fn second_run_goes_on(rt: &(impl Threads + Sync), alloc: Global) -> Result<bool, AllocError> {
     let lines = format!(in alloc; "{RESERVE}\n{COMMIT}\n")?;
-    let first = run_on(alloc, "provide", lines.as_str(), b"")?;
+    let first = run_on(rt, alloc, "provide", lines.as_str(), b"")?;
     let again = format!(in alloc; "{RESERVE}\n{COMMIT}\n{PROVISION}\n")?;
-    let second = run_on(alloc, "provide", again.as_str(), &first.disk)?;
+    let second = run_on(rt, alloc, "provide", again.as_str(), &first.disk)?;
     is_written(alloc, &second, 0, PROVISIONED)
 }
 
 #[test]
 fn a_second_run_goes_on(rt: HostRuntime) -> Result<(), Fail> {
-    let is_right = second_run_goes_on(rt.alloc())?;
+    let is_right = second_run_goes_on(&rt, rt.alloc())?;
     assert!(rt; is_right);
     Ok(())
 }
 
 /// A run of these words that is too long, and leaves the disk as it was.
-fn is_long(alloc: Global, words: &str, lines: &str, disk: &[u8]) -> Result<bool, AllocError> {
-    let ended = run_on(alloc, words, lines, disk)?;
+fn is_long(
+    rt: &(impl Threads + Sync),
+    alloc: Global,
+    words: &str,
+    lines: &str,
+    disk: &[u8],
+) -> Result<bool, AllocError> {
+    let ended = run_on(rt, alloc, words, lines, disk)?;
     Ok(is_written(alloc, &ended, 8, "fault long\n")? && ended.disk.as_slice() == disk)
 }
 
 /// The reserve, its work and the sync are three events.
-fn reserve_with_three_events(alloc: Global) -> Result<Ended, AllocError> {
-    run_on(alloc, "provide --events 3", RESERVE, b"")
+fn reserve_with_three_events(
+    rt: &(impl Threads + Sync),
+    alloc: Global,
+) -> Result<Ended, AllocError> {
+    run_on(rt, alloc, "provide --events 3", RESERVE, b"")
 }
 
 /// A line that makes too many events is appended to nothing: the journal is as it was when it was begun.
 #[test]
 fn a_line_of_too_many_events_is_not_kept(rt: HostRuntime) -> Result<(), Fail> {
-    let three = reserve_with_three_events(rt.alloc())?;
+    let three = reserve_with_three_events(&rt, rt.alloc())?;
     let is_right = is_written(rt.alloc(), &three, 0, ANSWER)?;
     assert!(rt; is_right);
-    let two = run_on(rt.alloc(), "provide --events 2", RESERVE, b"")?;
+    let two = run_on(&rt, rt.alloc(), "provide --events 2", RESERVE, b"")?;
     let is_right = is_written(rt.alloc(), &two, 8, "fault long\n")?;
     assert!(rt; is_right && two.disk.as_slice() == b"\0".as_slice());
     Ok(())
@@ -65,14 +78,26 @@ fn a_line_of_too_many_events_is_not_kept(rt: HostRuntime) -> Result<(), Fail> {
 /// The two entries of the reserve count when they are read again; a sync of an earlier run doesn't.
 #[test]
 fn entries_that_are_read_count(rt: HostRuntime) -> Result<(), Fail> {
-    let ended = reserve_with_three_events(rt.alloc())?;
-    let one = is_long(rt.alloc(), "provide --events 1", "", &ended.disk)?;
-    let three = is_long(rt.alloc(), "provide --events 3", "tick 1\n", &ended.disk)?;
+    let ended = reserve_with_three_events(&rt, rt.alloc())?;
+    let one = is_long(&rt, rt.alloc(), "provide --events 1", "", &ended.disk)?;
+    let three = is_long(
+        &rt,
+        rt.alloc(),
+        "provide --events 3",
+        "tick 1\n",
+        &ended.disk,
+    )?;
     assert!(rt; one && three);
-    let two = run_on(rt.alloc(), "provide --events 2", RESERVE, &ended.disk)?;
+    let two = run_on(&rt, rt.alloc(), "provide --events 2", RESERVE, &ended.disk)?;
     let is_right = is_written(rt.alloc(), &two, 0, "")?;
     assert!(rt; is_right);
-    let four = run_on(rt.alloc(), "provide --events 4", "tick 1\n", &ended.disk)?;
+    let four = run_on(
+        &rt,
+        rt.alloc(),
+        "provide --events 4",
+        "tick 1\n",
+        &ended.disk,
+    )?;
     let is_right = is_written(rt.alloc(), &four, 0, "")?;
     assert!(rt; is_right);
     Ok(())
@@ -87,39 +112,42 @@ const OTHERS: &[u8] = b"\x01\0\0\0\0\0\0\0\xbe\x01\
     \x04\0\0\0\0\0\0\0\x07\0";
 
 /// The clock is at 7, and the query has taken no correlationId.
-fn entries_of_others_change_nothing(alloc: Global) -> Result<bool, AllocError> {
+fn entries_of_others_change_nothing(
+    rt: &(impl Threads + Sync),
+    alloc: Global,
+) -> Result<bool, AllocError> {
     let tick = "{\"errorId\":\"PAYLOAD\",\"fault\":\"Tick\",\"kind\":\"error\",\"line\":6}\n";
     let lines = format!(in alloc; "tick 6\ntick 7\n{RESERVE}\n")?;
     let answers = format!(in alloc; "{tick}{ANSWER}")?;
-    let ended = run_on(alloc, "provide", lines.as_str(), OTHERS)?;
+    let ended = run_on(rt, alloc, "provide", lines.as_str(), OTHERS)?;
     is_written(alloc, &ended, 0, answers.as_str())
 }
 
 #[test]
 fn what_others_take_changes_nothing(rt: HostRuntime) -> Result<(), Fail> {
-    let is_right = entries_of_others_change_nothing(rt.alloc())?;
+    let is_right = entries_of_others_change_nothing(&rt, rt.alloc())?;
     assert!(rt; is_right);
     Ok(())
 }
 
 #[test]
 fn what_others_take_counts(rt: HostRuntime) -> Result<(), Fail> {
-    let three = is_long(rt.alloc(), "provide --events 3", "", OTHERS)?;
-    let five = is_long(rt.alloc(), "provide --events 5", "tick 7\n", OTHERS)?;
+    let three = is_long(&rt, rt.alloc(), "provide --events 3", "", OTHERS)?;
+    let five = is_long(&rt, rt.alloc(), "provide --events 5", "tick 7\n", OTHERS)?;
     assert!(rt; three && five);
-    let four = run_on(rt.alloc(), "provide --events 4", "", OTHERS)?;
+    let four = run_on(&rt, rt.alloc(), "provide --events 4", "", OTHERS)?;
     let is_right = is_written(rt.alloc(), &four, 0, "")?;
     assert!(rt; is_right);
-    let six = run_on(rt.alloc(), "provide --events 6", "tick 7\n", OTHERS)?;
+    let six = run_on(&rt, rt.alloc(), "provide --events 6", "tick 7\n", OTHERS)?;
     let is_right = is_written(rt.alloc(), &six, 0, "")?;
     assert!(rt; is_right);
     Ok(())
 }
 
 /// Whether a second run over the disk answers the reserve by nothing, and its commit.
-fn has_reserve(alloc: Global, disk: &[u8]) -> Result<bool, AllocError> {
+fn has_reserve(rt: &(impl Threads + Sync), alloc: Global, disk: &[u8]) -> Result<bool, AllocError> {
     let lines = format!(in alloc; "{RESERVE}\n{COMMIT}\n")?;
-    let ended = run_on(alloc, "provide", lines.as_str(), disk)?;
+    let ended = run_on(rt, alloc, "provide", lines.as_str(), disk)?;
     is_written(alloc, &ended, 0, COMMITTED)
 }
 
@@ -130,10 +158,10 @@ fn what_could_not_be_written_is_kept(rt: HostRuntime) -> Result<(), Fail> {
         writes: &[1],
         ..Before::of(b"")
     };
-    let ended = run(rt.alloc(), "provide", RESERVE, &before)?;
+    let ended = run(&rt, rt.alloc(), "provide", RESERVE, &before)?;
     let is_right = is_written(rt.alloc(), &ended, 3, "")?;
     assert!(rt; is_right);
-    let is_right = has_reserve(rt.alloc(), &ended.disk)?;
+    let is_right = has_reserve(&rt, rt.alloc(), &ended.disk)?;
     assert!(rt; is_right);
     Ok(())
 }
@@ -146,11 +174,11 @@ fn what_was_answered_before_a_failed_read_is_kept(rt: HostRuntime) -> Result<(),
         ..Before::of(b"")
     };
     let lines = format!(in rt.alloc(); "{RESERVE}\n")?;
-    let ended = run(rt.alloc(), "provide", lines.as_str(), &before)?;
+    let ended = run(&rt, rt.alloc(), "provide", lines.as_str(), &before)?;
     let text = format!(in rt.alloc(); "{ANSWER}fault read\n")?;
     let is_right = is_written(rt.alloc(), &ended, 2, text.as_str())?;
     assert!(rt; is_right);
-    let is_right = has_reserve(rt.alloc(), &ended.disk)?;
+    let is_right = has_reserve(&rt, rt.alloc(), &ended.disk)?;
     assert!(rt; is_right);
     Ok(())
 }

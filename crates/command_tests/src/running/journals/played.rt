@@ -17,7 +17,7 @@ fn a_failed_disk_ends_a_run(rt: HostRuntime) -> Result<(), Fail> {
             failing: &[call],
             ..Before::of(b"")
         };
-        let ended = run(alloc, "run", RESERVE, &before)?;
+        let ended = run(&rt, alloc, "run", RESERVE, &before)?;
         let is_broken = is_written(alloc, &ended, 7, "fault disk p1\n")?;
         assert!(rt; is_broken, "{call}");
     }
@@ -25,7 +25,7 @@ fn a_failed_disk_ends_a_run(rt: HostRuntime) -> Result<(), Fail> {
         failing: &[CALLS + 1],
         ..Before::of(b"")
     };
-    let ended = run(alloc, "run", RESERVE, &beyond)?;
+    let ended = run(&rt, alloc, "run", RESERVE, &beyond)?;
     let whole = format!(in alloc; "{RESERVED}settled 15\n")?;
     let is_whole = is_written(alloc, &ended, 0, whole.as_str())?;
     assert!(rt; is_whole);
@@ -44,7 +44,7 @@ fn a_stopped_disk_ends_a_run(rt: HostRuntime) -> Result<(), Fail> {
             stops: &[stop],
             ..Before::of(b"")
         };
-        let ended = run(alloc, "run", RESERVE, &before)?;
+        let ended = run(&rt, alloc, "run", RESERVE, &before)?;
         let is_broken = is_written(alloc, &ended, 7, "fault disk p1\n")?;
         assert!(rt; is_broken, "{call}");
     }

@@ -4,6 +4,7 @@ use super::{Before, is_written, run_input, run_on};
 use crate::tables::rows::{ANSWER, RESERVE};
 use std::alloc::{AllocError, Global};
 use std::test::Fail;
+use std::thread::Threads;
 
 /// Bytes that are no journal, and the place that is told.
 const WRONG: [(&str, &[u8], u64); 11] = [
@@ -53,8 +54,13 @@ const WRONG: [(&str, &[u8], u64); 11] = [
 ];
 
 /// Whether the disk is refused with this place before any line is answered, and stays as it was.
-fn is_no_journal(alloc: Global, disk: &[u8], place: u64) -> Result<bool, AllocError> {
-    let ended = run_on(alloc, "provide", RESERVE, disk)?;
+fn is_no_journal(
+    rt: &(impl Threads + Sync),
+    alloc: Global,
+    disk: &[u8],
+    place: u64,
+) -> Result<bool, AllocError> {
+    let ended = run_on(rt, alloc, "provide", RESERVE, disk)?;
     let text = format!(in alloc; "fault journal p1 {place}\n")?;
     Ok(is_written(alloc, &ended, 10, text.as_str())? && ended.disk.as_slice() == disk)
 }
@@ -62,7 +68,7 @@ fn is_no_journal(alloc: Global, disk: &[u8], place: u64) -> Result<bool, AllocEr
 #[test]
 fn no_journal_is_told_with_its_place(rt: HostRuntime) -> Result<(), Fail> {
     for (what, disk, place) in &WRONG {
-        let is_right = is_no_journal(rt.alloc(), disk, *place)?;
+        let is_right = is_no_journal(&rt, rt.alloc(), disk, *place)?;
         assert!(rt; is_right, "{what}");
     }
     Ok(())
@@ -79,6 +85,7 @@ const WORST: Before<'static> = Before {
 
 /// Whether the words and the text end with the status and what is written, before the disk is looked at.
 fn is_before_disk(
+    rt: &(impl Threads + Sync),
     alloc: Global,
     words: &str,
     text: &str,
@@ -86,7 +93,7 @@ fn is_before_disk(
     written: &str,
 ) -> Result<bool, AllocError> {
     let input = Vec::from_slice(alloc, text.as_bytes())?;
-    let ended = run_input(alloc, words, input, &WORST)?;
+    let ended = run_input(rt, alloc, words, input, &WORST)?;
     Ok(is_written(alloc, &ended, status, written)? && ended.disk.as_slice() == WORST.disk)
 }
 
@@ -116,20 +123,24 @@ const BEFORE_DISK: [(&str, &str, u8, &str); 4] = [
 #[test]
 fn the_topology_comes_before_the_disk(rt: HostRuntime) -> Result<(), Fail> {
     for (words, text, status, written) in &BEFORE_DISK {
-        let is_right = is_before_disk(rt.alloc(), words, text, *status, written)?;
+        let is_right = is_before_disk(&rt, rt.alloc(), words, text, *status, written)?;
         assert!(rt; is_right, "{text}");
     }
     let text = "agent p1 provider 60\n---\n";
-    let is_right = is_before_disk(rt.alloc(), "provide", text, 7, "fault disk p1\n")?;
+    let is_right = is_before_disk(&rt, rt.alloc(), "provide", text, 7, "fault disk p1\n")?;
     assert!(rt; is_right);
     Ok(())
 }
 
 /// Whether a run over the disk answers the reserve, and a second one by nothing.
-fn is_empty_journal(alloc: Global, disk: &[u8]) -> Result<bool, AllocError> {
-    let first = run_on(alloc, "provide", RESERVE, disk)?;
+fn is_empty_journal(
+    rt: &(impl Threads + Sync),
+    alloc: Global,
+    disk: &[u8],
+) -> Result<bool, AllocError> {
+    let first = run_on(rt, alloc, "provide", RESERVE, disk)?;
     let is_answered = is_written(alloc, &first, 0, ANSWER)?;
-    let second = run_on(alloc, "provide", RESERVE, &first.disk)?;
+    let second = run_on(rt, alloc, "provide", RESERVE, &first.disk)?;
     Ok(is_answered && is_written(alloc, &second, 0, "")?)
 }
 
@@ -138,10 +149,10 @@ fn is_empty_journal(alloc: Global, disk: &[u8]) -> Result<bool, AllocError> {
 fn a_short_file_is_empty(rt: HostRuntime) -> Result<(), Fail> {
     let ones = [1u8; 9];
     for length in 0..9 {
-        let is_right = is_empty_journal(rt.alloc(), &ones[..length])?;
+        let is_right = is_empty_journal(&rt, rt.alloc(), &ones[..length])?;
         assert!(rt; is_right, "{length}");
     }
-    let is_right = is_no_journal(rt.alloc(), &ones, 0)?;
+    let is_right = is_no_journal(&rt, rt.alloc(), &ones, 0)?;
     assert!(rt; is_right);
     Ok(())
 }
@@ -157,7 +168,7 @@ const CLOSED: [&[u8]; 4] = [
 #[test]
 fn what_is_behind_a_closed_gate_is_nothing(rt: HostRuntime) -> Result<(), Fail> {
     for disk in CLOSED {
-        let is_right = is_empty_journal(rt.alloc(), disk)?;
+        let is_right = is_empty_journal(&rt, rt.alloc(), disk)?;
         assert!(rt; is_right, "{disk:?}");
     }
     Ok(())
@@ -169,7 +180,7 @@ const TORN_GATE: &[u8] =
 
 #[test]
 fn a_torn_gate_is_closed(rt: HostRuntime) -> Result<(), Fail> {
-    let ended = run_on(rt.alloc(), "provide", "tick 4\ntick 5\n", TORN_GATE)?;
+    let ended = run_on(&rt, rt.alloc(), "provide", "tick 4\ntick 5\n", TORN_GATE)?;
     let tick = "{\"errorId\":\"PAYLOAD\",\"fault\":\"Tick\",\"kind\":\"error\",\"line\":6}\n";
     let is_right = is_written(rt.alloc(), &ended, 0, tick)?;
     assert!(rt; is_right);

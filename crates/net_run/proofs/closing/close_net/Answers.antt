@@ -6,7 +6,8 @@ use Rattle.net_run.specs.Begun.{AreListed, faults_among, stops_among}
 use Rattle.net_run.proofs.Beginning.{listed_still}
 use Rattle.net_run.proofs.Counting.{raised_none, raised_twice}
 use Rattle.stp_topology.specs.Network.{name_of}
-use Rattle.net_run.proofs.Returning.{Returns, IsReturned, none_left, returns_none, returns_all, is_returned, returns_more}
+use Rattle.net_run.proofs.Ends.{none_left}
+use Rattle.net_run.proofs.Returning.{Returns, IsReturned, returns_none, returns_all, is_returned, returns_more}
 use Rattle.net_run.proofs.closing.close_net.Goals as goal
 
 pub loop-node-init : goal.loop-node-init

@@ -2,7 +2,9 @@ use Rattle.std.proofs.Common.{rules, ◌≡◌, ◌<◌, ◌+◌, ◌++◌, ◌�
 use Rattle.stp_topology.specs.Network.{name_of}
 use Rattle.agent_node.specs.Kept.{Kept}
 use Rattle.net_run.specs.Begun.{IsBegun, AreBegun, AreListed}
+use Rattle.net_run.specs.Shelves.{IsStartFault}
 use Rattle.net_run.proofs.Beginning.{begun_of, begun_more, number_is, listed_still, listed_more}
+use Rattle.net_run.proofs.Ends.{joined_all}
 use Rattle.net_run.specs.Journals.{AreEmpty}
 use Rattle.net_run.proofs.Returning.{empty_before, empty_more}
 use Rattle.net_run.proofs.opening.begin_all.Goals as goal
@@ -10,6 +12,27 @@ use Rattle.net_run.proofs.opening.begin_all.Goals as goal
 pub returns-in_err-node-clause-listed : goal.returns-in_err-node-clause-listed
 returns-in_err-node-clause-listed g c =
     listed_still (g.H.Shelf.listed c.loop-place.shelf) (g.H.Shelf.listed c.begin_one.new.shelf) c.args.topology.now c.loop-place.nodes.items c.begin_one.ensures.stays c.loop-place.invariant.listed
+
+pub returns-in_err-node-clause-cause : goal.returns-in_err-node-clause-cause
+returns-in_err-node-clause-cause g c =
+    let l = c.loop-place in
+    let most = length c.args.topology.now.agents in
+    let faults = g.H.Shelf.faults c.begin_one.new.shelf in
+    let stops = g.H.Shelf.stops c.begin_one.new.shelf in
+    let e = c.in_err-node.field-0.0 in
+    let one = subst (λ (f : ℕ). IsStartFault most f faults (g.H.Shelf.stops l.shelf) stops e) l.invariant.faults c.in_err-node.ensures.cause in
+    let both : IsStartFault most (g.H.Shelf.faults c.args.shelf.now) faults (g.H.Shelf.stops c.args.shelf.now) stops e =
+    subst (λ (s : ℕ). IsStartFault most (g.H.Shelf.faults c.args.shelf.now) faults s stops e) l.invariant.stops one in
+    search rules
+
+pub own_ends-requires-clause-ends : goal.own_ends-requires-clause-ends
+own_ends-requires-clause-ends g c =
+    let l = c.loop-place in
+    let t = c.args.topology.now in
+    let agent = c.agent_at-agent.result in
+    let at : agent ≡ l.place = c.agent_at-agent.ensures in
+    let within : agent < length t.agents = search rules in
+    l.invariant.ends agent (omega (arith, at)) ∙ joined_all t c.args.joints.items agent c.requires.joined within
 
 pub loop-place-preserved : goal.loop-place-preserved
 loop-place-preserved g c =
@@ -43,5 +66,6 @@ loop-place-preserved g c =
       stops = c.in_ok-node.ensures.stops ∙ i.stops;
       shut = o.shut;
       left = λ a b h. o.left a b (λ q. absurd (omega (arith, q, at, h))) ∙ i.left a b (omega (arith, h));
+      ends = λ b h. o.of_others b (λ q. absurd (omega (arith, q, at, h))) ∙ i.ends b (omega (arith, h));
       room = omega (arith, i.room, c.push_reserved.ensures.capacity);
     }

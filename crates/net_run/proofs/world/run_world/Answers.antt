@@ -24,18 +24,18 @@ pub returns-in-Err-clause-front : goal.returns-in-Err-clause-front
 returns-in-Err-clause-front g c = nothing_of c.args.topology.now c.args.limit c.args.script.now.groups (g.K.Sink.content c.args.out.now)
 
 pub play_all-played-requires-clause-can : goal.play_all-played-requires-clause-can
-play_all-played-requires-clause-can g c =
+play_all-played-requires-clause-can g c κs within =
     subst (λ (gs : List Group). CanBePlayed c.args.topology.now gs) (sym c.items.ensures) (can_be_played c.args.topology.now c.args.script.now.groups c.requires.fits.acts)
 
 pub play_all-played-requires-clause-ready : goal.play_all-played-requires-clause-ready
-play_all-played-requires-clause-ready g c = ready_of c.nets_are_bounded.ensures.opening (g.H.Shelf.listed c.open_net.new.shelf) c.args.topology.now c.in-Ok.nodes.items c.in-Ok.ensures.opened c.in-Ok.ensures.listed
+play_all-played-requires-clause-ready g c κs within = ready_of c.nets_are_bounded.ensures.opening (g.H.Shelf.listed c.open_net.new.shelf) c.args.topology.now c.in-Ok.nodes.items c.in-Ok.ensures.opened c.in-Ok.ensures.listed
 
 pub play_all-played-requires-clause-rising : goal.play_all-played-requires-clause-rising
-play_all-played-requires-clause-rising g c =
+play_all-played-requires-clause-rising g c κs within =
     subst (λ (gs : List Group). IsRising (seconds_of gs)) (sym c.items.ensures) c.requires.fits.rising
 
 pub play_all-played-requires-clause-asks : goal.play_all-played-requires-clause-asks
-play_all-played-requires-clause-asks g c =
+play_all-played-requires-clause-asks g c κs within =
     subst (λ (gs : List Group). asks_of gs ≤ greatest_asks) (sym c.items.ensures) c.requires.fits.few_asks
 
 pub close_net-requires : goal.close_net-requires

@@ -103,31 +103,31 @@ returns-in-Generate-clause-generated g c = λ load named told.
 
 pub returns-in-Run-clause-ends : goal.returns-in-Run-clause-ends
 returns-in-Run-clause-ends g c = λ told.
-    run_ended _ c.in-Run.most (g.H.Shelf.holds c.args.shelf.now) (g.K.Sink.content c.args.out.now) (g.S.Source.left c.args.input.now) (g.K.Sink.content c.run.new.out) c.run.result
-    (named_by (map string_bytes c.args.words.now) c.command_of.result c.in-Some.command (Command.Run c.in-Run.most) c.command_of.ensures c.in-Some.is c.in-Run.is) (c.run.ensures.ends told)
+    run_ended _ c.in-Run.play (g.H.Shelf.holds c.args.shelf.now) (g.K.Sink.content c.args.out.now) (g.S.Source.left c.args.input.now) (g.K.Sink.content c.run.new.out) c.run.result
+    (named_by (map string_bytes c.args.words.now) c.command_of.result c.in-Some.command (Command.Run c.in-Run.play) c.command_of.ensures c.in-Some.is c.in-Run.is) (c.run.ensures.ends told)
 
 pub returns-in-Run-clause-cut : goal.returns-in-Run-clause-cut
 returns-in-Run-clause-cut g c = λ failed.
-    run_cut _ c.in-Run.most (g.H.Shelf.holds c.args.shelf.now) (g.K.Sink.content c.args.out.now) (g.S.Source.left c.args.input.now) (g.S.Source.left c.run.new.input) (g.K.Sink.content c.run.new.out)
-    (named_by (map string_bytes c.args.words.now) c.command_of.result c.in-Some.command (Command.Run c.in-Run.most) c.command_of.ensures c.in-Some.is c.in-Run.is) (c.run.ensures.alone failed)
+    run_cut _ c.in-Run.play (g.H.Shelf.holds c.args.shelf.now) (g.K.Sink.content c.args.out.now) (g.S.Source.left c.args.input.now) (g.S.Source.left c.run.new.input) (g.K.Sink.content c.run.new.out)
+    (named_by (map string_bytes c.args.words.now) c.command_of.result c.in-Some.command (Command.Run c.in-Run.play) c.command_of.ensures c.in-Some.is c.in-Run.is) (c.run.ensures.alone failed)
 
 pub returns-in-Run-clause-broken : goal.returns-in-Run-clause-broken
 returns-in-Run-clause-broken g c = λ failed.
-    run_broken _ c.in-Run.most (g.H.Shelf.holds c.args.shelf.now) (g.K.Sink.content c.args.out.now) (g.S.Source.left c.args.input.now) (g.K.Sink.content c.run.new.out)
-    (named_by (map string_bytes c.args.words.now) c.command_of.result c.in-Some.command (Command.Run c.in-Run.most) c.command_of.ensures c.in-Some.is c.in-Run.is) (c.run.ensures.broken failed)
+    run_broken _ c.in-Run.play (g.H.Shelf.holds c.args.shelf.now) (g.K.Sink.content c.args.out.now) (g.S.Source.left c.args.input.now) (g.K.Sink.content c.run.new.out)
+    (named_by (map string_bytes c.args.words.now) c.command_of.result c.in-Some.command (Command.Run c.in-Run.play) c.command_of.ensures c.in-Some.is c.in-Run.is) (c.run.ensures.broken failed)
 
 pub returns-in-Run-clause-unfinished : goal.returns-in-Run-clause-unfinished
 returns-in-Run-clause-unfinished g c = λ failed.
-    run_cut_short _ c.in-Run.most (g.H.Shelf.holds c.args.shelf.now) (g.K.Sink.content c.args.out.now) (g.S.Source.left c.args.input.now) (g.S.Source.left c.run.new.input) _ _ (g.K.Sink.content c.run.new.out)
-    (named_by (map string_bytes c.args.words.now) c.command_of.result c.in-Some.command (Command.Run c.in-Run.most) c.command_of.ensures c.in-Some.is c.in-Run.is) (c.run.ensures.unfinished failed)
+    run_cut_short _ c.in-Run.play (g.H.Shelf.holds c.args.shelf.now) (g.K.Sink.content c.args.out.now) (g.S.Source.left c.args.input.now) (g.S.Source.left c.run.new.input) _ _ (g.K.Sink.content c.run.new.out)
+    (named_by (map string_bytes c.args.words.now) c.command_of.result c.in-Some.command (Command.Run c.in-Run.play) c.command_of.ensures c.in-Some.is c.in-Run.is) (c.run.ensures.unfinished failed)
 
 pub returns-in-Run-clause-bad_topology : goal.returns-in-Run-clause-bad_topology
-returns-in-Run-clause-bad_topology g c = λ _ told. run_names_fault c.in-Run.most _ _ _ _ (c.run.ensures.ends told)
+returns-in-Run-clause-bad_topology g c = λ _ told. run_names_fault c.in-Run.play.most _ _ _ _ (c.run.ensures.ends told)
 
 pub returns-in-Run-clause-quiet_disk : goal.returns-in-Run-clause-quiet_disk
 returns-in-Run-clause-quiet_disk g c = λ told disks.
     c.run.ensures.quiet_disk told
-    (tells_disks _ c.in-Run.most c.run.result (named_by (map string_bytes c.args.words.now) c.command_of.result c.in-Some.command (Command.Run c.in-Run.most) c.command_of.ensures c.in-Some.is c.in-Run.is) disks)
+    (tells_disks _ c.in-Run.play c.run.result (named_by (map string_bytes c.args.words.now) c.command_of.result c.in-Some.command (Command.Run c.in-Run.play) c.command_of.ensures c.in-Some.is c.in-Run.is) disks)
 
 pub returns-in-Run-clause-journals : goal.returns-in-Run-clause-journals
-returns-in-Run-clause-journals g c = λ most named done. c.run.ensures.journals done
+returns-in-Run-clause-journals g c = λ play named done. c.run.ensures.journals done
