@@ -92,7 +92,7 @@ build() {
 # The program's crate and all that it stands on, lowest first, as crates.txt has them.
 crates_below() {
     awk -F: '
-        /^[a-z]/ { name[++count] = $1; below[count] = $2 }
+        /^[a-z]/ { split($1, words, " "); name[++count] = words[1]; below[count] = $2 }
         END {
             wanted["nsi"]
             for (i = count; i; i--)
