@@ -255,7 +255,7 @@ requested_in bs cs n b c o p said e start route at put same_number r =
       out = r.out ∙ ap (λ (d : Done). d.out) same;
       next = r.next ∙ ap (λ (d : Done). d.next) same;
       waits = r.waits ∙ ap (λ (d : Done). record o.retry { waiting = o.retry.waiting ++ d.out }) same;
-      dues = r.dues ∙ ap (λ (d : Done). o.dues.items ++ d.dues) same;
+      dues = r.dues ∙ ap (λ (d : Done). o.dues ++ d.dues) same;
     }
 
 pub requested_settled : (b c : Bond) (o p : Outbox) (said : Said) (e : Entering) (start : Start) (route : ℕ → ℕ → List Leg) → IsRequested b c o p said e start route → IsSettled c

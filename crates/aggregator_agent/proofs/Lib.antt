@@ -23,3 +23,5 @@ pub mod QuietTicks
 pub mod Found
 pub mod FirstOwned
 pub mod Noting
+pub mod Overdue
+pub mod ToldAt

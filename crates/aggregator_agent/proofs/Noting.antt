@@ -1,5 +1,5 @@
 -- Which places are noted for a message and for a tick.
-use Rattle.std.proofs.Common.{◌≡◌, ◌∙◌, ◌<◌, ◌≤◌, ◌⊎◌, ◌↔◌, inl, inr, ℕ, Bool, true, false, cond, nat_lt, List, [], ◌∷◌, ◌++◌, filter, Some, None, Result, Ok, Err, refl, sym, ap, subst, arith}
+use Rattle.std.proofs.Common.{◌≡◌, ◌∙◌, ◌<◌, ◌⊎◌, ◌↔◌, inl, inr, ℕ, Bool, true, false, cond, nat_lt, List, [], ◌∷◌, ◌++◌, filter, Some, None, Result, Ok, Err, refl, sym, ap, subst, arith}
 use Rattle.std.specs.Prelude.{OnOk, IfOk}
 use Rattle.std.specs.List.{Contains}
 use Rattle.std.specs.declared.alloc.AllocError.{AllocError}
@@ -14,12 +14,12 @@ use Rattle.record_index.specs.declared.deadlines.Deadline.{Deadline}
 use Rattle.record_index.proofs.Members.{nothing_in, contains_first, contains_more}
 use Rattle.aggregator_agent.specs.Indexed.{id_at, MayHear, IsAbout, MayChange, numbers_of}
 
----- Below a count
+---- Those that pass a test, and those below a count
 
-front : (count x p : ℕ) (kept xs : List ℕ) (b : Bool) → nat_lt x count ≡ b → Contains kept p ↔ (Contains xs p × (p < count)) → Contains (cond b (x ∷ kept) kept) p ↔ (Contains (x ∷ xs) p × (p < count))
-front count x p kept xs true e h = (
+front : (f : ℕ → Bool) (x p : ℕ) (kept xs : List ℕ) (b : Bool) → f x ≡ b → Contains kept p ↔ (Contains xs p × (f p ≡ true)) → Contains (cond b (x ∷ kept) kept) p ↔ (Contains (x ∷ xs) p × (f p ≡ true))
+front f x p kept xs true e h = (
   λ has. elim (contains_first x p kept has) [
-    | inl is ↦ (contains_more x p xs (inl is), let l : x < count = grind (arith, nat_tests) in omega (arith, is, l))
+    | inl is ↦ (contains_more x p xs (inl is), ap f is ∙ e)
     | inr there ↦ let both = h.0 there in (contains_more x p xs (inr both.0), both.1)
   ],
   λ both. elim (contains_first x p xs both.0) [
@@ -27,17 +27,24 @@ front count x p kept xs true e h = (
     | inr there ↦ contains_more x p kept (inr (h.1 (there, both.1)))
   ],
 )
-front count x p kept xs false e h = (
+front f x p kept xs false e h = (
   λ has. let both = h.0 has in (contains_more x p xs (inr both.0), both.1),
   λ both. elim (contains_first x p xs both.0) [
-    | inl is ↦ absurd (let ge : count ≤ x = grind (arith, nat_tests) in let l = both.1 in omega (arith, is, ge, l))
+    | inl is ↦ absurd (let so = both.1 in let same = ap f is in cc)
     | inr there ↦ h.1 (there, both.1)
   ],
 )
 
+pub kept_where : (f : ℕ → Bool) (xs : List ℕ) (p : ℕ) → Contains (filter f xs) p ↔ (Contains xs p × (f p ≡ true))
+kept_where f [] p = (λ has. absurd (nothing_in p has), λ both. absurd (nothing_in p both.0))
+kept_where f (x ∷ xs) p = front f x p (filter f xs) xs (f x) refl (kept_where f xs p)
+
 pub kept_below : (count : ℕ) (xs : List ℕ) (p : ℕ) → Contains (filter (λ q. nat_lt q count) xs) p ↔ (Contains xs p × (p < count))
-kept_below count [] p = (λ has. absurd (nothing_in p has), λ both. absurd (nothing_in p both.0))
-kept_below count (x ∷ xs) p = front count x p (filter (λ q. nat_lt q count) xs) xs (nat_lt x count) refl (kept_below count xs p)
+kept_below count xs p =
+    let kept = kept_where (λ q. nat_lt q count) xs p in (
+      λ has. let both = kept.0 has in (both.0, let h = both.1 in grind (arith, nat_tests, h)),
+      λ both. kept.1 (both.0, let l = both.1 in grind (arith, nat_tests, l)),
+    )
 
 -- the same of what is noted for one reason or another
 pub below_is : (P Q : ℕ → Type 0) (count : ℕ) (r : Result (List ℕ) AllocError) → ((p : ℕ) → P p ↔ Q p) → IfOk r (λ places. (p : ℕ) → Contains places p ↔ (P p × (p < count))) → IfOk r (λ places. (p : ℕ) → Contains places p ↔ (Q p × (p < count)))

@@ -27,7 +27,7 @@ asked_ok old mid new o p none said u v e start route own children f g h d s =
       out = out;
       next = d.next ∙ ap (λ (z : Done). z.next) same;
       waits = s.waits ∙ ap (λ ms. record o.retry { waiting = o.retry.waiting ++ ms }) out;
-      dues = s.dues ∙ ap (λ ds. o.dues.items ++ ds) dues;
+      dues = s.dues ∙ ap (λ ds. o.dues ++ ds) dues;
     }
 
 ---- All connections
@@ -40,5 +40,5 @@ entered_all new o p said u all d s =
       out = out;
       next = ap (λ (z : AllDone). z.next) d;
       waits = s.waits ∙ ap (λ ms. record o.retry { waiting = o.retry.waiting ++ ms }) out;
-      dues = s.dues ∙ ap (λ ds. o.dues.items ++ ds) (ap (λ (z : AllDone). z.dues) d);
+      dues = s.dues ∙ ap (λ ds. o.dues ++ ds) (ap (λ (z : AllDone). z.dues) d);
     }

@@ -30,7 +30,7 @@ made_none s out e = record { state = ap (λ w. record s { base = record s.base {
 
 pub heard_state : (setting : Setting) (m : Message) (bs cs : List Bond) (o p : Outbox) (next n now taken : ℕ) →
     let all = each_bond (answered setting.agent now m) 0 next bs in
-    cs ≡ all.bonds → p.retry ≡ record o.retry { waiting = o.retry.waiting ++ all.out } → p.dues.items ≡ o.dues.items ++ all.dues → n ≡ all.next →
+    cs ≡ all.bonds → p.retry ≡ record o.retry { waiting = o.retry.waiting ++ all.out } → p.dues ≡ o.dues ++ all.dues → n ≡ all.next →
     state_of cs p n now taken ≡ stored (hears setting (state_of bs o next now taken) m)
 unfolding hears
 heard_state setting m bs cs o p next n now taken e f g h = rw (hear_as_round setting.agent now m 0 next bs, e, f, g, h) refl
@@ -40,18 +40,18 @@ pub heard_out : (setting : Setting) (m : Message) (bs : List Bond) (o : Outbox) 
 unfolding hears
 heard_out setting m bs o next now taken = rw (hear_as_round setting.agent now m 0 next bs) refl
 
-pub ticked_state : (setting : Setting) (now : ℕ) (late : List Due) (bs cs : List Bond) (o p : Outbox) (next n before taken : ℕ) → late ≡ filter (is_late now o.retry.waiting) o.dues.items →
+pub ticked_state : (setting : Setting) (now : ℕ) (late : List Due) (bs cs : List Bond) (o p : Outbox) (next n before taken : ℕ) → late ≡ filter (is_late now o.retry.waiting) o.dues →
     let all = each_bond (clocked_bond setting.agent now late) 0 next bs in
-    cs ≡ all.bonds → p.retry ≡ record o.retry { waiting = o.retry.waiting ++ all.out } → p.dues.items ≡ told_dues now o.retry.waiting o.dues.items → n ≡ all.next →
+    cs ≡ all.bonds → p.retry ≡ record o.retry { waiting = o.retry.waiting ++ all.out } → p.dues ≡ told_dues now o.retry.waiting o.dues → n ≡ all.next →
     state_of cs p n now taken ≡ stored (ticks setting now (state_of bs o next before taken))
 unfolding ticks
 ticked_state setting now late bs cs o p next n before taken h0 e f g h =
-    rw (clock_as_round setting.agent now o.dues.items o.retry.waiting 0 next bs, ← h0, e, f, g, h, clock_keeps_children setting.agent now late 0 next bs) refl
+    rw (clock_as_round setting.agent now o.dues o.retry.waiting 0 next bs, ← h0, e, f, g, h, clock_keeps_children setting.agent now late 0 next bs) refl
 
-pub ticked_out : (setting : Setting) (now : ℕ) (late : List Due) (bs : List Bond) (o : Outbox) (next before taken : ℕ) → late ≡ filter (is_late now o.retry.waiting) o.dues.items →
+pub ticked_out : (setting : Setting) (now : ℕ) (late : List Due) (bs : List Bond) (o : Outbox) (next before taken : ℕ) → late ≡ filter (is_late now o.retry.waiting) o.dues →
     (ticks setting now (state_of bs o next before taken)).out ≡ (each_bond (clocked_bond setting.agent now late) 0 next bs).out
 unfolding ticks
-ticked_out setting now late bs o next before taken h0 = rw (clock_as_round setting.agent now o.dues.items o.retry.waiting 0 next bs, ← h0) refl
+ticked_out setting now late bs o next before taken h0 = rw (clock_as_round setting.agent now o.dues o.retry.waiting 0 next bs, ← h0) refl
 
 ---- One connection
 
@@ -66,7 +66,7 @@ request_done setting m now n next b = requested_bond setting.agent now m n next 
 
 pub requested_state : (setting : Setting) (m : Message) (n : ℕ) (bs cs : List Bond) (o p : Outbox) (next k now taken : ℕ) → n < length bs →
     let x = request_done setting m now n next (bond_at n bs) in
-    cs ≡ set bs n x.bond → p.retry ≡ record o.retry { waiting = o.retry.waiting ++ x.out } → p.dues.items ≡ o.dues.items ++ x.dues → k ≡ x.next →
+    cs ≡ set bs n x.bond → p.retry ≡ record o.retry { waiting = o.retry.waiting ++ x.out } → p.dues ≡ o.dues ++ x.dues → k ≡ x.next →
     state_of cs p k now taken ≡ stored (request_at setting (state_of bs o next now taken) n m)
 unfolding request_at
 requested_state setting m n bs cs o p next k now taken l e f g h =
@@ -79,7 +79,7 @@ unfolding request_at
 requested_out setting m n bs o next now taken l = rw (own_at bs n l, views_at bs n l) refl
 
 -- what is left where memory is wanting
-pub state_back : (bs cs : List Bond) (o p : Outbox) (next now taken : ℕ) → cs ≡ bs → p.retry ≡ o.retry → p.dues.items ≡ o.dues.items → state_of cs p next now taken ≡ state_of bs o next now taken
+pub state_back : (bs cs : List Bond) (o p : Outbox) (next now taken : ℕ) → cs ≡ bs → p.retry ≡ o.retry → p.dues ≡ o.dues → state_of cs p next now taken ≡ state_of bs o next now taken
 state_back bs cs o p next now taken e f g = rw (e, f, g) refl
 
 ---- A call that takes a request

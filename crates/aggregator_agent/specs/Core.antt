@@ -21,7 +21,7 @@ state_of bs o next now taken =
             taken = taken;
           };
       children = children_of bs;
-      dues = o.dues.items;
+      dues = o.dues;
       views = [];
     }
 

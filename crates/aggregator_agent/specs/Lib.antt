@@ -17,3 +17,4 @@ pub mod Requesting
 pub mod Indexed
 pub mod Settled
 pub mod Finding
+pub mod Dues

@@ -60,9 +60,9 @@ takes_new false setting s m = hears setting s m
 
 pub record IsStored {X : Type 0} (old new : Outbox) (said : Said) (result : Result X AllocError) : Type 0 where
   pub waits : OnOk result (new.retry ≡ record old.retry { waiting = old.retry.waiting ++ said.out.items })
-  pub dues : OnOk result (new.dues.items ≡ old.dues.items ++ said.dues.items)
+  pub dues : OnOk result (new.dues ≡ old.dues ++ said.dues.items)
   pub unsaid : OnErr result (new.retry ≡ old.retry)
-  pub undue : OnErr result (new.dues.items ≡ old.dues.items)
+  pub undue : OnErr result (new.dues ≡ old.dues)
 
 -- connections are done, and what they say is kept
 pub record IsEntered {B : Type 0} (new : B) (o p : Outbox) (x : Said) (b : B) (said : List Message) (due : List Due) (n : ℕ) : Type 0 where
@@ -70,4 +70,4 @@ pub record IsEntered {B : Type 0} (new : B) (o p : Outbox) (x : Said) (b : B) (s
   pub out : x.out.items ≡ said
   pub next : x.next ≡ n
   pub waits : p.retry ≡ record o.retry { waiting = o.retry.waiting ++ said }
-  pub dues : p.dues.items ≡ o.dues.items ++ due
+  pub dues : p.dues ≡ o.dues ++ due

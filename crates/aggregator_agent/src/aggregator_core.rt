@@ -10,8 +10,9 @@ ghost use Rattle.aggregator_agent.specs.Step.{IsStep, IsStepBy, IsTakenBy};
 use crate::agent::Agent;
 use crate::clock::Clocking;
 use crate::connection_table::ConnectionTable;
+use crate::due_table::DueTable;
 use crate::entering::Entering;
-use crate::late::find_late;
+use crate::late::{Lateness, find_late};
 use crate::outbox::Outbox;
 use message_retry::Retry;
 use nsi_base::{AgentNo, Second};
@@ -50,7 +51,7 @@ impl Core {
             connections: ConnectionTable::new(alloc),
             outbox: Outbox {
                 retry: Retry::new(alloc),
-                dues: Vec::new(alloc),
+                dues: DueTable::new(alloc),
             },
             now: Second::first(),
             taken: 0,
@@ -123,15 +124,15 @@ impl Core {
         ensures step { IsStep self.old self.new result (λ setting s. ticks setting now s) }
         ensures taken { self.new.taken ≡ self.old.taken }
     {
-        let lateness = find_late(alloc, &self.outbox, now)?;
+        let Lateness { late, places } = find_late(alloc, &self.outbox, now)?;
         let clocking = Clocking {
             agent: &self.agent,
-            late: &lateness.late,
+            late: &late,
             second: now,
         };
         let connections = &mut self.connections;
         let said = connections.clock(alloc, &mut self.outbox, &clocking, self.next)?;
-        self.outbox.dues = lateness.told;
+        self.outbox.dues.tell_at(places.items());
         self.now = now;
         self.next = said.next;
         Ok(said.out)

@@ -1,12 +1,13 @@
 //! How connections are found.
 
-ghost use Rattle.std.specs.Prelude.{◌≡◌, ◌<◌, ◌⊎◌, ◌↔◌, ◌++◌, ◌∷◌, ℕ, [], if◌then◌else◌, All, Contains, IfOk, OnOk, IfSome, Some, true};
+ghost use Rattle.std.specs.Prelude.{◌≡◌, ◌<◌, ◌⊎◌, ◌↔◌, ◌++◌, ◌∷◌, ℕ, [], All, Contains, IfOk, OnOk, IfSome, Some, true};
 ghost use Rattle.child_connection.specs.Views.{open_request};
 ghost use Rattle.aggregator_agent.specs.Bonds.{bond};
 ghost use Rattle.aggregator_agent.specs.Indexed.{id_at, end_at, StaysIn, Grows, IsViewNamed, IsNamed, IsEndNamedBut, schedule_end_of, numbers_of, MayHear, IsAbout, MayChange};
 
 use crate::clock::Clocking;
 use crate::connection::Connection;
+use crate::find::push_if;
 use agent_state::Due;
 use child_connection::ChildConnection;
 use id_index::IdIndex;
@@ -284,14 +285,4 @@ fn places_below(alloc: Global, places: &[usize], count: usize) -> Result<Places,
         push_if(&mut below, *place, *place < count)?;
     }
     Ok(Places::among(below))
-}
-
-fn push_if(places: &mut Vec<usize>, place: usize, is_there: bool) -> Result<(), AllocError>
-    ensures { let more = if is_there then place ∷ [] else [] in
-        OnOk result (places.new.items ≡ places.old.items ++ more) }
-{
-    if is_there {
-        places.push(place)?;
-    }
-    Ok(())
 }

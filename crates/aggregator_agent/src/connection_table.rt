@@ -96,7 +96,7 @@ impl ConnectionTable {
             outbox.old outbox.new said all.bonds all.out all.dues all.next) }
         ensures back { OnErr result (self.new ≡ self.old) }
         ensures unsaid { OnErr result (outbox.new.retry ≡ outbox.old.retry) }
-        ensures undue { OnErr result (outbox.new.dues.items ≡ outbox.old.dues.items) }
+        ensures undue { OnErr result (outbox.new.dues ≡ outbox.old.dues) }
     {
         let count = self.items.len();
         let places = self.index.hearing(alloc, entering.message, count)?;
@@ -126,7 +126,7 @@ impl ConnectionTable {
             outbox.old outbox.new said all.bonds all.out all.dues all.next) }
         ensures back { OnErr result (self.new ≡ self.old) }
         ensures unsaid { OnErr result (outbox.new.retry ≡ outbox.old.retry) }
-        ensures undue { OnErr result (outbox.new.dues.items ≡ outbox.old.dues.items) }
+        ensures undue { OnErr result (outbox.new.dues ≡ outbox.old.dues) }
     {
         let count = self.items.len();
         let places = self.index.clocked(alloc, clocking, count)?;
@@ -162,7 +162,7 @@ impl ConnectionTable {
             outbox.old outbox.new said entering.now next route) }
         ensures back { OnErr result (self.new ≡ self.old) }
         ensures unsaid { OnErr result (outbox.new.retry ≡ outbox.old.retry) }
-        ensures undue { OnErr result (outbox.new.dues.items ≡ outbox.old.dues.items) }
+        ensures undue { OnErr result (outbox.new.dues ≡ outbox.old.dues) }
     {
         let start = Start {
             number: number_of(place)?,
@@ -203,7 +203,7 @@ impl ConnectionTable {
             outbox.old outbox.new said entering.now next route) }
         ensures back { OnErr result (self.new ≡ self.old) }
         ensures unsaid { OnErr result (outbox.new.retry ≡ outbox.old.retry) }
-        ensures undue { OnErr result (outbox.new.dues.items ≡ outbox.old.dues.items) }
+        ensures undue { OnErr result (outbox.new.dues ≡ outbox.old.dues) }
     {
         let items = &mut self.items;
         let index = &mut self.index;
@@ -238,7 +238,7 @@ fn open_in(
         outbox.old outbox.new said entering.now next route) }
     ensures back { OnErr result (bonds items.new.items ≡ bonds items.old.items) }
     ensures unsaid { OnErr result (outbox.new.retry ≡ outbox.old.retry) }
-    ensures undue { OnErr result (outbox.new.dues.items ≡ outbox.old.dues.items) }
+    ensures undue { OnErr result (outbox.new.dues ≡ outbox.old.dues) }
 {
     items.reserve(1)?;
     let place = items.len();

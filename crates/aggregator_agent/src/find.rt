@@ -1,6 +1,6 @@
 //! How a connection is found.
 
-ghost use Rattle.std.specs.Prelude.{◌≡◌, ◌<◌, length, slice_index_or, IfSome, IfOk};
+ghost use Rattle.std.specs.Prelude.{◌≡◌, ◌<◌, ◌++◌, ◌∷◌, [], if◌then◌else◌, length, slice_index_or, IfSome, IfOk, OnOk};
 ghost use Rattle.aggregator_agent.specs.declared.connection.Connection.{Connection as ConnectionValue};
 ghost use Rattle.connection_record.specs.Refusal.{place_of};
 ghost use Rattle.aggregator_agent.specs.Bonds.{bonds, records_of, is_owned};
@@ -55,4 +55,15 @@ pub fn number_of(place: usize) -> Result<RecordNo, AllocError>
         Some(number) => Ok(number),
         None => Err(AllocError),
     }
+}
+
+/// Puts a place behind others, where it counts.
+pub fn push_if(places: &mut Vec<usize>, place: usize, counts: bool) -> Result<(), AllocError>
+    ensures { let more = if counts then place ∷ [] else [] in
+        OnOk result (places.new.items ≡ places.old.items ++ more) }
+{
+    if counts {
+        places.push(place)?;
+    }
+    Ok(())
 }

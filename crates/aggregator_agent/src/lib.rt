@@ -9,6 +9,7 @@ mod clock;
 pub mod connection;
 mod connection_index;
 mod connection_table;
+mod due_table;
 mod entering;
 mod find;
 mod hearing;

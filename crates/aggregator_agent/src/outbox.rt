@@ -4,8 +4,8 @@ ghost use Rattle.std.specs.Prelude.{◌≡◌};
 ghost use Rattle.message_retry.specs.Retry.{without};
 ghost use Rattle.aggregator_agent.specs.Step.{IsStored};
 
+use crate::due_table::DueTable;
 use crate::said::Said;
-use agent_state::Due;
 use message_retry::Retry;
 use nsi_primitive::Identity;
 use std::alloc::{AllocError, Global};
@@ -14,7 +14,7 @@ use std::alloc::{AllocError, Global};
 #[derive(Drop)]
 pub struct Outbox {
     pub retry: Retry,
-    pub dues: Vec<Due>,
+    pub dues: DueTable,
 }
 
 impl Outbox {
@@ -23,7 +23,7 @@ impl Outbox {
         ensures { IsStored self.old self.new said.now result }
     {
         let count = self.dues.len();
-        self.dues.extend_from_slice(&said.dues)?;
+        self.dues.extend(&said.dues)?;
         match self.retry.store(alloc, &said.out) {
             Ok(()) => Ok(()),
             Err(error) => {

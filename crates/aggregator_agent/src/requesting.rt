@@ -51,7 +51,7 @@ pub fn request(
         (IsNamedAgain index.new start.place (bond connection.old) (bond connection.new)) }
     ensures back { OnErr result (bond connection.new ≡ bond connection.old) }
     ensures unsaid { OnErr result (outbox.new.retry ≡ outbox.old.retry) }
-    ensures undue { OnErr result (outbox.new.dues.items ≡ outbox.old.dues.items) }
+    ensures undue { OnErr result (outbox.new.dues ≡ outbox.old.dues) }
 {
     let kept = connection.keep(alloc, start.place)?;
     match request_and_store(alloc, topology, connection, index, outbox, entering, start) {
@@ -81,7 +81,7 @@ fn request_and_store(
         IsRequested (bond connection.old) (bond connection.new)
         outbox.old outbox.new said entering.now start route) }
     ensures unsaid { OnErr result (outbox.new.retry ≡ outbox.old.retry) }
-    ensures undue { OnErr result (outbox.new.dues.items ≡ outbox.old.dues.items) }
+    ensures undue { OnErr result (outbox.new.dues ≡ outbox.old.dues) }
     ensures later { IsLater connection.old.own connection.new.own }
     ensures grows { Grows index.old index.new }
     ensures named { OnOk result

@@ -54,7 +54,7 @@ pub fn hear_all(
         OnErr result (bonds connections.new.items ≡ old) }
     ensures found { AreFound index.new (bonds connections.new.items) }
     ensures unsaid { OnErr result (outbox.new.retry ≡ outbox.old.retry) }
-    ensures undue { OnErr result (outbox.new.dues.items ≡ outbox.old.dues.items) }
+    ensures undue { OnErr result (outbox.new.dues ≡ outbox.old.dues) }
 {
     let mut round = Round::new(alloc, next);
     let heard = round.hear_and_store(alloc, connections, index, places, outbox, entering);
@@ -93,7 +93,7 @@ pub fn clock_all(
         Contains ends.new d ↔ ((clocking.now.second < d.second) × Contains ends.old d)) }
     ensures left { OnErr result (ends.new ≡ ends.old) }
     ensures unsaid { OnErr result (outbox.new.retry ≡ outbox.old.retry) }
-    ensures undue { OnErr result (outbox.new.dues.items ≡ outbox.old.dues.items) }
+    ensures undue { OnErr result (outbox.new.dues ≡ outbox.old.dues) }
 {
     let mut round = Round::new(alloc, next);
     let clocked = round.clock_and_store(alloc, connections, places, outbox, clocking);

@@ -79,8 +79,9 @@ impl Connection {
         number: RecordNo,
     ) -> Result<(), AllocError>
         ensures done { let e = entering.now in
+            let m = e.message.now in
             let next = said.old.next in
-            let one = requested_bond e.agent.now e.second e.message.now number next (bond self.old) in
+            let one = requested_bond e.agent.now e.second m number next (bond self.old) in
             IsDone said.old said.new (bond self.new) result one }
         ensures later { IsLater self.old.own self.new.own }
     {

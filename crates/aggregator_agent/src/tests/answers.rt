@@ -202,7 +202,7 @@ const ENDED: [Row; 4] = [
     ),
 ];
 
-const LATE: [Row; 5] = [
+const LATE: [Row; 7] = [
     (
         "Within time nothing is told.",
         &[RESERVE, Step::Tick(119)],
@@ -238,6 +238,34 @@ const LATE: [Row; 5] = [
             (Kind::MessageDeliveryTimeout, 3, 5),
         ],
         5,
+    ),
+    (
+        "A later one that isn't acknowledged is told alone, beside two that were told and one that was acknowledged.",
+        &[
+            RESERVE,
+            Step::Tick(60),
+            SECOND,
+            Step::Tick(120),
+            Step::Acked(0, 5),
+            Step::Tick(180),
+        ],
+        &[(Kind::MessageDeliveryTimeout, 3, 9)],
+        8,
+    ),
+    (
+        "And none of them again.",
+        &[
+            RESERVE,
+            Step::Tick(60),
+            SECOND,
+            Step::Tick(120),
+            Step::Acked(0, 5),
+            Step::Tick(180),
+            Step::Acked(1, 3),
+            Step::Tick(300),
+        ],
+        &[],
+        7,
     ),
 ];
 
@@ -322,6 +350,51 @@ const BESIDE: [Row; 6] = [
     ),
 ];
 
+const ENDED_AT_ONCE: [Row; 2] = [
+    (
+        "Of two schedules that end on one tick the first connection ends.",
+        &[
+            RESERVE,
+            SECOND,
+            HOLDS_1,
+            HOLDS_2,
+            SECOND_HOLDS_1,
+            SECOND_HOLDS_2,
+            Step::Asked("r1", 3, Wish::Commit),
+            Step::Answered(0, 7, Said::Committed),
+            Step::Answered(1, 8, Said::Committed),
+            Step::Asked("r1", 4, Wish::CommitSecond),
+            Step::Answered(0, 9, Said::Committed),
+            Step::Answered(1, 10, Said::Committed),
+            Step::Tick(2000),
+            Step::Asked("r1", 5, Wish::Provision),
+        ],
+        &[(Kind::Error, 4, 5)],
+        23,
+    ),
+    (
+        "So does the second.",
+        &[
+            RESERVE,
+            SECOND,
+            HOLDS_1,
+            HOLDS_2,
+            SECOND_HOLDS_1,
+            SECOND_HOLDS_2,
+            Step::Asked("r1", 3, Wish::Commit),
+            Step::Answered(0, 7, Said::Committed),
+            Step::Answered(1, 8, Said::Committed),
+            Step::Asked("r1", 4, Wish::CommitSecond),
+            Step::Answered(0, 9, Said::Committed),
+            Step::Answered(1, 10, Said::Committed),
+            Step::Tick(2000),
+            Step::Asked("r1", 5, Wish::ProvisionSecond),
+        ],
+        &[(Kind::Error, 4, 5)],
+        23,
+    ),
+];
+
 const PLANES: [Row; 2] = [
     (
         "One active child is not told.",
@@ -401,6 +474,15 @@ fn late_requests_are_right(rt: HostRuntime) -> Result<(), Fail> {
 #[test]
 fn connections_beside_each_other_are_right(rt: HostRuntime) -> Result<(), Fail> {
     for row in &BESIDE {
+        let is_right = is_right(rt.alloc(), Over::Two, row)?;
+        assert!(rt; is_right, "{}", row.0);
+    }
+    Ok(())
+}
+
+#[test]
+fn schedules_that_end_at_once_are_right(rt: HostRuntime) -> Result<(), Fail> {
+    for row in &ENDED_AT_ONCE {
         let is_right = is_right(rt.alloc(), Over::Two, row)?;
         assert!(rt; is_right, "{}", row.0);
     }

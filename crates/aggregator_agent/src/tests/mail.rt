@@ -15,7 +15,8 @@ use nsi_primitive::{
 use std::alloc::Global;
 use std::test::Fail;
 
-/// What is asked: a first reserve from A to a point, or something of the connection that a1 made first.
+/// What is asked: a first reserve from A to a point, or something of the connection that a1 made first, or of the one that it
+/// made as its second under its fourth id.
 #[derive(Clone, Copy)]
 pub(super) enum Wish {
     First(&'static str),
@@ -25,6 +26,8 @@ pub(super) enum Wish {
     Provision,
     Release,
     Terminate,
+    CommitSecond,
+    ProvisionSecond,
 }
 
 #[derive(Clone, Copy)]
@@ -116,6 +119,7 @@ fn wished(alloc: Global, wish: Wish) -> Result<Body, Fail>
     ensures served { IfOk result (λ body. is_query body ≡ false) }
 {
     let connection = id(3, 1)?;
+    let second = id(3, 4)?;
     match wish {
         Wish::First(dest) => reserve(alloc, dest),
         Wish::Modify => modify(),
@@ -124,6 +128,8 @@ fn wished(alloc: Global, wish: Wish) -> Result<Body, Fail>
         Wish::Provision => Ok(Body::Provision { connection }),
         Wish::Release => Ok(Body::Release { connection }),
         Wish::Terminate => Ok(Body::Terminate { connection }),
+        Wish::CommitSecond => Ok(Body::ReserveCommit { connection: second }),
+        Wish::ProvisionSecond => Ok(Body::Provision { connection: second }),
     }
 }
 

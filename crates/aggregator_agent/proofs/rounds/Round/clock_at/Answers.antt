@@ -1,12 +1,11 @@
-use Rattle.std.proofs.Common.{◌≡◌, ◌∙◌, ◌∷◌, ◌++◌, [], set, sym, ap, subst, arith}
-use Rattle.std.proofs.lemmas.List.{length-map}
+use Rattle.std.proofs.Common.{◌≡◌, ◌∙◌, set, ap, subst}
 use Rattle.std.specs.Global.{Vec}
 use Rattle.child_connection.specs.Views.{ChildConnection}
 use Rattle.connection_record.specs.Later.{IsLater, saved_of}
 use Rattle.aggregator_agent.specs.Bonds.{Bond, bond, bonds, bond_at, clocked_bond, IsDoneAt}
-use Rattle.aggregator_agent.specs.Undo.{CanUndo, IsFormer}
-use Rattle.aggregator_agent.proofs.Touching.{read_at, put_at, done_at}
-use Rattle.aggregator_agent.proofs.Undo.{former_own, undo_more}
+use Rattle.aggregator_agent.specs.Undo.{IsFormer}
+use Rattle.aggregator_agent.proofs.Touching.{read_at, kept_at, done_at}
+use Rattle.aggregator_agent.proofs.Undo.{former_own}
 use Rattle.aggregator_agent.proofs.rounds.Round.clock_at.Goals as goal
 
 pub returns-clause-done : goal.returns-clause-done
@@ -35,9 +34,4 @@ returns-clause-undo c was undo =
     let former : IsFormer k b (bond y) =
     former_own k b (bond y) (c.keep_own-kept.ensures.own ∙ ap (λ (o : Bond). saved_of o.own) before) c.keep_own-kept.ensures.children later (ap (λ (v : Vec ChildConnection). v.items) c.clock.ensures.children ∙ ap (λ (o : Bond). o.children) at) in
     let place : k.place ≡ n = c.keep_own-kept.ensures.place in
-    let long = length-map xs bond in
-    let kept = c.args.self.now.kept.items in
-    let more : CanUndo was (set (bonds xs) n (bond y)) (kept ++ k ∷ []) =
-    subst (λ i. CanUndo was (set (bonds xs) i (bond y)) (kept ++ k ∷ [])) place
-    (undo_more was (bonds xs) kept k (bond y) (omega (arith, long, place, c.requires.within)) (λ h has e. c.requires.new h has (e ∙ place)) (subst (λ i. IsFormer k (bond_at i (bonds xs)) (bond y)) (sym place) former) undo) in
-    subst (λ ks. CanUndo was (bonds (set xs n y)) ks) (sym c.in_ok-push.ensures.items) (subst (λ bs. CanUndo was bs (kept ++ k ∷ [])) (sym (put_at xs n y)) more)
+    kept_at was xs n y c.args.self.now.kept.items _ k c.requires.within place c.requires.new former c.in_ok-push.ensures.items undo

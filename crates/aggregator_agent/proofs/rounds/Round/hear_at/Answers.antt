@@ -1,12 +1,12 @@
-use Rattle.std.proofs.Common.{◌≡◌, ◌∙◌, ◌∷◌, ◌++◌, [], set, sym, ap, subst, arith}
+use Rattle.std.proofs.Common.{◌≡◌, ◌∙◌, set, sym, ap, subst, arith}
 use Rattle.std.proofs.lemmas.List.{length-map}
 use Rattle.connection_record.specs.Later.{IsLater}
 use Rattle.aggregator_agent.specs.Bonds.{Bond, bond, bonds, bond_at, answered, IsDoneAt}
-use Rattle.aggregator_agent.specs.Undo.{CanUndo, Keeps, IsFormer}
-use Rattle.aggregator_agent.proofs.Touching.{read_at, put_at, done_at}
+use Rattle.aggregator_agent.specs.Undo.{Keeps, IsFormer}
+use Rattle.aggregator_agent.proofs.Touching.{read_at, put_at, kept_at, done_at}
 use Rattle.aggregator_agent.specs.Indexed.{IsNamedAgain}
 use Rattle.aggregator_agent.proofs.Found.{ok_more}
-use Rattle.aggregator_agent.proofs.Undo.{former_by, undo_more, set_here}
+use Rattle.aggregator_agent.proofs.Undo.{former_by, set_here}
 use Rattle.aggregator_agent.proofs.rounds.Round.hear_at.Goals as goal
 
 pub returns-clause-done : goal.returns-clause-done
@@ -35,12 +35,7 @@ returns-clause-undo c was undo =
     let keeps : Keeps k b = subst (Keeps k) before c.in_ok-kept.ensures.keeps in
     let former : IsFormer k b (bond y) = former_by k b (bond y) keeps later in
     let place : k.place ≡ n = c.in_ok-kept.ensures.place in
-    let long = length-map xs bond in
-    let kept = c.args.self.now.kept.items in
-    let more : CanUndo was (set (bonds xs) n (bond y)) (kept ++ k ∷ []) =
-    subst (λ i. CanUndo was (set (bonds xs) i (bond y)) (kept ++ k ∷ [])) place
-    (undo_more was (bonds xs) kept k (bond y) (omega (arith, long, place, c.requires.within)) (λ h has e. c.requires.new h has (e ∙ place)) (subst (λ i. IsFormer k (bond_at i (bonds xs)) (bond y)) (sym place) former) undo) in
-    subst (λ ks. CanUndo was (bonds (set xs n y)) ks) (sym c.in_ok-push.ensures.items) (subst (λ bs. CanUndo was bs (kept ++ k ∷ [])) (sym (put_at xs n y)) more)
+    kept_at was xs n y c.args.self.now.kept.items _ k c.requires.within place c.requires.new former c.in_ok-push.ensures.items undo
 
 pub returns-clause-named : goal.returns-clause-named
 returns-clause-named c =
