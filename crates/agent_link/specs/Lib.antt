@@ -1,3 +1,4 @@
+pub mod Plans
 pub mod Link
 pub mod Ring
 pub mod Line

@@ -5,7 +5,8 @@ use Rattle.rtrb.specs.Ring.{sent, received, known_items}
 use Rattle.rtrb.specs.declared.producer.Producer.{Producer}
 use Rattle.rtrb.specs.declared.consumer.Consumer.{Consumer}
 use Rattle.nsi_primitive.specs.declared.message.Parcel.{Parcel}
-use Rattle.agent_link.specs.Link.{Half, unboxed}
+use Rattle.agent_link.specs.Plans.{Plan}
+use Rattle.agent_link.specs.Link.{Half, OutHalf, unboxed}
 
 -- so many places a ring has
 abbrev pub slots : ℕ
@@ -16,11 +17,12 @@ module _ {P : Type 0} where
   abbrev pub before : Producer (Box Parcel Global) Global P → ℕ → ℕ
   before p count = length (sent p) - count
 
-  abbrev pub out_half : Producer (Box Parcel Global) Global P → ℕ → Half
-  out_half p count =
+  abbrev pub out_half : Producer (Box Parcel Global) Global P → ℕ → Plan → OutHalf
+  out_half p count plan =
       record {
         parcels = map unboxed (drop (before p count) (sent p));
         wire = record { words = p.end.words; slots = p.end.slots; names = p.end.names; heap = p.end.heap; met = before p count };
+        plan = plan;
       }
 
   abbrev pub in_half : Consumer (Box Parcel Global) Global P → Half

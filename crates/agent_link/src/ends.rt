@@ -1,10 +1,11 @@
 //! The two ends of a link.
 
-ghost use Rattle.std.specs.Prelude.{◌≡◌, ◌==◌, ◌↔◌, [], true, length, IfOk, IfErr, OnOk, OnErr, IsErrOf, IfSome};
+ghost use Rattle.std.specs.Prelude.{◌≡◌, ◌==◌, ◌≤◌, ◌<◌, ◌+◌, ◌↔◌, [], ◌∷◌, ◌++◌, true, length, IfOk, IfErr, OnOk, OnErr, IsErrOf, IfSome};
 ghost use Rattle.nsi_primitive.specs.Printable.{IsPrintableParcel};
-ghost use Rattle.agent_link.specs.Link.{is_full, pushed, next_of, taken, ends, met, handed_back};
+ghost use Rattle.agent_link.specs.Plans.{fate_of, copies};
+ghost use Rattle.agent_link.specs.Link.{most_parcels, is_full, pushed, next_of, taken, ends, met, handed_back, unboxed};
 
-use crate::plan::LinkFault;
+use crate::plan::{LinkFault, ParcelKind, Plan, Pushed};
 use crate::spelled::Spelled;
 use nsi_base::List;
 use nsi_primitive::Parcel;
@@ -18,22 +19,23 @@ const MOST_PARCELS: usize = 1024;
 /// A ring has room for what is known at the one end beside what was let through at the other since.
 const SLOTS: usize = 2048;
 
-/// The end that parcels are pushed to. It counts those that it let through since the ends met.
+/// The end that parcels are put on. It counts those that it let through since the ends met.
 #[derive(Drop)]
 pub struct Outgoing {
     ring: Producer<Box<Parcel>, Global, Spelled>,
     count: usize,
+    plan: Plan,
 }
 
 impl Model for Outgoing {
     ghost use Rattle.std.specs.Prelude.{◌≡◌, ◌≤◌, ◌+◌, length};
     ghost use Rattle.rtrb.specs.Ring.{sent, known_free, producer_capacity};
-    ghost use Rattle.agent_link.specs.Link.{Half, most_parcels};
+    ghost use Rattle.agent_link.specs.Link.{OutHalf, most_parcels};
     ghost use Rattle.agent_link.specs.Ring.{out_half, slots};
 
-    ghost Value = { Half };
+    ghost Value = { OutHalf };
 
-    ghost view = { λ o. out_half o.ring o.count };
+    ghost view = { λ o. out_half o.ring o.count o.plan };
 
     ghost invariant = { λ o. (o.count ≤ length (sent o.ring))
         × (o.count ≤ most_parcels)
@@ -56,16 +58,6 @@ impl Model for Incoming {
     ghost view = { λ i. in_half i.ring };
 }
 
-/// What became of a parcel that was put on a link.
-#[derive(Clone, Copy, Debug, PartialEq, Eq)]
-pub enum Pushed {
-    Once,
-    /// It never comes.
-    Lost,
-    /// It comes twice.
-    Twice,
-}
-
 /// Why a parcel wasn't put on a link: it is handed back.
 #[derive(Debug, Drop)]
 pub enum PushFault {
@@ -74,18 +66,18 @@ pub enum PushFault {
     NoMemory(Parcel),
 }
 
-/// A link, of which nothing is lost or comes twice.
+/// A link, of whose parcels the planned ones are lost or come twice.
 pub fn link(alloc: Global, plan: List<LinkFault>) -> Result<(Outgoing, Incoming), AllocError>
-    requires none { plan ≡ [] }
     ensures empty { IfOk result (λ r. (r.0.parcels ≡ []) × (r.1.parcels ≡ [])) }
+    ensures plan { IfOk result (λ r. r.0.plan ≡ plan) }
     ensures pair { IfOk result (λ r. r.0.wire ≡ r.1.wire) }
 {
-    drop(plan);
     let (producer, consumer) = RingBuffer::with_protocol::<Global, Spelled>(alloc, SLOTS)?;
     Ok((
         Outgoing {
             ring: producer,
             count: 0,
+            plan: Plan::of(plan),
         },
         Incoming { ring: consumer },
     ))
@@ -98,27 +90,92 @@ impl Outgoing {
         ensures { self.new ≡ self.old }
     {}
 
-    /// Lets a parcel through, or hands it back.
+    /// Whether nothing was let through since the ends met.
+    pub fn is_empty(&self) -> bool
+        ensures { result ≡ (length self.now.parcels == 0) }
+    {
+        self.count == 0
+    }
+
+    /// Puts a parcel on the link, or hands it back. What is refused isn't counted.
     pub fn push(&mut self, alloc: Global, parcel: Parcel) -> Result<Pushed, PushFault>
         requires printable { IsPrintableParcel parcel }
-        ensures ok { OnOk result
-            (self.new ≡ record self.old { parcels = pushed parcel self.old.parcels }) }
-        ensures once { IfOk result (λ made. made ≡ Pushed.Once) }
-        ensures full { IsErrOf result (PushFault.Full parcel) ↔ is_full self.old.parcels ≡ true }
+        ensures ok { OnOk result (self.new ≡ pushed parcel self.old) }
+        ensures made { IfOk result (λ made. made ≡ fate_of parcel self.old.plan) }
+        ensures full { IsErrOf result (PushFault.Full parcel)
+            ↔ is_full parcel self.old.plan self.old.parcels ≡ true }
         ensures back { IfErr result (λ fault. handed_back fault ≡ parcel) }
         ensures err { OnErr result (self.new ≡ self.old) }
     {
-        if self.count >= MOST_PARCELS {
+        let kind = ParcelKind::of(&parcel);
+        let made = self.plan.fate_of(&parcel);
+        if made.times() > MOST_PARCELS - self.count {
             return Err(PushFault::Full(parcel));
         }
-        match Box::new(alloc, parcel) {
-            Ok(boxed) => {
-                self.ring.push_reserved(boxed);
-                self.count += 1;
-                Ok(Pushed::Once)
+        self.let_through(alloc, made, parcel)?;
+        self.plan.pass(kind);
+        Ok(made)
+    }
+
+    /// Lets through what comes of a parcel, for which there is room.
+    fn let_through(&mut self, alloc: Global, made: Pushed, parcel: Parcel) -> Result<(), PushFault>
+        requires printable { IsPrintableParcel parcel }
+        requires room { length self.old.parcels + length (copies made parcel) ≤ most_parcels }
+        ensures ok { OnOk result
+            (self.new ≡ record self.old { parcels = self.old.parcels ++ copies made parcel }) }
+        ensures memory { IfErr result (λ fault. fault ≡ PushFault.NoMemory parcel) }
+        ensures err { OnErr result (self.new ≡ self.old) }
+    {
+        match made {
+            Pushed::Lost => {
+                drop(parcel);
+                Ok(())
             }
-            Err(refused) => Err(PushFault::NoMemory(refused.value)),
+            Pushed::Once => {
+                let boxed = boxed(alloc, parcel)?;
+                self.put(boxed);
+                Ok(())
+            }
+            Pushed::Twice => {
+                let Ok(again) = boxed_copy(alloc, &parcel) else {
+                    return Err(PushFault::NoMemory(parcel));
+                };
+                let boxed = boxed(alloc, parcel)?;
+                self.put(boxed);
+                self.put(again);
+                Ok(())
+            }
         }
+    }
+
+    /// Lets one parcel through, for which there is room.
+    fn put(&mut self, boxed: Box<Parcel>)
+        requires printable { IsPrintableParcel (unboxed boxed) }
+        requires room { length self.old.parcels < most_parcels }
+        ensures { self.new ≡ record self.old { parcels = self.old.parcels ++ unboxed boxed ∷ [] } }
+    {
+        self.ring.push_reserved(boxed);
+        self.count += 1;
+    }
+}
+
+fn boxed(alloc: Global, parcel: Parcel) -> Result<Box<Parcel>, PushFault>
+    ensures ok { IfOk result (λ boxed. unboxed boxed ≡ parcel) }
+    ensures err { IfErr result (λ fault. fault ≡ PushFault.NoMemory parcel) }
+{
+    match Box::new(alloc, parcel) {
+        Ok(boxed) => Ok(boxed),
+        Err(refused) => Err(PushFault::NoMemory(refused.value)),
+    }
+}
+
+fn boxed_copy(alloc: Global, parcel: &Parcel) -> Result<Box<Parcel>, AllocError>
+    ensures { IfOk result (λ boxed. unboxed boxed ≡ parcel.now) }
+{
+    let parcel = parcel.copy()?;
+    match Box::new(alloc, parcel) {
+        Ok(boxed) => Ok(boxed),
+        Err(_) => Err(AllocError),
     }
 }
 
@@ -166,6 +223,7 @@ pub fn meet(out: &mut Outgoing, incoming: &mut Incoming)
     ensures met { ends out.new incoming.new ≡ met (ends out.old incoming.old) }
     ensures given { incoming.new.parcels ≡ out.old.parcels }
     ensures shut { out.new.parcels ≡ [] }
+    ensures plan { out.new.plan ≡ out.old.plan }
     ensures pair { out.new.wire ≡ incoming.new.wire }
 {
     out.ring.slots_beside(&mut incoming.ring);

@@ -6,8 +6,8 @@ pub mod laws;
 pub mod plan;
 mod spelled;
 
-pub use ends::{Incoming, Outgoing, PushFault, Pushed, link, meet};
-pub use plan::{How, LinkFault, ParcelKind};
+pub use ends::{Incoming, Outgoing, PushFault, link, meet};
+pub use plan::{How, LinkFault, ParcelKind, Pushed};
 
 #[cfg(test)]
 mod tests;

@@ -3,7 +3,7 @@
 ghost use Rattle.std.specs.Prelude.{◌≡◌, IfOk};
 ghost use Rattle.nsi_primitive.specs.Printable.{IsPrintableParcel};
 
-use crate::{Incoming, Outgoing, PushFault, Pushed, link, meet};
+use crate::{How, Incoming, LinkFault, Outgoing, ParcelKind, PushFault, Pushed, link, meet};
 use nsi_base::{List, Name};
 use nsi_primitive::{Id, Identity, Kind, Parcel};
 use std::alloc::{AllocError, Global};
@@ -88,5 +88,107 @@ fn a_link_takes_1024_parcels_between_two_meetings(rt: HostRuntime) -> Result<(),
     incoming.clear();
     meet(&mut out, &mut incoming);
     assert_eq!(rt; fill(alloc, &mut out, 2000)?, 1024);
+    Ok(())
+}
+
+/// Puts one acknowledgement on the link: what became of it, or nothing where the link refuses it.
+fn put_one(alloc: Global, out: &mut Outgoing, kind: Kind) -> Result<Option<Pushed>, Fail>
+    ensures { out.new.wire ≡ out.old.wire }
+{
+    let parcel = ack(alloc, kind)?;
+    match out.push(alloc, parcel) {
+        Ok(made) => Ok(Some(made)),
+        Err(fault) => {
+            drop(fault);
+            Ok(None)
+        }
+    }
+}
+
+/// A plan of one line for acknowledgements.
+fn plan_of(alloc: Global, nth: u64, how: How) -> Result<List<LinkFault>, AllocError> {
+    let mut plan = List::new(alloc);
+    plan.push(LinkFault {
+        of: ParcelKind::Ack,
+        nth,
+        how,
+    })?;
+    Ok(plan)
+}
+
+#[test]
+fn the_planned_one_is_lost(rt: HostRuntime) -> Result<(), Fail> {
+    let alloc = rt.alloc();
+    let plan = plan_of(alloc, 2, How::Lose)?;
+    let (mut out, mut incoming) = link(alloc, plan)?;
+    assert_eq!(rt;
+        put_one(alloc, &mut out, Kind::Reserve)?,
+        Some(Pushed::Once)
+    );
+    assert_eq!(rt;
+        put_one(alloc, &mut out, Kind::Provision)?,
+        Some(Pushed::Lost)
+    );
+    assert_eq!(rt;
+        put_one(alloc, &mut out, Kind::Release)?,
+        Some(Pushed::Once)
+    );
+    incoming.clear();
+    meet(&mut out, &mut incoming);
+    assert!(rt; next_is(&mut incoming, Kind::Reserve));
+    assert!(rt; next_is(&mut incoming, Kind::Release));
+    assert!(rt; incoming.is_empty());
+    Ok(())
+}
+
+#[test]
+fn the_planned_one_comes_twice(rt: HostRuntime) -> Result<(), Fail> {
+    let alloc = rt.alloc();
+    let plan = plan_of(alloc, 1, How::Repeat)?;
+    let (mut out, mut incoming) = link(alloc, plan)?;
+    assert_eq!(rt;
+        put_one(alloc, &mut out, Kind::Reserve)?,
+        Some(Pushed::Twice)
+    );
+    assert_eq!(rt;
+        put_one(alloc, &mut out, Kind::Provision)?,
+        Some(Pushed::Once)
+    );
+    incoming.clear();
+    meet(&mut out, &mut incoming);
+    assert!(rt; next_is(&mut incoming, Kind::Reserve));
+    assert!(rt; next_is(&mut incoming, Kind::Reserve));
+    assert!(rt; next_is(&mut incoming, Kind::Provision));
+    assert!(rt; incoming.is_empty());
+    Ok(())
+}
+
+#[test]
+fn one_that_comes_twice_waits_for_two_places(rt: HostRuntime) -> Result<(), Fail> {
+    let alloc = rt.alloc();
+    let plan = plan_of(alloc, 1024, How::Repeat)?;
+    let (mut out, mut incoming) = link(alloc, plan)?;
+    assert_eq!(rt; fill(alloc, &mut out, 2000)?, 1023);
+    incoming.clear();
+    meet(&mut out, &mut incoming);
+    assert_eq!(rt;
+        put_one(alloc, &mut out, Kind::Reserve)?,
+        Some(Pushed::Twice)
+    );
+    Ok(())
+}
+
+#[test]
+fn a_lost_one_needs_no_place(rt: HostRuntime) -> Result<(), Fail> {
+    let alloc = rt.alloc();
+    let plan = plan_of(alloc, 1025, How::Lose)?;
+    let (mut out, incoming) = link(alloc, plan)?;
+    drop(incoming);
+    assert_eq!(rt; fill(alloc, &mut out, 1024)?, 1024);
+    assert_eq!(rt;
+        put_one(alloc, &mut out, Kind::Reserve)?,
+        Some(Pushed::Lost)
+    );
+    assert_eq!(rt; put_one(alloc, &mut out, Kind::Reserve)?, None);
     Ok(())
 }

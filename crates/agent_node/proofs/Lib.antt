@@ -1,5 +1,7 @@
 pub mod Joints
+pub mod Stillness
 pub mod Pushing
+pub mod Passing
 pub mod Rows
 pub mod Growing
 pub mod Allowed
@@ -7,6 +9,7 @@ pub mod Answered
 pub mod Entering
 pub mod Stepping
 pub mod Making
+pub mod Resting
 pub mod Filtering
 pub mod Beginning
 pub mod Pairing

@@ -25,7 +25,7 @@ same_agent : (a b : Seated) (z y : Option TurnFault) (m n : Meter) (k j : Option
 same_agent a b z y m n k j s = record { network = s.network; number = s.number; others = s.others }
 
 -- the disk was not called
-no_call : (m : Meter) (z : Option TurnFault) → (z ≡ Some TurnFault.DiskFault → ⊥) → (z ≡ Some TurnFault.Stopped → ⊥) → HasTurnCause m m z
+pub no_call : (m : Meter) (z : Option TurnFault) → (z ≡ Some TurnFault.DiskFault → ⊥) → (z ≡ Some TurnFault.Stopped → ⊥) → HasTurnCause m m z
 no_call m z p q = record {
   faults = le_refl m.faults;
   stops = le_refl m.stops;
@@ -37,7 +37,7 @@ no_call m z p q = record {
 
 ---- What isn't synced
 
-none_fresh : (h : Home) (s : Seat) → s.fresh ≡ [] → synced_all h s ≡ s
+pub none_fresh : (h : Home) (s : Seat) → s.fresh ≡ [] → synced_all h s ≡ s
 unfolding syncs_if
 none_fresh h s e = ap (λ es. syncs_if (length es == 0) h s) e
 
@@ -51,7 +51,7 @@ some_fresh h s e = ap (λ b. syncs_if b h s) (cases_fresh s.fresh e)
 sync_event_more : (h : Home) (s : Seat) → 0 < length s.fresh → count (synced_all h s) ≡ count s + 1
 sync_event_more h s e = ap (λ (x : Seat). count x) (some_fresh h s e) ∙ length-append s.events (sync_event s.number (s.synced + length s.fresh) ∷ [])
 
-adds_none : (k : Option Journaled) → IfSome k (λ x. x.waiting ≡ []) → Adds [] k k
+pub adds_none : (k : Option Journaled) → IfSome k (λ x. x.waiting ≡ []) → Adds [] k k
 adds_none None h = tt
 adds_none (Some x) h = ap Some (ap (λ es. record { synced = x.synced; waiting = es }) h ∙ ap (λ es. record { synced = es; waiting = [] }) (sym (append-nil x.synced)))
 
@@ -165,7 +165,7 @@ made_synced room c d m n k j r x h cause adds more some told s = record {
 abbrev pub enters_all : List (ℕ × Parcel) → Home → Seat → Seat
 enters_all xs h s = turn_entered h xs s
 
-turn_is : (h : Home) (xs : List (ℕ × Parcel)) (s : Seat) → turn_with h xs s ≡ pushed (synced_all h (turn_entered h xs s))
+pub turn_is : (h : Home) (xs : List (ℕ × Parcel)) (s : Seat) → turn_with h xs s ≡ pushed (synced_all h (turn_entered h xs s))
 unfolding turn_with
 turn_is h xs s = refl
 

@@ -1,6 +1,6 @@
 -- Two agents with one link.
 use Rattle.std.proofs.Common.{ℕ, ◌≡◌, List, [], ◌∷◌, Some, refl, sym, ap, ◌∙◌}
-use Rattle.agent_link.specs.Link.{Half, Wire}
+use Rattle.agent_link.specs.Link.{Half, OutHalf, Wire}
 use Rattle.agent_node.specs.Doors.{Plug, plug_to, crossed}
 use Rattle.agent_node.specs.Kept.{Kept, AreLinked, plug_by}
 use Rattle.agent_node.proofs.Joints.{plug_here}
@@ -12,11 +12,11 @@ linked_still a b c d p n q m l =
     ∙ (ap (λ (k : ℕ). plug_to k a.plugs) m
     ∙ (l ∙ sym (ap (λ (ps : List Plug). crossed (plug_to c.seat.number ps)) q ∙ ap (λ (k : ℕ). crossed (plug_to k b.plugs)) n)))
 
-one_plug : (n : ℕ) (out inc : Half) → plug_to n (plug_by n out inc ∷ []) ≡ Some (out.wire, inc.wire)
+one_plug : (n : ℕ) (out : OutHalf) (inc : Half) → plug_to n (plug_by n out inc ∷ []) ≡ Some (out.wire, inc.wire)
 one_plug n out inc = plug_here n (plug_by n out inc) [] refl
 
 -- one link between them, and its ends are pairs
-pub paired : (a b : Kept) (n m : ℕ) (out heard back told : Half) → a.seat.number ≡ n → b.seat.number ≡ m → a.plugs ≡ plug_by m out told ∷ [] → b.plugs ≡ plug_by n back heard ∷ []
+pub paired : (a b : Kept) (n m : ℕ) (out : OutHalf) (heard : Half) (back : OutHalf) (told : Half) → a.seat.number ≡ n → b.seat.number ≡ m → a.plugs ≡ plug_by m out told ∷ [] → b.plugs ≡ plug_by n back heard ∷ []
     → out.wire ≡ heard.wire → back.wire ≡ told.wire → AreLinked a b
 paired a b n m out heard back told p q r s u v =
     ap (λ (ps : List Plug). plug_to b.seat.number ps) r

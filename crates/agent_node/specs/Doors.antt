@@ -1,5 +1,5 @@
 -- An agent's ends of the links to others.
-use Rattle.std.specs.Prelude.{ℕ, ◌≡◌, ◌-◌, ◌==◌, ◌&&◌, Bool, false, List, [], ◌∷◌, ◌++◌, length, map, flat_map, take, drop, if◌then◌else◌, Option, Some, None}
+use Rattle.std.specs.Prelude.{ℕ, ◌≡◌, ◌==◌, ◌&&◌, Bool, true, false, List, [], ◌∷◌, ◌++◌, length, map, flat_map, if◌then◌else◌, Option, Some, None}
 use Rattle.std.specs.List.{list_any, list_all}
 use Rattle.nsi_primitive.specs.Messages.{identity, addressee}
 use Rattle.nsi_primitive.specs.declared.message.Identity.{Identity}
@@ -7,15 +7,16 @@ use Rattle.nsi_primitive.specs.declared.message.Message.{Message}
 use Rattle.nsi_primitive.specs.declared.message.Parcel.{Parcel}
 use Rattle.message_retry.specs.Retry.{is_same_identity}
 use Rattle.nsi_primitive.specs.Printable.{IsPrintableParcel}
-use Rattle.agent_link.specs.Link.{Wire}
-pub use Rattle.agent_link.specs.Link.{most_parcels}
+use Rattle.agent_link.specs.Link.{Wire, is_full}
+use Rattle.agent_link.specs.Plans.{Plan, comes, passed}
 
 -- the ends of both ways between an agent and another one: what is still to be pushed, what was let through since the two
--- met, and what came and isn't taken
+-- met, what is planned for what is pushed from here on, and what came and isn't taken
 pub record Door : Type 0 where
   pub other : ℕ
   pub queue : List Parcel
   pub out : List Parcel
+  pub plan : Plan
   pub inc : List Parcel
 
 -- to whom links go
@@ -52,9 +53,24 @@ unfoldable pub says_all : (List ℕ → Option ℕ) → List Message → List Do
 says_all agent_of [] ds = ds
 says_all agent_of (m ∷ ms) ds = says_all agent_of ms (says agent_of m ds)
 
--- the front of the queue is let through, as far as the link takes it
+-- what is left of a queue, what was let through, and what is planned from there on
+pub record Passing : Type 0 where
+  pub queue : List Parcel
+  pub out : List Parcel
+  pub plan : Plan
+
+-- the front of a queue is put on a link, as far as it takes it
+unfoldable pub passes : List Parcel → Plan → List Parcel → Passing
+passes [] plan out = record { queue = []; out = out; plan = plan }
+passes (p ∷ ps) plan out = if is_full p plan out then record { queue = p ∷ ps; out = out; plan = plan } else passes ps (passed p plan) (out ++ comes p plan)
+
+-- the door behind that
+abbrev pub with_passing : Passing → Door → Door
+with_passing x d = record d { queue = x.queue; out = x.out; plan = x.plan }
+
+-- the front of its queue is pushed
 abbrev pub pushes : Door → Door
-pushes d = record d { out = d.out ++ take (most_parcels - length d.out) d.queue; queue = drop (most_parcels - length d.out) d.queue }
+pushes d = with_passing (passes d.queue d.plan d.out) d
 
 abbrev pub is_message : Identity → Parcel → Bool
 is_message i (Parcel.Message m) = is_same_identity i (identity m)
@@ -100,6 +116,18 @@ let_through to (d ∷ ds) = if d.other == to then d.out else let_through to ds
 
 abbrev pub learns : List Parcel → Door → Door
 learns ps d = record d { inc = ps; out = [] }
+
+-- nothing was let through since they met, and nothing came
+abbrev pub is_still : Door → Bool
+is_still d = (length d.out == 0) && (length d.inc == 0)
+
+abbrev pub all_still : List Door → Bool
+all_still ds = list_all is_still ds
+
+-- the same of the first door to an agent, where there is one
+unfoldable pub is_still_to : ℕ → List Door → Bool
+is_still_to to [] = true
+is_still_to to (d ∷ ds) = if d.other == to then is_still d else is_still_to to ds
 
 -- nothing was let through since they met
 abbrev pub HasMet : Door → Type 0

@@ -1,10 +1,11 @@
 -- An agent with its journal and its links, as its contracts see it.
-use Rattle.std.specs.Prelude.{◌≡◌, ℕ, List, [], ◌∷◌, length, Option, Some, None, Result, Ok, Err}
+use Rattle.std.specs.Prelude.{◌≡◌, ℕ, List, [], ◌∷◌, length, map, Option, Some, None, Result, Ok, Err}
 use Rattle.std.specs.List.{All}
 use Rattle.stp_topology.specs.declared.network.Network.{Network}
 use Rattle.nsi_disk.specs.Disk.{Meter}
 use Rattle.journal_entry.specs.Journal.{Kept as Journaled}
-use Rattle.agent_link.specs.Link.{Half, Wire}
+use Rattle.agent_link.specs.Link.{Half, OutHalf, Wire}
+use Rattle.agent_link.specs.Plans.{Plan}
 use Rattle.agent_node.specs.declared.fault.TurnFault.{TurnFault}
 use Rattle.agent_node.specs.Doors.{others, plug_to, crossed}
 pub use Rattle.agent_node.specs.Doors.{Plug}
@@ -61,21 +62,31 @@ lack_of (Err e) = Some TurnFault.NoMemory
 
 ---- The ends of links that an agent begins with
 
-abbrev pub IsShut : Half → Type 0
-IsShut h = h.parcels ≡ []
+abbrev pub IsShut : OutHalf → Type 0
+IsShut o = o.parcels ≡ []
+
+abbrev pub KnowsNone : Half → Type 0
+KnowsNone h = h.parcels ≡ []
 
 -- as many ends of each way as there are others, through which nothing went yet
-pub record AreEnds (others : List ℕ) (outgoing incoming : List Half) : Type 0 where
+pub record AreEnds (others : List ℕ) (outgoing : List OutHalf) (incoming : List Half) : Type 0 where
   pub outs : length outgoing ≡ length others
   pub incs : length incoming ≡ length others
   pub shut : All IsShut outgoing
-  pub known : All IsShut incoming
+  pub known : All KnowsNone incoming
+
+abbrev pub plan_of : OutHalf → Plan
+plan_of o = o.plan
+
+-- these are planned for them, by the others' numbers
+abbrev pub ArePlanned : (ℕ → Plan) → (others : List ℕ) → (outgoing : List OutHalf) → Type 0
+ArePlanned plans others outgoing = map plan_of outgoing ≡ map plans others
 
 -- the wires of two ends to an agent
-abbrev pub plug_by : ℕ → Half → Half → Plug
+abbrev pub plug_by : ℕ → OutHalf → Half → Plug
 plug_by b out inc = record { other = b; out = out.wire; inc = inc.wire }
 
 -- the wires of these ends, in order
-abbrev pub plugs_of : List ℕ → List Half → List Half → List Plug
+abbrev pub plugs_of : List ℕ → List OutHalf → List Half → List Plug
 plugs_of (b ∷ bs) (o ∷ os) (i ∷ is) = plug_by b o i ∷ plugs_of bs os is
 plugs_of _ _ _ = []

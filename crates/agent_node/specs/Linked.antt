@@ -1,10 +1,16 @@
 -- An agent's links as doors and wires.
 use Rattle.std.specs.Prelude.{◌≡◌, List, map}
 use Rattle.agent_node.specs.declared.links.Link.{Link}
-use Rattle.agent_node.specs.Doors.{Door, Plug, others}
+use Rattle.nsi_primitive.specs.declared.message.Parcel.{Parcel}
+use Rattle.agent_link.specs.Link.{OutHalf}
+use Rattle.agent_node.specs.Doors.{Door, Passing, Plug, others}
 
 abbrev pub door_of : Link → Door
-door_of l = record { other = l.other; queue = l.queue; out = l.out.parcels; inc = l.inc.parcels }
+door_of l = record { other = l.other; queue = l.queue; out = l.out.parcels; plan = l.out.plan; inc = l.inc.parcels }
+
+-- how far a queue is pushed
+abbrev pub passing : List Parcel → OutHalf → Passing
+passing queue out = record { queue = queue; out = out.parcels; plan = out.plan }
 
 abbrev pub plug_of : Link → Plug
 plug_of l = record { other = l.other; out = l.out.wire; inc = l.inc.wire }

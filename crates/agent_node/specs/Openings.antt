@@ -5,6 +5,7 @@ use Rattle.stp_topology.specs.declared.network.AgentKind.{AgentKind}
 use Rattle.stp_topology.specs.declared.network.Network.{Network}
 use Rattle.stp_topology.specs.Network.{kind_of, children_of}
 use Rattle.agent_state.specs.State.{blank_agent}
+use Rattle.agent_link.specs.Plans.{Plan}
 use Rattle.agent_node.specs.Seat.{Door, Seat}
 
 abbrev pub is_provider_of : ℕ → Option AgentKind → Bool
@@ -26,13 +27,29 @@ agents t = range_with_len 0 (length t.agents)
 abbrev pub others_of : Network → ℕ → List ℕ
 others_of t a = filter (are_linked t a) (agents t)
 
+-- what is planned for the link from the one agent to the other
+abbrev pub Plans : Type 0
+Plans = (from to : ℕ) → Plan
+
+-- through which nothing went yet
+abbrev pub first_door : Plan → ℕ → Door
+first_door plan b = record { other = b; queue = []; out = []; plan = plan; inc = [] }
+
+abbrev pub nothing_planned : Plans
+nothing_planned from to = []
+
 abbrev pub empty_door : ℕ → Door
-empty_door b = record { other = b; queue = []; out = []; inc = [] }
+empty_door b = first_door [] b
+
+-- the door to an agent, where this is planned by the others' numbers
+abbrev pub opened : (ℕ → Plan) → ℕ → Door
+opened plans b = first_door (plans b) b
 
 -- its ends of the links, by the others' numbers
-abbrev pub doors_of : Network → ℕ → List Door
-doors_of t a = map empty_door (others_of t a)
+abbrev pub doors_of : Network → Plans → ℕ → List Door
+doors_of t plans a = map (opened (plans a)) (others_of t a)
 
 -- an agent that has taken nothing
-abbrev pub seat_of : Network → ℕ → Seat
-seat_of t a = record { number = a; state = blank_agent; synced = 0; fresh = []; unsaid = []; events = []; doors = doors_of t a }
+abbrev pub seat_of : Network → Plans → ℕ → Seat
+seat_of t plans a =
+    record { number = a; state = blank_agent; synced = 0; fresh = []; unsaid = []; events = []; doors = doors_of t plans a }

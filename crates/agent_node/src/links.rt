@@ -4,7 +4,7 @@ ghost use Rattle.std.specs.Prelude.{◌≡◌, ℕ, Some, ◌++◌, map, OnOk, I
 ghost use Rattle.std.specs.List.{All};
 ghost use Rattle.nsi_primitive.specs.Printable.{IsPrintable, IsPrintableParcel};
 ghost use Rattle.stp_topology.specs.Network.{agent_of};
-ghost use Rattle.agent_node.specs.Doors.{change_first, queue_at, says, says_all, pushes, has_queued, is_queued, come_through, lying, clears, IsPrintableCome, is_idle, all_idle, let_through, learns, HasMet, plug_to, crossed};
+ghost use Rattle.agent_node.specs.Doors.{change_first, queue_at, says, says_all, pushes, has_queued, is_queued, come_through, lying, clears, IsPrintableCome, is_idle, all_idle, is_still, all_still, is_still_to, let_through, learns, HasMet, plug_to, crossed};
 ghost use Rattle.agent_node.specs.Linked.{door_of, plug_of, doors, plugs, HasSameLinks};
 
 use crate::queue::Queue;
@@ -53,6 +53,13 @@ impl Link {
         ensures { result ≡ is_idle (door_of self.now) }
     {
         self.queue.is_empty() && self.inc.is_empty()
+    }
+
+    /// Nothing was let through since its ends met, and nothing came.
+    fn is_still(&self) -> bool
+        ensures { result ≡ is_still (door_of self.now) }
+    {
+        self.out.is_empty() && self.inc.is_empty()
     }
 
     fn has_queued(&self, identity: &Identity) -> bool
@@ -137,6 +144,29 @@ fn are_idle(links: &[Link]) -> bool
     }
 }
 
+/// Whether nothing was let through since the ends met, and nothing came.
+#[tactic(auto, using(crate::proofs::Stillness::none_moved))]
+fn are_still(links: &[Link]) -> bool
+    ensures { result ≡ all_still (doors links.now) }
+{
+    match links.split_first() {
+        Some((first, rest)) => first.is_still() && are_still(rest),
+        None => true,
+    }
+}
+
+/// The same of the first link to an agent, if there is one.
+#[tactic(auto, using(crate::proofs::Stillness::none_still, crate::proofs::Stillness::still_here, crate::proofs::Stillness::still_there))]
+fn is_still_to(links: &[Link], other: AgentNo) -> bool
+    ensures { result ≡ is_still_to other (doors links.now) }
+{
+    match links.split_first() {
+        Some((first, _)) if first.other == other => first.is_still(),
+        Some((_, rest)) => is_still_to(rest, other),
+        None => true,
+    }
+}
+
 fn begin_rounds(links: &mut [Link])
     requires { All HasMet (doors links.old) }
     ensures { links.new ≡ links.old }
@@ -203,14 +233,20 @@ fn meet_at(ours: &mut [Link], theirs: &mut [Link], their_number: AgentNo, number
 #[derive(Drop)]
 pub struct Links {
     items: Vec<Link>,
+    /// Where it is set, nothing was let through since the ends met, and nothing came.
+    still: bool,
 }
 
 impl Model for Links {
+    ghost use Rattle.std.specs.Prelude.{◌≡◌, true};
+    ghost use Rattle.agent_node.specs.Doors.{all_still};
     ghost use Rattle.agent_node.specs.Linked.{Linked, doors, plugs};
 
     ghost Value = { Linked };
 
     ghost view = { λ l. record { doors = doors l.items.items; plugs = plugs l.items.items } };
+
+    ghost invariant = { λ l. l.still ≡ true → all_still (doors l.items.items) ≡ true };
 }
 
 impl Links {
@@ -218,7 +254,10 @@ impl Links {
         ensures doors { result.doors ≡ doors items.items }
         ensures plugs { result.plugs ≡ plugs items.items }
     {
-        Links { items }
+        Links {
+            items,
+            still: false,
+        }
     }
 
     /// Queues a parcel for an agent.
@@ -228,6 +267,7 @@ impl Links {
         ensures doors { OnOk result (self.new.doors ≡ queue_at to parcel self.old.doors) }
         ensures links { HasSameLinks self.old self.new }
     {
+        self.still = false;
         queue_at(&mut self.items, to, parcel)
     }
 
@@ -264,7 +304,10 @@ impl Links {
         ensures doors { OnOk result (self.new.doors ≡ map pushes self.old.doors) }
         ensures links { HasSameLinks self.old self.new }
     {
-        push_all(alloc, &mut self.items)
+        self.still = false;
+        push_all(alloc, &mut self.items)?;
+        self.still = are_still(&self.items);
+        Ok(())
     }
 
     /// What came, by the senders' numbers and in order. It doesn't lie there any more.
@@ -275,6 +318,7 @@ impl Links {
         ensures cleared { OnOk result (self.new.doors ≡ map clears self.old.doors) }
         ensures links { HasSameLinks self.old self.new }
     {
+        self.still = false;
         let mut all = Vec::new(alloc);
         gather(&mut self.items, &mut all)?;
         Ok(all)
@@ -301,7 +345,16 @@ impl Links {
         begin_rounds(&mut self.items);
     }
 
-    /// The first links of two agents to each other meet.
+    /// Whether nothing was let through to an agent since they met, and nothing came from it.
+    #[tactic(auto, using(crate::proofs::Stillness::all_still_to))]
+    fn is_still_to(&self, other: AgentNo) -> bool
+        ensures { result ≡ is_still_to other self.now.doors }
+    {
+        self.still || is_still_to(&self.items, other)
+    }
+
+    /// The first links of two agents to each other meet, where something was let through or lies at an end.
+    #[tactic(auto, using(crate::proofs::Stillness::still_ends_meet))]
     pub fn meet(&mut self, number: AgentNo, other: &mut Links, other_number: AgentNo)
         requires { plug_to other_number self.old.plugs
             ≡ crossed (plug_to number other.old.plugs) }
@@ -316,6 +369,11 @@ impl Links {
         ensures there { (m : ℕ) → (m ≡ number → ⊥) →
             plug_to m other.new.plugs ≡ plug_to m other.old.plugs }
     {
+        if self.is_still_to(other_number) && other.is_still_to(number) {
+            return;
+        }
+        self.still = false;
+        other.still = false;
         meet_at(&mut self.items, &mut other.items, other_number, number);
     }
 }

@@ -29,21 +29,22 @@ use std::marker::Model;
 /// says only then what that causes. Where a call of it has failed, it is only good for giving its disk back.
 #[derive(Drop)]
 pub struct Node<'t, J: Journal + Drop> {
-    pub(crate) core: Core<'t>,
+    /// In a box, since agents are moved where each two meet.
+    pub(crate) core: Box<Core<'t>>,
     pub(crate) journal: J,
     pub(crate) fault: Option<TurnFault>,
 }
 
 impl<'t, J: Journal + Drop> Model for Node<'t, J> {
-    ghost use Rattle.std.specs.Prelude.{◌≡◌, None, false};
+    ghost use Rattle.std.specs.Prelude.{◌≡◌, None, false, box_value};
     ghost use Rattle.agent_node.specs.Kept.{Kept};
 
     ghost Value = { Kept };
 
     ghost view = { λ n. record {
-      network = n.core.network;
-      seat = n.core.seat;
-      plugs = n.core.plugs;
+      network = (box_value n.core).network;
+      seat = (box_value n.core).seat;
+      plugs = (box_value n.core).plugs;
       fault = n.fault;
       meter = J.meter n.journal;
       kept = J.kept n.journal;
@@ -242,6 +243,6 @@ impl<'t, J: Journal + Drop> Node<'t, J> {
     }
 }
 
-fn let_go(core: Core<'_>) {
+fn let_go(core: Box<Core<'_>>) {
     drop(core);
 }

@@ -1,14 +1,14 @@
 //! An agent of a net before anything has happened.
 
-ghost use Rattle.std.specs.Prelude.{◌≡◌, ◌≤◌, ◌<◌, ◌==◌, [], ◌∷◌, ◌++◌, None, Some, false, length, map, filter, vec_capacity, IfOk, IfErr, OnOk, is_some};
+ghost use Rattle.std.specs.Prelude.{ℕ, ◌≡◌, ◌≤◌, ◌<◌, ◌==◌, [], ◌∷◌, ◌++◌, None, Some, false, length, map, filter, vec_capacity, box_value, IfOk, IfErr, OnOk, is_some};
 ghost use Rattle.std.specs.List.{list_any};
-ghost use Rattle.agent_state.specs.State.{blank_agent};
 ghost use Rattle.journal_entry.specs.Journal.{MayLeaveSynced};
 ghost use Rattle.journal_entry.specs.Journals.{recovers};
 ghost use Rattle.journal_entry.specs.Payloads.{batch_of};
 ghost use Rattle.disk_journal.specs.StartOf.{StartsFor, KeepsCounts, Keeps, ReadsNothing};
-ghost use Rattle.agent_node.specs.Openings.{is_provider_of, asks, are_linked, others_of, empty_door, seat_of};
-ghost use Rattle.agent_node.specs.Kept.{AreEnds, plugs_of};
+ghost use Rattle.agent_link.specs.Plans.{Plan};
+ghost use Rattle.agent_node.specs.Openings.{is_provider_of, asks, are_linked, others_of, Plans, nothing_planned, opened, seat_of};
+ghost use Rattle.agent_node.specs.Kept.{AreEnds, ArePlanned, plugs_of};
 
 use crate::links::{Link, Links};
 use crate::node::Node;
@@ -111,7 +111,8 @@ fn links_to(
     requires ends { AreEnds others.items outgoing incoming }
     requires room { length others.items ≤ vec_capacity links }
     requires none { links.items ≡ [] }
-    ensures doors { result.doors ≡ map empty_door others.items }
+    ensures doors { (plans : ℕ → Plan) → ArePlanned plans others.items outgoing →
+        result.doors ≡ map (opened plans) others.items }
     ensures plugs { result.plugs ≡ plugs_of others.items outgoing incoming }
 {
     let mut links = links;
@@ -131,27 +132,60 @@ fn links_to(
     Links::from_items(links)
 }
 
+fn let_go_core(core: Core<'_>) {
+    drop(core);
+}
+
+fn boxed<'t>(alloc: Global, core: Core<'t>) -> Result<Box<Core<'t>>, AllocError>
+    ensures { IfOk result (λ b. box_value b ≡ core.entry) }
+{
+    match Box::new(alloc, core) {
+        Ok(core) => Ok(core),
+        Err(refused) => {
+            let_go_core(refused.value);
+            Err(AllocError)
+        }
+    }
+}
+
+/// The agent of that number, without its links.
+fn core_of<'t>(
+    alloc: Global,
+    topology: &'t Topology,
+    agent: AgentNo,
+) -> Result<Box<Core<'t>>, AllocError>
+    requires within { agent < length topology.now.agents }
+    ensures network { IfOk result (λ b. (box_value b).network ≡ topology.now) }
+    ensures seat { IfOk result (λ b. (box_value b).seat
+        ≡ record (seat_of topology.now nothing_planned agent) { doors = [] }) }
+{
+    let agent = Agent::new(alloc, topology, agent)?;
+    let core = Core::new(alloc, topology, agent);
+    boxed(alloc, core)
+}
+
 /// What of an agent takes memory: to whom its links go, room for them, and itself.
 fn parts<'t>(
     alloc: Global,
     topology: &'t Topology,
     agent: AgentNo,
-) -> Result<(Vec<AgentNo>, Vec<Link>, Agent<'t>), AllocError>
+) -> Result<(Vec<AgentNo>, Vec<Link>, Box<Core<'t>>), AllocError>
     requires within { agent < length topology.now.agents }
     ensures others { IfOk result (λ r. r.0.items ≡ others_of topology.now agent) }
     ensures room { IfOk result (λ r. length r.0.items ≤ vec_capacity r.1) }
     ensures none { IfOk result (λ r. r.1.items ≡ []) }
-    ensures agent { IfOk result (λ r. r.2
-        ≡ record { network = topology.now; number = agent; state = blank_agent }) }
+    ensures network { IfOk result (λ r. (box_value r.2).network ≡ topology.now) }
+    ensures seat { IfOk result (λ r. (box_value r.2).seat
+        ≡ record (seat_of topology.now nothing_planned agent) { doors = [] }) }
 {
     let others = others(alloc, topology, agent)?;
     let links = Vec::with_capacity(alloc, others.len())?;
-    let made = Agent::new(alloc, topology, agent)?;
-    Ok((others, links, made))
+    let core = core_of(alloc, topology, agent)?;
+    Ok((others, links, core))
 }
 
-fn let_go(agent: Agent<'_>) {
-    drop(agent);
+fn let_go(core: Box<Core<'_>>) {
+    drop(core);
 }
 
 impl<'t, D: Disk + Drop> Node<'t, DiskJournal<D>> {
@@ -168,7 +202,9 @@ impl<'t, D: Disk + Drop> Node<'t, DiskJournal<D>> {
         requires within { agent < length topology.now.agents }
         requires runs { (D.meter disk).stopped ≡ false }
         requires ends { AreEnds (others_of topology.now agent) outgoing incoming }
-        ensures seat { IfOk result (λ n. n.seat ≡ seat_of topology.now agent) }
+        ensures seat { (plans : Plans) →
+            ArePlanned (plans agent) (others_of topology.now agent) outgoing →
+            IfOk result (λ n. n.seat ≡ seat_of topology.now plans agent) }
         ensures network { IfOk result (λ n. n.network ≡ topology.now) }
         ensures plugs { IfOk result
             (λ n. n.plugs ≡ plugs_of (others_of topology.now agent) outgoing incoming) }
@@ -179,7 +215,7 @@ impl<'t, D: Disk + Drop> Node<'t, DiskJournal<D>> {
         ensures unread { IfErr result (λ f. ReadsNothing f.cause) }
         ensures ends { IfErr result (λ f. (f.outgoing ≡ outgoing) × (f.incoming ≡ incoming)) }
     {
-        let Ok((others, links, made)) = parts(alloc, topology, agent) else {
+        let Ok((others, links, core)) = parts(alloc, topology, agent) else {
             return Err(NodeFault {
                 cause: StartCause::NoMemory,
                 disk,
@@ -189,15 +225,16 @@ impl<'t, D: Disk + Drop> Node<'t, DiskJournal<D>> {
         };
         match DiskJournal::fresh(disk) {
             Ok(journal) => {
-                let links = links_to(alloc, others, outgoing, incoming, links);
+                let mut core = core;
+                core.set_links(links_to(alloc, others, outgoing, incoming, links));
                 Ok(Node {
-                    core: Core::new(alloc, topology, made, links),
+                    core,
                     journal,
                     fault: None,
                 })
             }
             Err(fault) => {
-                let_go(made);
+                let_go(core);
                 drop((others, links));
                 Err(NodeFault {
                     cause: fault.cause,

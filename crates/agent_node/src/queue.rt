@@ -1,9 +1,10 @@
 //! What is still to be pushed to an agent.
 
-ghost use Rattle.std.specs.Prelude.{◌≡◌, ◌==◌, [], ◌∷◌, ◌++◌, ◌-◌, length, take, drop, OnOk};
+ghost use Rattle.std.specs.Prelude.{◌≡◌, ◌==◌, [], ◌∷◌, ◌++◌, length, OnOk};
 ghost use Rattle.std.specs.List.{list_any};
 ghost use Rattle.nsi_primitive.specs.Printable.{IsPrintableParcel};
-ghost use Rattle.agent_node.specs.Doors.{is_message, most_parcels};
+ghost use Rattle.agent_node.specs.Doors.{is_message, passes};
+ghost use Rattle.agent_node.specs.Linked.{passing};
 
 use agent_link::{Outgoing, PushFault};
 use message_retry::is_of;
@@ -63,12 +64,10 @@ impl Queue {
             .any(|parcel| is_message(identity, parcel))
     }
 
-    /// Lets its front through, as far as the link takes it.
+    /// Puts its front on the link, as far as that takes it.
     pub fn push(&mut self, alloc: Global, out: &mut Outgoing) -> Result<(), AllocError>
-        ensures rest { let free = most_parcels - length out.old.parcels in
-            OnOk result (self.new ≡ drop free self.old) }
-        ensures out { let free = most_parcels - length out.old.parcels in
-            OnOk result (out.new.parcels ≡ out.old.parcels ++ take free self.old) }
+        ensures passes { OnOk result
+            (passing self.new out.new ≡ passes self.old out.old.plan out.old.parcels) }
         ensures wire { out.new.wire ≡ out.old.wire }
     {
         while let Some(parcel) = self.parcels.pop_front() {

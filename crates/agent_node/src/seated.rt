@@ -65,8 +65,8 @@ impl<'t> Model for Core<'t> {
 }
 
 impl<'t> Core<'t> {
-    /// An agent that has taken nothing, with its links.
-    pub fn new(alloc: Global, topology: &'t Topology, agent: Agent<'t>, links: Links) -> Core<'t>
+    /// An agent that has taken nothing, and has no links yet.
+    pub fn new(alloc: Global, topology: &'t Topology, agent: Agent<'t>) -> Core<'t>
         requires { topology.now ≡ agent.network }
         ensures network { result.network ≡ agent.entry.network }
         ensures seat { result.seat ≡ record {
@@ -76,9 +76,9 @@ impl<'t> Core<'t> {
           fresh = [];
           unsaid = [];
           events = [];
-          doors = links.doors;
+          doors = [];
         } }
-        ensures plugs { result.plugs ≡ links.plugs }
+        ensures plugs { result.plugs ≡ [] }
     {
         Core {
             topology,
@@ -87,8 +87,17 @@ impl<'t> Core<'t> {
             fresh: Entries::new(alloc),
             unsaid: Messages::new(alloc),
             events: Events::new(alloc),
-            links,
+            links: Links::from_items(Vec::new(alloc)),
         }
+    }
+
+    /// Gives it its links.
+    pub fn set_links(&mut self, links: Links)
+        ensures network { self.new.network ≡ self.old.network }
+        ensures seat { self.new.seat ≡ record self.old.seat { doors = links.doors } }
+        ensures plugs { self.new.plugs ≡ links.plugs }
+    {
+        self.links = links;
     }
 
     pub fn number(&self) -> AgentNo

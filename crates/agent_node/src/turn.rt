@@ -76,7 +76,7 @@ pub fn make_turn_with<J: Journal>(
     Ok(())
 }
 
-/// A turn in which it takes what came.
+/// A turn in which it takes what came. That of a quiet agent is nothing.
 pub fn make_turn<J: Journal>(
     alloc: Global,
     core: &mut Core<'_>,
@@ -92,6 +92,9 @@ pub fn make_turn<J: Journal>(
         (kept_with core.old None (J.meter journal.old) (J.kept journal.old))
         (kept_with core.new (fault_in result) (J.meter journal.new) (J.kept journal.new)) }
 {
+    if core.quiet() {
+        return Ok(());
+    }
     let parcels = core.gather(alloc)?;
     make_turn_with(alloc, core, journal, parcels, room)
 }

@@ -3,7 +3,7 @@ use Rattle.std.proofs.Common.{ℕ, ◌≡◌, List, [], ◌∷◌, inl, inr, ref
 use Rattle.agent_node.specs.Kept.{Kept}
 use Rattle.agent_threads.specs.declared.fault.RoundFault.{RoundFault}
 use Rattle.agent_threads.specs.declared.fault.RunFault.{RunFault}
-use Rattle.agent_threads.specs.Made.{HasRisen, HasFailed, HasCause, HasRunCause, IsOfWriting}
+use Rattle.agent_threads.specs.Made.{run_fault, HasRisen, HasFailed, HasCause, HasRunCause, IsOfWriting}
 
 pub same_error : {T E : Type 0} (r : Result T E) (y e k : E) → r ≡ Err y → y ≡ e → r ≡ Err k → e ≡ k
 same_error r y e k p q h = cc
@@ -43,3 +43,10 @@ write_cause RunFault.NoMemory ks w = tt
 
 pub not_long : (e : RunFault) → IsOfWriting e → e ≡ RunFault.Long → ⊥
 not_long e w p = subst IsOfWriting p w
+
+-- a run that is too long is so by a group that is
+pub was_long : (f : RoundFault) → run_fault f ≡ RunFault.Long → f ≡ RoundFault.Long
+was_long RoundFault.Long e = refl
+was_long (RoundFault.DiskFault a) e = absurd (cc)
+was_long (RoundFault.Stopped a) e = absurd (cc)
+was_long RoundFault.NoMemory e = absurd (cc)

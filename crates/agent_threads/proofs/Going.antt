@@ -1,5 +1,5 @@
 -- How far the agents of a net have come, step after step.
-use Rattle.std.proofs.Common.{ℕ, zero, suc, ◌+◌, ◌<◌, ◌≤◌, ◌≡◌, List, [], ◌∷◌, ◌++◌, inl, inr, refl, sym, ap, ◌∙◌, subst, arith, map, length, length-append, get_or, append_assoc, append-nil, add-one}
+use Rattle.std.proofs.Common.{ℕ, zero, suc, ◌+◌, ◌-◌, ◌*◌, Bool, true, false, if◌then◌else◌, ◌<◌, ◌≤◌, ◌≡◌, List, [], ◌∷◌, ◌++◌, inl, inr, refl, sym, ap, ◌∙◌, subst, arith, map, length, length-append, get_or, append_assoc, append-nil, add-one}
 use Rattle.std.specs.Prelude.{None}
 use Rattle.std.specs.List.{All}
 use Rattle.std.proofs.lemmas.List.Elements.{All-nil, All-cons, All-head, All-tail}
@@ -242,3 +242,11 @@ rising_next (g ∷ (f ∷ gs)) (suc i) d e h p = rising_next (f ∷ gs) i d e (o
 
 pub rising_at : (gs : List Group) (i : ℕ) (d e : Group) → i + 1 < length gs → IsRising (seconds_of gs) → (get_or gs i d).at ≤ (get_or gs (i + 1) e).at
 rising_at gs i d e h p = subst (λ (n : ℕ). (get_or gs i d).at ≤ (get_or gs n e).at) (sym (add-one i)) (rising_next gs i d e (omega arith) p)
+
+---- Rounds until all are quiet
+
+-- what is left falls: all are quiet then, or there is less room
+pub rests_or_fills : (room before after : ℕ) (quiet : Bool) → before ≤ after → after ≤ room → (quiet ≡ false → before < after)
+    → 2 * (room - after) + (if quiet then 0 else 1) < 2 * (room - before) + (if false then 0 else 1)
+rests_or_fills room before after true le within more = omega (arith, le, within)
+rests_or_fills room before after false le within more = omega (arith, more refl, within)

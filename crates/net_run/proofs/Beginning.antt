@@ -3,17 +3,17 @@ use Rattle.std.proofs.Common.{ℕ, suc, ◌+◌, ◌<◌, ◌≡◌, Bool, true,
 use Rattle.std.specs.List.{range_with_len}
 use Rattle.stp_topology.specs.declared.network.Network.{Network}
 use Rattle.stp_topology.specs.Network.{name_of}
-use Rattle.agent_link.specs.Link.{Half}
+use Rattle.agent_link.specs.Link.{Half, OutHalf}
 use Rattle.agent_node.specs.Doors.{Plug, others, plug_to, crossed}
 use Rattle.agent_node.specs.Seat.{Seat}
-use Rattle.agent_node.specs.Openings.{empty_door, others_of, seat_of}
+use Rattle.agent_node.specs.Openings.{empty_door, others_of, seat_of, nothing_planned}
 use Rattle.agent_node.specs.Kept.{Kept, plug, plugs_of, AreLinked, IsSameAgent}
 use Rattle.agent_threads.specs.Nets.{seats, numbers, AreOf, AreUsable, IsAbsent, AreApart, IsLinkedToAll, AreWired, EachIs}
 use Rattle.net_run.specs.declared.joints.Joint.{Joint}
 use Rattle.net_run.specs.Joints.{wires, ArePaired, AreOwn}
 use Rattle.net_run.specs.Begun.{IsBegun, IsFresh, AreBegun, AreListed, AreOpened, faults_among, stops_among}
 
-pub begun_of : (t : Network) (a : ℕ) (outs incs : List Half) (rest left all : List Joint) (k : Kept) → AreOwn t a outs incs rest left → ((b : ℕ) → wires a b left ≡ wires a b all)
+pub begun_of : (t : Network) (a : ℕ) (outs : List OutHalf) (incs : List Half) (rest left all : List Joint) (k : Kept) → AreOwn t a outs incs rest left → ((b : ℕ) → wires a b left ≡ wires a b all)
     → IsFresh t a (plugs_of (others_of t a) outs incs) k → IsBegun t all a k
 begun_of t a outs incs rest left all k o w f = record {
   seat = f.seat;
@@ -36,9 +36,9 @@ number_is t all a k b = ap (λ (s : Seat). s.number) b.seat
 
 ---- All of them
 
-seats_are : (t : Network) (all : List Joint) (a : ℕ) (ks : List Kept) → AreBegun t all a ks → seats ks ≡ map (seat_of t) (range_with_len a (length ks))
+seats_are : (t : Network) (all : List Joint) (a : ℕ) (ks : List Kept) → AreBegun t all a ks → seats ks ≡ map (seat_of t nothing_planned) (range_with_len a (length ks))
 seats_are t all a [] bs = refl
-seats_are t all a (k ∷ ks) bs = ap₂ (λ (s : Seat) (ss : List Seat). s ∷ ss) bs.0.seat (seats_are t all (suc a) ks bs.1 ∙ ap (λ n. map (seat_of t) (range_with_len n (length ks))) (sym (add-one a)))
+seats_are t all a (k ∷ ks) bs = ap₂ (λ (s : Seat) (ss : List Seat). s ∷ ss) bs.0.seat (seats_are t all (suc a) ks bs.1 ∙ ap (λ n. map (seat_of t nothing_planned) (range_with_len n (length ks))) (sym (add-one a)))
 
 of_are : (t : Network) (all : List Joint) (a : ℕ) (ks : List Kept) → AreBegun t all a ks → AreOf t ks
 of_are t all a [] bs = tt
@@ -89,7 +89,7 @@ wired_are t all a (k ∷ ks) p bs = (linked_all t all a (suc a) k ks p bs.0 bs.1
 
 pub opened_are : (t : Network) (all : List Joint) (ks : List Kept) → ArePaired all → AreBegun t all 0 ks → length ks ≡ length t.agents → AreOpened t ks
 opened_are t all ks p bs e = record {
-  seats = seats_are t all 0 ks bs ∙ ap (λ n. map (seat_of t) (range_with_len 0 n)) e;
+  seats = seats_are t all 0 ks bs ∙ ap (λ n. map (seat_of t nothing_planned) (range_with_len 0 n)) e;
   net = record { usable = usable_are t all 0 ks bs; apart = apart_are t all 0 ks bs; wired = wired_are t all 0 ks p bs };
   of = of_are t all 0 ks bs;
   faults = none_failed t all 0 ks bs;

@@ -15,7 +15,7 @@ use Rattle.stp_topology.specs.Network.{agent_of, name_of}
 use Rattle.stp_topology.specs.Laws.{IsWellFormed}
 use Rattle.nsi_script.specs.declared.script.Group.{Group}
 use Rattle.nsi_agent.specs.Homes.{home_in}
-use Rattle.agent_node.specs.Openings.{seat_of}
+use Rattle.agent_node.specs.Openings.{seat_of, nothing_planned}
 use Rattle.agent_node.specs.Kept.{Kept, IsSameAgent}
 use Rattle.nsi_play.specs.Rounds.{Net, events_of}
 use Rattle.nsi_play.specs.Play.{IsPlayFrom}
@@ -66,15 +66,15 @@ journal_is a es on = journals empty a es on
 
 ---- Before anything has happened
 
-none_told : (t : Network) (ns : List ℕ) → events_of (map (seat_of t) ns) ≡ []
+none_told : (t : Network) (ns : List ℕ) → events_of (map (seat_of t nothing_planned) ns) ≡ []
 none_told t [] = refl
 none_told t (n ∷ ns) = none_told t ns
 
-none_fresh : (t : Network) (ns : List ℕ) → AllSynced (map (seat_of t) ns)
+none_fresh : (t : Network) (ns : List ℕ) → AllSynced (map (seat_of t nothing_planned) ns)
 none_fresh t [] = tt
 none_fresh t (n ∷ ns) = (refl, none_fresh t ns)
 
-numbers_are : (t : Network) (ns : List ℕ) → numbers (map (seat_of t) ns) ≡ ns
+numbers_are : (t : Network) (ns : List ℕ) → numbers (map (seat_of t nothing_planned) ns) ≡ ns
 numbers_are t [] = refl
 numbers_are t (n ∷ ns) = ap (λ (xs : List ℕ). n ∷ xs) (numbers_are t ns)
 

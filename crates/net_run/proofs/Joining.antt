@@ -1,6 +1,6 @@
 -- The wires of links.
 use Rattle.std.proofs.Common.{ℕ, ◌<◌, ◌≡◌, ◌==◌, ◌&&◌, Bool, true, false, cond, List, [], ◌∷◌, ◌++◌, Option, Some, None, refl, sym, ap, ap₂, ◌∙◌, arith, eqb-true}
-use Rattle.agent_link.specs.Link.{Half, Wire}
+use Rattle.agent_link.specs.Link.{Half, OutHalf, Wire}
 use Rattle.agent_node.specs.Doors.{crossed}
 use Rattle.net_run.specs.declared.joints.Joint.{Joint}
 use Rattle.net_run.specs.Joints.{wires, ArePaired, or_else}
@@ -58,10 +58,10 @@ crossing false true v w n = refl
 crossing false false v w n = refl
 
 -- the ends of the two ways between two agents
-abbrev pub joint : ℕ → ℕ → Half → Half → Joint
+abbrev pub joint : ℕ → ℕ → OutHalf → Half → Joint
 joint a b out inc = record { at = a; other = b; out = out; inc = inc }
 
-pub two_paired : (a b : ℕ) (o i p j : Half) → b < a → o.wire ≡ j.wire → p.wire ≡ i.wire → ArePaired (joint a b o i ∷ (joint b a p j ∷ []))
+pub two_paired : (a b : ℕ) (o : OutHalf) (i : Half) (p : OutHalf) (j : Half) → b < a → o.wire ≡ j.wire → p.wire ≡ i.wire → ArePaired (joint a b o i ∷ (joint b a p j ∷ []))
 two_paired a b o i p j h e f = λ q r.
     let c = (a == q) && (b == r) in
     let d = (a == r) && (b == q) in

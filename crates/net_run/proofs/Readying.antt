@@ -3,7 +3,7 @@ use Rattle.std.proofs.Common.{ℕ, ◌≡◌, Bool, List, [], ◌∷◌, ◌++�
 use Rattle.nsi_primitive.specs.declared.entry.Event.{Event}
 use Rattle.stp_topology.specs.declared.network.Network.{Network}
 use Rattle.agent_node.specs.Seat.{Seat}
-use Rattle.agent_node.specs.Openings.{agents, seat_of}
+use Rattle.agent_node.specs.Openings.{agents, seat_of, nothing_planned}
 use Rattle.agent_node.specs.Kept.{Kept}
 use Rattle.nsi_play.specs.Rounds.{Net, events_of}
 use Rattle.quiet_rounds.specs.Bounded.{IsBounded}
@@ -17,11 +17,11 @@ record AreBlank (ks : List Kept) : Type 0 where
   clocks : AreUpTo 0 ks
   told : events_of (seats ks) ≡ []
 
-blank_seats : (t : Network) (ns : List ℕ) (ks : List Kept) → seats ks ≡ map (seat_of t) ns → AreBlank ks
+blank_seats : (t : Network) (ns : List ℕ) (ks : List Kept) → seats ks ≡ map (seat_of t nothing_planned) ns → AreBlank ks
 blank_seats t ns [] e = record { none = tt; clocks = tt; told = refl }
 blank_seats t [] (k ∷ ks) e = absurd (cc)
 blank_seats t (n ∷ ns) (k ∷ ks) e =
-    let is : k.seat ≡ seat_of t n = cc in
+    let is : k.seat ≡ seat_of t nothing_planned n = cc in
     let rest = blank_seats t ns ks (cc) in
     let taken : k.seat.state.base.taken ≡ 0 = ap (λ (s : Seat). s.state.base.taken) is in
     let now : k.seat.state.base.now ≡ 0 = ap (λ (s : Seat). s.state.base.now) is in

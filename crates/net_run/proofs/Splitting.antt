@@ -1,19 +1,20 @@
 -- An agent's ends among all.
-use Rattle.std.proofs.Common.{ℕ, ◌≡◌, ◌==◌, ◌&&◌, Bool, true, false, cond, List, [], ◌∷◌, ◌++◌, append_assoc, append-nil, Option, Some, None, refl, sym, ap, ◌∙◌, subst, arith, length, length-append, eqb-true, ne_eqb}
+use Rattle.std.proofs.Common.{ℕ, ◌≡◌, ◌==◌, ◌&&◌, Bool, true, false, cond, List, [], ◌∷◌, ◌++◌, append_assoc, append-nil, Option, Some, None, refl, sym, ap, ap₂, ◌∙◌, subst, arith, length, length-append, eqb-true, ne_eqb}
 use Rattle.std.specs.List.{All}
 use Rattle.std.proofs.lemmas.List.Elements.{All-nil, All-push, All-head, All-tail}
 use Rattle.stp_topology.specs.declared.network.Network.{Network}
-use Rattle.agent_link.specs.Link.{Half, Wire}
+use Rattle.agent_link.specs.Link.{Half, OutHalf, Wire}
+use Rattle.agent_link.specs.Plans.{Plan}
 use Rattle.agent_node.specs.Doors.{plug_to}
-use Rattle.agent_node.specs.Openings.{others_of}
-use Rattle.agent_node.specs.Kept.{AreEnds, IsShut, plugs_of}
+use Rattle.agent_node.specs.Openings.{others_of, nothing_planned}
+use Rattle.agent_node.specs.Kept.{AreEnds, IsShut, KnowsNone, ArePlanned, plugs_of}
 use Rattle.agent_threads.specs.Nets.{IsAbsent}
 use Rattle.net_run.specs.declared.joints.Joint.{Joint}
-use Rattle.net_run.specs.Joints.{wires, ends_of, IsShutJoint, or_else, IsSplit, AreOwn}
+use Rattle.net_run.specs.Joints.{wires, ends_of, IsPlain, IsShutJoint, or_else, IsSplit, AreOwn}
 use Rattle.net_run.proofs.Joining.{cond_or, cond_step, or_assoc, or_none, wires_append}
 use Rattle.net_run.proofs.Ends.{ends_append}
 
-plug_more : (b o : ℕ) (os : List ℕ) (h i : Half) (hs is : List Half) → length hs ≡ length os → length is ≡ length os
+plug_more : (b o : ℕ) (os : List ℕ) (h : OutHalf) (i : Half) (hs : List OutHalf) (is : List Half) → length hs ≡ length os → length is ≡ length os
     → plug_to b (plugs_of (os ++ o ∷ []) (hs ++ h ∷ []) (is ++ i ∷ [])) ≡ or_else (plug_to b (plugs_of os hs is)) (cond (o == b) (Some (h.wire, i.wire)) None)
 unfolding plug_to
 plug_more b o [] h i [] [] e f = refl
@@ -31,7 +32,8 @@ none_own b o = refl
 
 pub split_none : (a : ℕ) (all : List Joint) → All IsShutJoint all → IsSplit a [] [] [] [] all all
 split_none a all s = record {
-  ends = record { outs = refl; incs = refl; shut = All-nil IsShut; known = All-nil IsShut };
+  ends = record { outs = refl; incs = refl; shut = All-nil IsShut; known = All-nil KnowsNone };
+  plain = All-nil IsPlain;
   own = λ b. none_own b (wires a b all);
   left = λ b c n. refl;
   shut = All-nil IsShutJoint;
@@ -41,15 +43,16 @@ split_none a all s = record {
 }
 
 -- an end of the agent
-pub split_own : (a : ℕ) (j : Joint) (os : List ℕ) (hs is : List Half) (rest todo all : List Joint) → (j.at == a) ≡ true → IsSplit a os hs is rest (j ∷ todo) all
+pub split_own : (a : ℕ) (j : Joint) (os : List ℕ) (hs : List OutHalf) (is : List Half) (rest todo all : List Joint) → (j.at == a) ≡ true → IsSplit a os hs is rest (j ∷ todo) all
     → IsSplit a (os ++ j.other ∷ []) (hs ++ j.out ∷ []) (is ++ j.inc ∷ []) rest todo all
 split_own a j os hs is rest todo all e s = record {
   ends = record {
     outs = let h = s.ends.outs in omega (arith, h, length-append hs (j.out ∷ []), length-append os (j.other ∷ []));
     incs = let h = s.ends.incs in omega (arith, h, length-append is (j.inc ∷ []), length-append os (j.other ∷ []));
     shut = All-push IsShut hs j.out s.ends.shut (All-head IsShutJoint j todo s.behind).out;
-    known = All-push IsShut is j.inc s.ends.known (All-head IsShutJoint j todo s.behind).inc;
+    known = All-push KnowsNone is j.inc s.ends.known (All-head IsShutJoint j todo s.behind).inc;
   };
+  plain = All-push IsPlain hs j.out s.plain (All-head IsShutJoint j todo s.behind).plain;
   own = λ b.
       let w : Wire × Wire = (j.out.wire, j.inc.wire) in
       let P = plug_to b (plugs_of os hs is) in
@@ -71,10 +74,11 @@ split_own a j os hs is rest todo all e s = record {
 }
 
 -- an end of another one
-pub split_rest : (a : ℕ) (j : Joint) (os : List ℕ) (hs is : List Half) (rest todo all : List Joint) → (j.at == a) ≡ false → IsSplit a os hs is rest (j ∷ todo) all
+pub split_rest : (a : ℕ) (j : Joint) (os : List ℕ) (hs : List OutHalf) (is : List Half) (rest todo all : List Joint) → (j.at == a) ≡ false → IsSplit a os hs is rest (j ∷ todo) all
     → IsSplit a os hs is (rest ++ j ∷ []) todo all
 split_rest a j os hs is rest todo all e s = record {
   ends = s.ends;
+  plain = s.plain;
   own = λ b.
       let w : Wire × Wire = (j.out.wire, j.inc.wire) in
       ap (λ o. or_else (plug_to b (plugs_of os hs is)) o) (ap (λ (z : Bool). cond (z && (j.other == b)) (Some w) (wires a b todo)) (sym e)) ∙ s.own b;
@@ -92,10 +96,18 @@ split_rest a j os hs is rest todo all e s = record {
       ∙ (ap (λ (ns : List ℕ). ends_of b rest ++ ns) (sym (ends_append b (j ∷ []) todo)) ∙ s.of_others b n));
 }
 
-pub own_of : (t : Network) (a : ℕ) (os : List ℕ) (hs is : List Half) (rest all : List Joint) → IsSplit a os hs is rest [] all → os ≡ others_of t a → IsAbsent a (others_of t a)
+-- nothing is planned for any of them
+planned_none : (a : ℕ) (os : List ℕ) (hs : List OutHalf) → length hs ≡ length os → All IsPlain hs → ArePlanned (nothing_planned a) os hs
+planned_none a [] [] e all = refl
+planned_none a [] (h ∷ hs) e all = absurd (omega (arith, e))
+planned_none a (o ∷ os) [] e all = absurd (omega (arith, e))
+planned_none a (o ∷ os) (h ∷ hs) e all = ap₂ (λ (p : Plan) (ps : List Plan). p ∷ ps) (All-head IsPlain h hs all) (planned_none a os hs (omega (arith, e)) (All-tail IsPlain h hs all))
+
+pub own_of : (t : Network) (a : ℕ) (os : List ℕ) (hs : List OutHalf) (is : List Half) (rest all : List Joint) → IsSplit a os hs is rest [] all → os ≡ others_of t a → IsAbsent a (others_of t a)
     → AreOwn t a hs is rest all
 own_of t a os hs is rest all s e n = record {
   ends = subst (λ (ns : List ℕ). AreEnds ns hs is) e s.ends;
+  planned = subst (λ (ns : List ℕ). ArePlanned (nothing_planned a) ns hs) e (planned_none a os hs s.ends.outs s.plain);
   own = λ b. ap (λ (ns : List ℕ). plug_to b (plugs_of ns hs is)) (sym e) ∙ (sym (or_none (plug_to b (plugs_of os hs is))) ∙ s.own b);
   left = λ b c m. sym (or_none (wires b c rest)) ∙ s.left b c m;
   shut = s.shut;
@@ -105,23 +117,23 @@ own_of t a os hs is rest all s e n = record {
 
 ---- The loop
 
-pub split_begin : (a : ℕ) (os : List ℕ) (hs is : List Half) (rest todo all : List Joint) → os ≡ [] → hs ≡ [] → is ≡ [] → rest ≡ [] → todo ≡ all → All IsShutJoint all → IsSplit a os hs is rest todo all
+pub split_begin : (a : ℕ) (os : List ℕ) (hs : List OutHalf) (is : List Half) (rest todo all : List Joint) → os ≡ [] → hs ≡ [] → is ≡ [] → rest ≡ [] → todo ≡ all → All IsShutJoint all → IsSplit a os hs is rest todo all
 split_begin a os hs is rest todo all e f g h k s =
     subst (λ (z : List ℕ). IsSplit a z hs is rest todo all) (sym e)
-    (subst (λ (z : List Half). IsSplit a [] z is rest todo all) (sym f)
+    (subst (λ (z : List OutHalf). IsSplit a [] z is rest todo all) (sym f)
     (subst (λ (z : List Half). IsSplit a [] [] z rest todo all) (sym g)
     (subst (λ (z : List Joint). IsSplit a [] [] [] z todo all) (sym h)
     (subst (λ (z : List Joint). IsSplit a [] [] [] [] z all) (sym k) (split_none a all s)))))
 
-pub split_own_next : (a : ℕ) (j : Joint) (os ns : List ℕ) (hs ks is ms : List Half) (rest todo behind all : List Joint) → (j.at == a) ≡ true
+pub split_own_next : (a : ℕ) (j : Joint) (os ns : List ℕ) (hs ks : List OutHalf) (is ms : List Half) (rest todo behind all : List Joint) → (j.at == a) ≡ true
     → ns ≡ os ++ j.other ∷ [] → ks ≡ hs ++ j.out ∷ [] → ms ≡ is ++ j.inc ∷ [] → todo ≡ j ∷ behind → IsSplit a os hs is rest todo all → IsSplit a ns ks ms rest behind all
 split_own_next a j os ns hs ks is ms rest todo behind all t e f g k s =
     subst (λ (z : List ℕ). IsSplit a z ks ms rest behind all) (sym e)
-    (subst (λ (z : List Half). IsSplit a (os ++ j.other ∷ []) z ms rest behind all) (sym f)
+    (subst (λ (z : List OutHalf). IsSplit a (os ++ j.other ∷ []) z ms rest behind all) (sym f)
     (subst (λ (z : List Half). IsSplit a (os ++ j.other ∷ []) (hs ++ j.out ∷ []) z rest behind all) (sym g)
     (split_own a j os hs is rest behind all t (subst (λ (z : List Joint). IsSplit a os hs is rest z all) k s))))
 
-pub split_rest_next : (a : ℕ) (j : Joint) (os : List ℕ) (hs is : List Half) (rest more todo behind all : List Joint) → (j.at == a) ≡ false
+pub split_rest_next : (a : ℕ) (j : Joint) (os : List ℕ) (hs : List OutHalf) (is : List Half) (rest more todo behind all : List Joint) → (j.at == a) ≡ false
     → more ≡ rest ++ j ∷ [] → todo ≡ j ∷ behind → IsSplit a os hs is rest todo all → IsSplit a os hs is more behind all
 split_rest_next a j os hs is rest more todo behind all t e k s =
     subst (λ (z : List Joint). IsSplit a os hs is z behind all) (sym e)

@@ -2,7 +2,7 @@
 use Rattle.std.specs.Prelude.{ℕ, suc, ◌≡◌, ◌<◌, ◌+◌, true, Bool, List, [], ◌∷◌, length, None}
 use Rattle.stp_topology.specs.declared.network.Network.{Network}
 use Rattle.stp_topology.specs.Network.{name_of}
-use Rattle.agent_node.specs.Openings.{others_of, seat_of}
+use Rattle.agent_node.specs.Openings.{others_of, seat_of, nothing_planned}
 use Rattle.disk_journal.specs.declared.opening.StartCause.{StartCause}
 use Rattle.agent_node.specs.Kept.{Kept, Plug, plug}
 use Rattle.nsi_play.specs.Openings.{opening}
@@ -13,7 +13,7 @@ use Rattle.net_run.specs.Joints.{wires}
 
 -- an agent that has taken nothing, with ends from among these
 pub record IsBegun (t : Network) (all : List Joint) (a : ℕ) (k : Kept) : Type 0 where
-  pub seat : k.seat ≡ seat_of t a
+  pub seat : k.seat ≡ seat_of t nothing_planned a
   pub network : k.network ≡ t
   pub plugs : (b : ℕ) → plug k b ≡ wires a b all
   pub fault : k.fault ≡ None
@@ -51,7 +51,7 @@ pub record AreOpened (t : Network) (ks : List Kept) : Type 0 where
 
 -- an agent that has taken nothing, with these wires
 pub record IsFresh (t : Network) (a : ℕ) (made : List Plug) (k : Kept) : Type 0 where
-  pub seat : k.seat ≡ seat_of t a
+  pub seat : k.seat ≡ seat_of t nothing_planned a
   pub network : k.network ≡ t
   pub plugs : k.plugs ≡ made
   pub fault : k.fault ≡ None

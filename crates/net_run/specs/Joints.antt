@@ -2,10 +2,10 @@
 use Rattle.std.specs.Prelude.{ℕ, ◌≡◌, ◌==◌, ◌&&◌, Bool, List, [], ◌∷◌, ◌++◌, Option, Some, None, if◌then◌else◌, nat_lt, filter}
 use Rattle.std.specs.List.{All, range_with_len}
 use Rattle.stp_topology.specs.declared.network.Network.{Network}
-use Rattle.agent_link.specs.Link.{Half, Wire}
+use Rattle.agent_link.specs.Link.{Half, OutHalf, Wire}
 use Rattle.agent_node.specs.Doors.{plug_to, crossed}
-use Rattle.agent_node.specs.Openings.{are_linked, others_of}
-use Rattle.agent_node.specs.Kept.{AreEnds, plugs_of}
+use Rattle.agent_node.specs.Openings.{are_linked, others_of, nothing_planned}
+use Rattle.agent_node.specs.Kept.{AreEnds, ArePlanned, plugs_of}
 use Rattle.agent_threads.specs.Nets.{IsAbsent}
 use Rattle.net_run.specs.declared.joints.Joint.{Joint}
 
@@ -40,10 +40,14 @@ ends_when linked n b = if nat_lt b n then filter (linked b) (range_with_len 0 n)
 abbrev pub AreJoined : Network → ℕ → List Joint → Type 0
 AreJoined t n js = (b : ℕ) → ends_of b js ≡ ends_when (are_linked t) n b
 
--- nothing went through
+abbrev pub IsPlain : OutHalf → Type 0
+IsPlain o = o.plan ≡ []
+
+-- nothing went through, and nothing is planned
 pub record IsShutJoint (j : Joint) : Type 0 where
   pub out : j.out.parcels ≡ []
   pub inc : j.inc.parcels ≡ []
+  pub plain : IsPlain j.out
 
 -- the first of two that is there
 abbrev pub or_else : Option (Wire × Wire) → Option (Wire × Wire) → Option (Wire × Wire)
@@ -51,8 +55,9 @@ or_else None o = o
 or_else (Some w) o = Some w
 
 -- An agent's ends were taken away, as far as these are still to be looked at.
-pub record IsSplit (a : ℕ) (others : List ℕ) (outs incs : List Half) (rest todo all : List Joint) : Type 0 where
+pub record IsSplit (a : ℕ) (others : List ℕ) (outs : List OutHalf) (incs : List Half) (rest todo all : List Joint) : Type 0 where
   pub ends : AreEnds others outs incs
+  pub plain : All IsPlain outs
   pub own : (b : ℕ) → or_else (plug_to b (plugs_of others outs incs)) (wires a b todo) ≡ wires a b all
   pub left : (b c : ℕ) → (b ≡ a → ⊥) → or_else (wires b c rest) (wires b c todo) ≡ wires b c all
   pub shut : All IsShutJoint rest
@@ -61,8 +66,9 @@ pub record IsSplit (a : ℕ) (others : List ℕ) (outs incs : List Half) (rest t
   pub of_others : (b : ℕ) → (b ≡ a → ⊥) → ends_of b rest ++ ends_of b todo ≡ ends_of b all
 
 -- these are an agent's ends, in the order of those that it has links to; the rest are those of others
-pub record AreOwn (t : Network) (a : ℕ) (outs incs : List Half) (rest all : List Joint) : Type 0 where
+pub record AreOwn (t : Network) (a : ℕ) (outs : List OutHalf) (incs : List Half) (rest all : List Joint) : Type 0 where
   pub ends : AreEnds (others_of t a) outs incs
+  pub planned : ArePlanned (nothing_planned a) (others_of t a) outs
   pub own : (b : ℕ) → plug_to b (plugs_of (others_of t a) outs incs) ≡ wires a b all
   pub left : (b c : ℕ) → (b ≡ a → ⊥) → wires b c rest ≡ wires b c all
   pub shut : All IsShutJoint rest

@@ -3,8 +3,8 @@
 ghost use Rattle.std.specs.Prelude.{◌≡◌, ◌≤◌, ◌<◌, List, ℕ, true, [], length, Some, IfOk, IfErr, IfSome, OnOk};
 ghost use Rattle.std.specs.List.{All};
 ghost use Rattle.stp_topology.specs.Network.{name_of};
-ghost use Rattle.agent_node.specs.Openings.{others_of};
-ghost use Rattle.agent_node.specs.Kept.{AreEnds, plugs_of};
+ghost use Rattle.agent_node.specs.Openings.{others_of, nothing_planned};
+ghost use Rattle.agent_node.specs.Kept.{AreEnds, ArePlanned, plugs_of};
 ghost use Rattle.net_run.specs.Joints.{IsShutJoint, AreJoined};
 ghost use Rattle.net_run.specs.Begun.{IsFresh, AreBegun, AreListed, AreOpened, fault_of};
 ghost use Rattle.net_run.specs.Journals.{no_entries, AreEmpty};
@@ -43,6 +43,7 @@ where
     H::Disk: Drop,
     requires within { agent < length topology.now.agents }
     requires ends { AreEnds (others_of topology.now agent) outgoing incoming }
+    requires planned { ArePlanned (nothing_planned agent) (others_of topology.now agent) outgoing }
     ensures fresh { IfOk result (λ n. IsFresh topology.now agent
         (plugs_of (others_of topology.now agent) outgoing incoming) n) }
     ensures empty { IfOk result (λ n. IfSome (H.holds shelf.old (name_of topology.now agent))

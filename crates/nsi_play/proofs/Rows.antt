@@ -40,7 +40,7 @@ use Rattle.nsi_script.specs.declared.script.Act.{Act}
 use Rattle.nsi_script.specs.declared.script.Group.{Group}
 use Rattle.nsi_agent.specs.Homes.{Routes, home_in}
 use Rattle.nsi_agent.specs.Steps.{after_as, is_new, waits}
-use Rattle.agent_node.specs.Doors.{change_first, says_all, let_through}
+use Rattle.agent_node.specs.Doors.{change_first, passes, says_all, let_through}
 use Rattle.agent_node.specs.Seat.{enters, enters_if}
 use Rattle.agent_node.specs.Turns.{takes, takes_all, works_off, syncs_if, turn_with}
 use Rattle.agent_node.specs.Acts.{ticked, is_quiet}
@@ -149,7 +149,7 @@ pub record IsRow (routes : Routes) : Type 0 where
   pub and_end_it : (played 4 one_ask routes).is_over ≡ true
 
 pub row : (routes : Routes) → IsRow routes
-unfolding kind_number connection_of named_connection reservation_row provision_row lifecycle_row status joined announces is_heard with_heard is_old saw is_waiting without is_taken with_taken lack_at first_from first_lack_by places asks_child request_about reserve_for ask_refusal reserve_refusal hears is_kind open_request reservation_closing provision_closing closes moves requested is_provisioning is_terminating first_machine provided record_waits record_work tells_plane record_tells record_ticks demand provision_event provisions lifecycle_event lives event_of hold_end is_live is_working record_worked record_reserves has_row is_in_place unnamed_refusal modification_refusal refusal lacking capacities_among works forces ticks_all provider_ticks receives provider_step provider_after find_view answers asks_at asks_new asks_found reserves asked_of requester_asked hears_if acked requester_ticks requester_step requester_after asks_if_free asks_if_known home_in after_as is_new waits enters enters_if change_first says_all takes takes_all works_off syncs_if turn_with ticked is_quiet let_through met meets_each round settles asks_among acts begins group plays
+unfolding kind_number connection_of named_connection reservation_row provision_row lifecycle_row status joined announces is_heard with_heard is_old saw is_waiting without is_taken with_taken lack_at first_from first_lack_by places asks_child request_about reserve_for ask_refusal reserve_refusal hears is_kind open_request reservation_closing provision_closing closes moves requested is_provisioning is_terminating first_machine provided record_waits record_work tells_plane record_tells record_ticks demand provision_event provisions lifecycle_event lives event_of hold_end is_live is_working record_worked record_reserves has_row is_in_place unnamed_refusal modification_refusal refusal lacking capacities_among works forces ticks_all provider_ticks receives provider_step provider_after find_view answers asks_at asks_new asks_found reserves asked_of requester_asked hears_if acked requester_ticks requester_step requester_after asks_if_free asks_if_known home_in after_as is_new waits enters enters_if change_first passes says_all takes takes_all works_off syncs_if turn_with ticked is_quiet let_through met meets_each round settles asks_among acts begins group plays
 row routes = record {
   nothing_is_played = refl;
   ticks_are_synced = refl;

@@ -2,8 +2,8 @@
 use Rattle.std.specs.Prelude.{List, map}
 use Rattle.stp_topology.specs.declared.network.Network.{Network}
 use Rattle.agent_node.specs.Seat.{Seat}
-pub use Rattle.agent_node.specs.Openings.{agents, seat_of}
+pub use Rattle.agent_node.specs.Openings.{agents, nothing_planned, seat_of}
 
 -- all agents of a topology, in order
 abbrev pub opening : Network → List Seat
-opening t = map (seat_of t) (agents t)
+opening t = map (seat_of t nothing_planned) (agents t)

@@ -1,12 +1,13 @@
 -- What lies at an agent's doors was said, whatever is queued, pushed or learnt.
-use Rattle.std.proofs.Common.{ℕ, ◌-◌, ◌≡◌, List, [], ◌∷◌, Option, Some, None, inl, inr, refl, sym, subst, length, take, map, eq-eqb, ne_eqb}
+use Rattle.std.proofs.Common.{ℕ, ◌≡◌, List, [], ◌∷◌, Option, Some, None, inl, inr, refl, sym, subst, map, eq-eqb, ne_eqb}
 use Rattle.std.specs.List.{All}
 use Rattle.std.proofs.lemmas.Bool.{cases_eq}
-use Rattle.std.proofs.lemmas.List.Elements.{All-nil, All-cons, All-head, All-tail, All-append, All-push, All-weaker, All-map, All-take, All-drop}
+use Rattle.std.proofs.lemmas.List.Elements.{All-nil, All-cons, All-head, All-tail, All-append, All-push, All-weaker, All-map}
 use Rattle.nsi_primitive.specs.Messages.{identity, addressee}
 use Rattle.nsi_primitive.specs.declared.message.Message.{Message}
 use Rattle.nsi_primitive.specs.declared.message.Parcel.{Parcel}
-use Rattle.agent_node.specs.Doors.{Door, change_first, with_parcel, queue_at, queue_if, says, says_all, pushes, come_through, lying, clears, let_through, learns, most_parcels}
+use Rattle.agent_node.specs.Doors.{Door, change_first, with_parcel, queue_at, queue_if, says, says_all, pushes, come_through, lying, clears, let_through, learns}
+use Rattle.agent_node.proofs.Passing.{passes_out, passes_queue}
 use Rattle.agent_node.proofs.Joints.{change_nil, change_here, change_there, through_nil, through_here, through_there}
 use Rattle.nsi_world.specs.Worlds.{Homes, World, synced_part, IsSaidBy, IsGot}
 use Rattle.nsi_world.specs.Seats.{MayGo, IsDoor, Follows}
@@ -64,12 +65,11 @@ doors_push homes w a ds e h = All-map (IsDoor homes w a) pushes ds (All-weaker (
   where
     step : (d : Door) → IsDoor homes w a d → IsDoor homes w a (pushes d)
     step d k =
-        let n : ℕ = most_parcels - length d.out in
         let all : All (MayGo homes w (synced_part w) a d.other) d.queue = All-weaker (MayGo homes w w.journal a d.other) (MayGo homes w (synced_part w) a d.other) (λ p. go_synced homes w a d.other p e) d.queue k.queue in
         record {
           inc = k.inc;
-          out = All-append (MayGo homes w (synced_part w) a d.other) d.out (take n d.queue) k.out (All-take (MayGo homes w (synced_part w) a d.other) n d.queue all);
-          queue = All-drop (MayGo homes w w.journal a d.other) n d.queue k.queue;
+          out = passes_out (MayGo homes w (synced_part w) a d.other) d.queue d.plan d.out all k.out;
+          queue = passes_queue (MayGo homes w w.journal a d.other) d.queue d.plan d.out k.queue;
         }
 
 -- a parcel that came, with its sender

@@ -11,7 +11,7 @@ use Rattle.nsi_agent.specs.Homes.{Home, Routes, role_in, home_in}
 use Rattle.nsi_agent.specs.Told.{goes_on, told}
 use Rattle.nsi_script.specs.declared.script.Act.{Act}
 use Rattle.nsi_script.specs.declared.script.Group.{Group}
-use Rattle.agent_node.specs.Openings.{agents, others_of, empty_door, seat_of}
+use Rattle.agent_node.specs.Openings.{agents, others_of, empty_door, seat_of, nothing_planned}
 use Rattle.nsi_play.specs.Openings.{opening}
 use Rattle.nsi_world.specs.Worlds.{Homes, empty, IsAgent, synced_part}
 use Rattle.nsi_world.specs.Runs.{is_provider, is_requester}
@@ -40,7 +40,7 @@ unfolding AreDistinct
 range_distinct a zero = tt
 range_distinct a (suc n) = (All-weaker (λ b. a + 1 ≤ b × (b < a + 1 + n)) (λ b. b ≢ a) (λ b h. above a b h.0) (range_with_len (a + 1) n) (ranged (a + 1) n), range_distinct (a + 1) n)
 
-pub numbers_of : (t : Network) (ns : List ℕ) → numbers (map (seat_of t) ns) ≡ ns
+pub numbers_of : (t : Network) (ns : List ℕ) → numbers (map (seat_of t nothing_planned) ns) ≡ ns
 numbers_of t [] = refl
 numbers_of t (n ∷ ns) = ap (λ xs. n ∷ xs) (numbers_of t ns)
 
@@ -60,7 +60,7 @@ no_doors : (homes : Homes) (a : ℕ) (bs : List ℕ) → All (IsDoor homes empty
 no_doors homes a [] = All-nil (IsDoor homes empty a)
 no_doors homes a (b ∷ bs) = All-cons (IsDoor homes empty a) (empty_door b) (map empty_door bs) (no_parcels homes a b) (no_doors homes a bs)
 
-seat_stands : (t : Network) (routes : Routes) (a : ℕ) → IsWellFormed t → a < length t.agents → Stands (home_in t routes) 0 empty (seat_of t a)
+seat_stands : (t : Network) (routes : Routes) (a : ℕ) → IsWellFormed t → a < length t.agents → Stands (home_in t routes) 0 empty (seat_of t nothing_planned a)
 unfolding goes_on
 seat_stands t routes a wf lt = record {
   agent = is_agent t routes a wf lt;
@@ -72,15 +72,15 @@ seat_stands t routes a wf lt = record {
   in_time = omega arith;
 }
 
-seats_stand : (t : Network) (routes : Routes) (ns : List ℕ) → IsWellFormed t → All (λ a. 0 ≤ a × (a < 0 + length t.agents)) ns → All (Stands (home_in t routes) 0 empty) (map (seat_of t) ns)
+seats_stand : (t : Network) (routes : Routes) (ns : List ℕ) → IsWellFormed t → All (λ a. 0 ≤ a × (a < 0 + length t.agents)) ns → All (Stands (home_in t routes) 0 empty) (map (seat_of t nothing_planned) ns)
 seats_stand t routes [] wf all = All-nil (Stands (home_in t routes) 0 empty)
 seats_stand t routes (n ∷ ns) wf all =
     let lt = (All-head (λ a. 0 ≤ a × (a < 0 + length t.agents)) n ns all).1 in
-    All-cons (Stands (home_in t routes) 0 empty) (seat_of t n) (map (seat_of t) ns) (seat_stands t routes n wf (omega (arith, lt))) (seats_stand t routes ns wf (All-tail (λ a. 0 ≤ a × (a < 0 + length t.agents)) n ns all))
+    All-cons (Stands (home_in t routes) 0 empty) (seat_of t nothing_planned n) (map (seat_of t nothing_planned) ns) (seat_stands t routes n wf (omega (arith, lt))) (seats_stand t routes ns wf (All-tail (λ a. 0 ≤ a × (a < 0 + length t.agents)) n ns all))
 
-seats_told : (t : Network) (ns : List ℕ) → All IsTold (map (seat_of t) ns)
+seats_told : (t : Network) (ns : List ℕ) → All IsTold (map (seat_of t nothing_planned) ns)
 seats_told t [] = All-nil IsTold
-seats_told t (n ∷ ns) = All-cons IsTold (seat_of t n) (map (seat_of t) ns) refl (seats_told t ns)
+seats_told t (n ∷ ns) = All-cons IsTold (seat_of t nothing_planned n) (map (seat_of t nothing_planned) ns) refl (seats_told t ns)
 
 empty_fair : (homes : Homes) → IsFair homes empty
 empty_fair homes = record { within = λ a. omega arith; heard = λ a. All-nil (IsHeard homes empty a) }

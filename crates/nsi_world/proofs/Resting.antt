@@ -13,7 +13,7 @@ use Rattle.nsi_script.specs.declared.script.Group.{Group}
 use Rattle.agent_node.specs.Doors.{all_idle}
 use Rattle.agent_node.specs.Seat.{Seat}
 use Rattle.agent_node.specs.Acts.{is_quiet}
-use Rattle.agent_node.specs.Openings.{agents, others_of, empty_door, seat_of}
+use Rattle.agent_node.specs.Openings.{agents, others_of, empty_door, seat_of, nothing_planned}
 use Rattle.nsi_play.specs.Openings.{opening}
 use Rattle.nsi_play.specs.Rounds.{Net, round, emptied, is_quiet_in, all_quiet}
 use Rattle.nsi_play.specs.Play.{Played, settles, asks_among, begins, group, plays}
@@ -70,13 +70,13 @@ no_parcels : (bs : List ℕ) → all_idle (map empty_door bs) ≡ true
 no_parcels [] = refl
 no_parcels (b ∷ bs) = no_parcels bs
 
-seat_quiet : (homes : Homes) (t : Network) (a : ℕ) → is_quiet_in homes (seat_of t a) ≡ true
+seat_quiet : (homes : Homes) (t : Network) (a : ℕ) → is_quiet_in homes (seat_of t nothing_planned a) ≡ true
 unfolding is_quiet
 seat_quiet homes t a = ap (λ b. b && all_idle (map empty_door (others_of t a))) (no_work (homes a).role) ∙ no_parcels (others_of t a)
 
-seats_quiet : (homes : Homes) (t : Network) (ns : List ℕ) → all_quiet homes (map (seat_of t) ns) ≡ true
+seats_quiet : (homes : Homes) (t : Network) (ns : List ℕ) → all_quiet homes (map (seat_of t nothing_planned) ns) ≡ true
 seats_quiet homes t [] = refl
-seats_quiet homes t (n ∷ ns) = ap (λ b. b && all_quiet homes (map (seat_of t) ns)) (seat_quiet homes t n) ∙ seats_quiet homes t ns
+seats_quiet homes t (n ∷ ns) = ap (λ b. b && all_quiet homes (map (seat_of t nothing_planned) ns)) (seat_quiet homes t n) ∙ seats_quiet homes t ns
 
 pub opening_quiet : (t : Network) (routes : Routes) → all_quiet (home_in t routes) (opening t) ≡ true
 opening_quiet t routes = seats_quiet (home_in t routes) t (agents t)

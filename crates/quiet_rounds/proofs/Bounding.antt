@@ -1,10 +1,12 @@
 -- Nets stay bounded.
-use Rattle.std.proofs.Common.{ℕ, ◌-◌, ◌≡◌, ◌≢◌, ◌≤◌, List, [], ◌∷◌, ◌++◌, refl, sym, ap, ◌∙◌, subst, arith, length, length-append, length-take, take, map}
+use Rattle.std.proofs.Common.{ℕ, ◌≡◌, ◌≢◌, ◌≤◌, List, [], ◌∷◌, refl, sym, ap, ◌∙◌, subst, arith, length, map}
 use Rattle.std.specs.List.{All, AllPairs}
 use Rattle.std.proofs.lemmas.List.Elements.{All-nil, All-cons, All-head, All-tail, All-weaker, All-map}
 use Rattle.nsi_agent.specs.Homes.{Home}
 use Rattle.nsi_primitive.specs.declared.message.Parcel.{Parcel}
-use Rattle.agent_node.specs.Doors.{Door, HasMet, most_parcels, others, pushes, clears, lying}
+use Rattle.agent_link.specs.Link.{most_parcels}
+use Rattle.agent_node.specs.Doors.{Door, HasMet, others, pushes, clears, lying}
+use Rattle.agent_node.proofs.Passing.{pushes_front}
 use Rattle.agent_node.specs.Seat.{Seat}
 use Rattle.agent_node.specs.Turns.{cleared, synced_all, turn_entered, turn_with}
 use Rattle.nsi_play.specs.Rounds.{Net, Homes, turned_in, turned_all, meets_each, meets_all, met_all, round}
@@ -28,9 +30,6 @@ pub record IsTurnedIn (ns : List ℕ) (s : Seat) : Type 0 where
   pub apart : AllPairs (λ a b. b ≢ a) (others s.doors)
   pub lead : All (LeadsTo ns) s.doors
 
-push_few : (out queue : List Parcel) → out ≡ [] → length (out ++ take (most_parcels - length out) queue) ≤ most_parcels
-push_few out queue e = omega (arith, ap length e, length-append out (take (most_parcels - length out) queue), length-take (most_parcels - length out) queue)
-
 cleared_taken : (ds : List Door) → All IsTaken (map clears ds)
 cleared_taken [] = All-nil IsTaken
 cleared_taken (d ∷ ds) = All-cons IsTaken (clears d) (map clears ds) refl (cleared_taken ds)
@@ -45,7 +44,7 @@ turned_by ns s ds h e =
     let met : All HasMet ds = kept HasMet (map clears s.doors) ds (λ d k. k) (λ d k. k) e (All-map HasMet clears s.doors h.met) in
     record {
       taken = All-map IsTaken pushes ds (kept IsTaken (map clears s.doors) ds (λ d k. k) (λ d k. k) e (cleared_taken s.doors));
-      few = All-map LetsFew pushes ds (All-weaker HasMet (λ d. LetsFew (pushes d)) (λ d k. push_few d.out d.queue k) ds met);
+      few = All-map LetsFew pushes ds (All-weaker HasMet (λ d. LetsFew (pushes d)) (λ d k. (pushes_front d k).few) ds met);
       apart = subst (AllPairs (λ a b. b ≢ a)) (sym (mapped_others pushes (λ d. refl) ds ∙ (same_others (map clears s.doors) ds e ∙ mapped_others clears (λ d. refl) s.doors))) h.apart;
       lead = All-map (LeadsTo ns) pushes ds (kept (LeadsTo ns) (map clears s.doors) ds (λ d k. k) (λ d k. k) e (All-map (LeadsTo ns) clears s.doors h.lead));
     }

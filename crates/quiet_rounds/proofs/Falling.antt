@@ -1,5 +1,5 @@
 -- Less is left to do behind a round in which nothing happens.
-use Rattle.std.proofs.Common.{ℕ, zero, suc, ◌-◌, ◌<◌, ◌≤◌, ◌≡◌, ◌==◌, ◌&&◌, true, false, List, [], ◌∷◌, ◌++◌, is_none, refl, sym, ap, ◌∙◌, subst, arith, length, get_or, map, eq-eqb, zero-le, le_refl}
+use Rattle.std.proofs.Common.{ℕ, ◌*◌, ◌+◌, zero, suc, ◌-◌, ◌<◌, ◌≤◌, ◌≡◌, ◌==◌, ◌&&◌, true, false, List, [], ◌∷◌, ◌++◌, is_none, refl, sym, ap, ◌∙◌, subst, arith, length, get_or, map, eq-eqb, zero-le, le_refl}
 use Rattle.std.specs.List.{All}
 use Rattle.std.proofs.lemmas.List.Elements.{All-nil, All-cons, All-head, All-tail, All-map}
 use Rattle.nsi_primitive.specs.declared.entry.Event.{Event}
@@ -18,7 +18,7 @@ use Rattle.quiet_rounds.proofs.Greatest.{HasAll, AtDoors, IsAtMost, covers, leas
 use Rattle.quiet_rounds.proofs.Meeting.{each_events, all_keep, all_know}
 use Rattle.quiet_rounds.proofs.Bounding.{round_is}
 use Rattle.quiet_rounds.proofs.Calm.{passes, IsCalm, turn_calm, doors_calm}
-use Rattle.quiet_rounds.proofs.Parcels.{last_falls, last_out, queue_stays, queue_falls, out_few}
+use Rattle.quiet_rounds.proofs.Parcels.{last_falls, last_out, queue_grows, queue_falls, out_few}
 
 ---- Nothing happens to any agent
 
@@ -80,46 +80,46 @@ both f g n m net a b = λ i s lt k d inside. (a i s lt k d inside, b i s lt k d 
 none_of : (n : ℕ) → n ≤ 0 → n ≡ 0
 none_of n h = omega (arith, h)
 
-last_then : (homes : Homes) (net : Net) → CalmRound homes net → greatest last_queued (round homes net) ≤ greatest last_queued net - 1024
+last_then : (homes : Homes) (net : Net) → CalmRound homes net → greatest last_queued (round homes net) ≤ greatest last_queued net - 512
 last_then homes net c =
     let p : ℕ = greatest last_queued net in
-    least last_queued (p - 1024) (round homes net)
-    (queues_then (λ ps. last_message ps ≤ p - 1024) homes net c
-    (at_each (IsAtMost last_queued p) (λ d. last_message (passes d).queue ≤ p - 1024) (numbers net) net (λ d met few h. let a = last_falls d met in omega (arith, a, h)) c.bounded (covers last_queued net)))
+    least last_queued (p - 512) (round homes net)
+    (queues_then (λ ps. last_message ps ≤ p - 512) homes net c
+    (at_each (IsAtMost last_queued p) (λ d. last_message (passes d).queue ≤ p - 512) (numbers net) net (λ d met few h. let a = last_falls d met in omega (arith, a, h)) c.bounded (covers last_queued net)))
 
-queues_stay : (homes : Homes) (net : Net) → CalmRound homes net → greatest queued (round homes net) ≤ greatest queued net
-queues_stay homes net c =
+queues_grow : (homes : Homes) (net : Net) → CalmRound homes net → greatest queued (round homes net) ≤ greatest queued net + 512
+queues_grow homes net c =
     let l : ℕ = greatest queued net in
-    least queued l (round homes net)
-    (queues_then (λ ps. length ps ≤ l) homes net c
-    (at_each (IsAtMost queued l) (λ d. length (passes d).queue ≤ l) (numbers net) net (λ d met few h. let a = queue_stays d met few in omega (arith, a, h)) c.bounded (covers queued net)))
+    least queued (l + 512) (round homes net)
+    (queues_then (λ ps. length ps ≤ l + 512) homes net c
+    (at_each (IsAtMost queued l) (λ d. length (passes d).queue ≤ l + 512) (numbers net) net (λ d met few h. let a = queue_grows d met few in omega (arith, a, h)) c.bounded (covers queued net)))
 
 -- where no message comes
 no_message : (net : Net) → greatest last_come net ≡ 0 → AtDoors (IsAtMost last_come 0) net
 no_message net e = subst (λ n. AtDoors (IsAtMost last_come n) net) e (covers last_come net)
 
-queues_fall : (homes : Homes) (net : Net) → CalmRound homes net → greatest last_come net ≡ 0 → greatest queued (round homes net) ≤ greatest queued net - 1024
+queues_fall : (homes : Homes) (net : Net) → CalmRound homes net → greatest last_come net ≡ 0 → greatest queued (round homes net) ≤ greatest queued net - 512
 queues_fall homes net c e =
     let l : ℕ = greatest queued net in
-    least queued (l - 1024) (round homes net)
-    (queues_then (λ ps. length ps ≤ l - 1024) homes net c
-    (at_each (BothAtMost queued l last_come 0) (λ d. length (passes d).queue ≤ l - 1024) (numbers net) net
+    least queued (l - 512) (round homes net)
+    (queues_then (λ ps. length ps ≤ l - 512) homes net c
+    (at_each (BothAtMost queued l last_come 0) (λ d. length (passes d).queue ≤ l - 512) (numbers net) net
     (λ d met few h. let a = queue_falls d met (none_of (last_come d) h.1) in let b = h.0 in omega (arith, a, b))
     c.bounded (both queued last_come l 0 net (covers queued net) (no_message net e))))
 
-messages_then : (homes : Homes) (net : Net) → CalmRound homes net → greatest last_come (round homes net) ≤ greatest last_queued net
+messages_then : (homes : Homes) (net : Net) → CalmRound homes net → greatest last_come (round homes net) ≤ 2 * greatest last_queued net
 messages_then homes net c =
     let p : ℕ = greatest last_queued net in
-    least last_come p (round homes net)
-    (known_then (λ ps. last_message ps ≤ p) zero-le homes net c
-    (at_each (IsAtMost last_queued p) (λ d. last_message (passes d).out ≤ p) (numbers net) net (λ d met few h. let a = last_out d met in omega (arith, a, h)) c.bounded (covers last_queued net)))
+    least last_come (2 * p) (round homes net)
+    (known_then (λ ps. last_message ps ≤ 2 * p) zero-le homes net c
+    (at_each (IsAtMost last_queued p) (λ d. last_message (passes d).out ≤ 2 * p) (numbers net) net (λ d met few h. let a = last_out d met in omega (arith, a, h)) c.bounded (covers last_queued net)))
 
-known_few : (homes : Homes) (net : Net) → CalmRound homes net → greatest last_come net ≡ 0 → greatest come (round homes net) ≤ greatest queued net
+known_few : (homes : Homes) (net : Net) → CalmRound homes net → greatest last_come net ≡ 0 → greatest come (round homes net) ≤ 2 * greatest queued net
 known_few homes net c e =
     let l : ℕ = greatest queued net in
-    least come l (round homes net)
-    (known_then (λ ps. length ps ≤ l) zero-le homes net c
-    (at_each (BothAtMost queued l last_come 0) (λ d. length (passes d).out ≤ l) (numbers net) net
+    least come (2 * l) (round homes net)
+    (known_then (λ ps. length ps ≤ 2 * l) zero-le homes net c
+    (at_each (BothAtMost queued l last_come 0) (λ d. length (passes d).out ≤ 2 * l) (numbers net) net
     (λ d met few h. let a = out_few d met (none_of (last_come d) h.1) in let b = h.0 in omega (arith, a, b))
     c.bounded (both queued last_come l 0 net (covers queued net) (no_message net e))))
 
@@ -165,7 +165,7 @@ any_none : (n : ℕ) → n ≤ 0 → one_if_any n ≡ 0
 any_none zero h = refl
 any_none (suc n) h = absurd (omega (arith, h))
 
-falls : (p f l g q e k c : ℕ) → q ≤ p - 1024 → k ≤ l → (f ≡ 0 → k ≤ l - 1024) → e ≤ p → (f ≡ 0 → c ≤ l) → (l ≡ 0 → g ≡ 0 → ⊥) → weight q e k c < weight p f l g
+falls : (p f l g q e k c : ℕ) → q ≤ p - 512 → k ≤ l + 512 → (f ≡ 0 → k ≤ l - 512) → e ≤ 2 * p → (f ≡ 0 → c ≤ 2 * l) → (l ≡ 0 → g ≡ 0 → ⊥) → weight q e k c < weight p f l g
 falls (suc p) f l g q e k c a b s m t n = let x = any_few e in let y = any_few c in omega (arith, a, b, x, y)
 falls zero (suc f) l g q e k c a b s m t n = let x = any_none e m in let y = any_few c in omega (arith, a, b, x, y)
 falls zero zero (suc l) g q e k c a b s m t n = let x = any_none e m in let y = any_few c in let z = s refl in omega (arith, a, z, x, y)
@@ -177,5 +177,5 @@ left_falls homes net bounded busy none =
     let c : CalmRound homes net = record { bounded = bounded; rests = none_happens homes (turned_all homes net) net (sym (ap events_of (round_is homes net)) ∙ none) } in
     let r : Net = round homes net in
     falls (greatest last_queued net) (greatest last_come net) (greatest queued net) (greatest come net) (greatest last_queued r) (greatest last_come r) (greatest queued r) (greatest come r)
-    (last_then homes net c) (queues_stay homes net c) (queues_fall homes net c) (messages_then homes net c) (known_few homes net c)
+    (last_then homes net c) (queues_grow homes net c) (queues_fall homes net c) (messages_then homes net c) (known_few homes net c)
     (λ p q. absurd (let quiet : true ≡ false = sym (none_left homes net c p q) ∙ busy in cc))

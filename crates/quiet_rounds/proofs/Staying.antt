@@ -11,7 +11,7 @@ use Rattle.nsi_agent.specs.Homes.{Home}
 use Rattle.agent_node.specs.Doors.{HasMet, others}
 use Rattle.agent_node.specs.Seat.{Seat, now_at, enters}
 use Rattle.agent_node.specs.Acts.{overdue, ticked, asked, forced}
-use Rattle.agent_node.specs.Openings.{agents, are_linked, others_of, empty_door, seat_of}
+use Rattle.agent_node.specs.Openings.{agents, are_linked, others_of, empty_door, seat_of, nothing_planned}
 use Rattle.nsi_play.specs.Openings.{opening}
 use Rattle.nsi_play.specs.Play.{does, acted, ticked_in}
 use Rattle.nsi_play.specs.Rounds.{Net, Homes, tells, emptied}
@@ -92,7 +92,7 @@ all_apart n i j d lt inside e =
     let same : 0 + j ≡ 0 + i = sym at_j ∙ (e ∙ at_i) in
     omega (arith, lt, same)
 
-seat_opened : (t : Network) (a : ℕ) → IsBoundedIn (agents t) (seat_of t a)
+seat_opened : (t : Network) (a : ℕ) → IsBoundedIn (agents t) (seat_of t nothing_planned a)
 seat_opened t a = record {
   met = opened_met (others_of t a);
   few = opened_few (others_of t a);
@@ -100,11 +100,11 @@ seat_opened t a = record {
   lead = All-map (LeadsTo (agents t)) empty_door (others_of t a) (All-filter (are_linked t a) (Contains (agents t)) (agents t) (All-contains_itself (agents t)));
 }
 
-opened : (t : Network) (ns : List ℕ) → All (IsBoundedIn (agents t)) (map (seat_of t) ns)
+opened : (t : Network) (ns : List ℕ) → All (IsBoundedIn (agents t)) (map (seat_of t nothing_planned) ns)
 opened t [] = All-nil (IsBoundedIn (agents t))
-opened t (n ∷ ns) = All-cons (IsBoundedIn (agents t)) (seat_of t n) (map (seat_of t) ns) (seat_opened t n) (opened t ns)
+opened t (n ∷ ns) = All-cons (IsBoundedIn (agents t)) (seat_of t nothing_planned n) (map (seat_of t nothing_planned) ns) (seat_opened t n) (opened t ns)
 
-opened_numbers : (t : Network) (ns : List ℕ) → numbers (map (seat_of t) ns) ≡ ns
+opened_numbers : (t : Network) (ns : List ℕ) → numbers (map (seat_of t nothing_planned) ns) ≡ ns
 opened_numbers t [] = refl
 opened_numbers t (n ∷ ns) = ap (λ ms. n ∷ ms) (opened_numbers t ns)
 

@@ -1,7 +1,8 @@
 -- Nets between two rounds: what was let through is known, and no link holds more than a round lets through.
 use Rattle.std.specs.Prelude.{◌≢◌, ◌≤◌, ℕ, List, length, map}
 use Rattle.std.specs.List.{All, AllPairs, Contains}
-use Rattle.agent_node.specs.Doors.{Door, HasMet, most_parcels, others}
+use Rattle.agent_link.specs.Link.{most_parcels}
+use Rattle.agent_node.specs.Doors.{Door, HasMet, others}
 use Rattle.agent_node.specs.Seat.{Seat}
 use Rattle.nsi_play.specs.Rounds.{Net}
 

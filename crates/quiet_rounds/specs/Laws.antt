@@ -49,7 +49,7 @@ TellingLeaves = (net : Net) → left (emptied net) ≡ left net
 
 -- what is left to do is few for short queues
 abbrev pub LeftIsFew : Type 0
-LeftIsFew = (net : Net) → left net ≤ 6 * greatest queued net + 3
+LeftIsFew = (net : Net) → left net ≤ 2062 * greatest queued net + 1029
 
 -- more rounds than is left end with all quiet, or something happens in them
 abbrev pub RoundsEnd : Type 0

@@ -44,9 +44,10 @@ one_if_any (suc n) = 1
 
 -- by these four numbers
 abbrev pub weight : ℕ → ℕ → ℕ → ℕ → ℕ
-weight last_queued last_come queued come = 4 * last_queued + 2 * one_if_any last_come + 2 * queued + one_if_any come
+weight last_queued last_come queued come = 2060 * last_queued + 1028 * one_if_any last_come + 2 * queued + one_if_any come
 
 -- What is left falls with every round in which nothing happens: the last message of a queue comes nearer to its front, since only
--- acknowledgements are queued behind it; then no message lies at a door, and no queue grows; then all queues are empty, and nothing comes.
+-- acknowledgements are queued behind it; then no message lies at a door, and every queue gets shorter; then all queues are empty, and nothing
+-- comes. Until then a queue grows by 512 acknowledgements in a round at most, as a link whose parcels all come twice takes 512 of those that may come.
 abbrev pub left : Net → ℕ
 left net = weight (greatest last_queued net) (greatest last_come net) (greatest queued net) (greatest come net)

@@ -1,6 +1,7 @@
 mod Finding
 mod Waiting
 mod Links
+mod Putting
 mod Steps
 mod Moves
 mod Pairs

@@ -90,6 +90,7 @@ met_doors t a o s is ho hs = change_doors (IsDoor t a) o.number (learns (let_thr
     step : (d : Door) → d.other ≡ o.number → IsDoor t a d → IsDoor t a (learns (let_through s.number o.doors) d)
     step d e k = record {
       link = k.link;
+      keeps = k.keeps;
       queue = k.queue;
       out = All-nil (Goes t a d.other);
       inc = subst (λ n. All (Goes t n a) (let_through s.number o.doors)) (sym e) (subst (λ n. All (Goes t o.number a) (let_through n o.doors)) (sym is) (lets_through t a o.number o.doors ho));

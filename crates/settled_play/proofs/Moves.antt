@@ -1,8 +1,8 @@
 -- The steps of a turn, of a tick and of an act.
-use Rattle.std.proofs.Common.{ℕ, zero, suc, ◌+◌, ◌-◌, ◌<◌, ◌≡◌, ◌==◌, Bool, true, false, cond, not, List, [], ◌∷◌, ◌++◌, Option, Some, None, ◌⊎◌, inl, inr, refl, sym, ap, ◌∙◌, subst, length, map, take, drop, get_or, append-nil, take-append-drop, eq-eqb, ne_eqb}
+use Rattle.std.proofs.Common.{ℕ, zero, suc, ◌+◌, ◌<◌, ◌≡◌, ◌==◌, Bool, true, false, cond, not, List, [], ◌∷◌, ◌++◌, Option, Some, None, ◌⊎◌, inl, inr, refl, sym, ap, ◌∙◌, subst, length, map, get_or, append-nil, eq-eqb, ne_eqb}
 use Rattle.std.specs.List.{All, Contains}
 use Rattle.std.proofs.lemmas.Bool.{cases_eq}
-use Rattle.std.proofs.lemmas.List.Elements.{All-nil, All-head, All-tail, All-append, All-push, All-take, All-drop, All-filter, All-weaker, All-map, All-contains, Contains-append_left, Contains-append_right, Contains-append_cases, Contains-push}
+use Rattle.std.proofs.lemmas.List.Elements.{All-nil, All-head, All-tail, All-append, All-push, All-filter, All-weaker, All-map, All-contains, Contains-append_left, Contains-push}
 use Rattle.nsi_primitive.specs.Messages.{identity, addressee, is_request, is_query}
 use Rattle.nsi_primitive.specs.declared.entry.Entry.{Entry}
 use Rattle.nsi_primitive.specs.declared.entry.Input.{Input}
@@ -20,13 +20,15 @@ use Rattle.nsi_agent.specs.Told.{told, IsSame, IsSameTo, WasGot}
 use Rattle.nsi_agent.proofs.SeenGot.{seen_was_got}
 use Rattle.nsi_agent.proofs.Telling.{waiting_was_caused}
 use Rattle.nsi_script.specs.declared.script.Act.{Act}
-use Rattle.agent_node.specs.Doors.{Door, others, with_parcel, queue_at, queue_if, says, says_all, pushes, come_through, lying, clears, most_parcels}
+use Rattle.agent_node.specs.Doors.{Door, others, with_parcel, queue_at, queue_if, says, says_all, passes, pushes, come_through, lying, clears}
+use Rattle.agent_node.proofs.Passing.{passes_out, passes_queue}
 use Rattle.agent_node.specs.Openings.{empty_door, others_of}
 use Rattle.agent_node.specs.Seat.{Seat, now_at, enters, enters_if, queues}
 use Rattle.agent_node.specs.Turns.{cleared, takes, takes_all, work_then, works_off, worked, sync_event, syncs, syncs_if, synced_all, pushed, turn_with, turned}
 use Rattle.agent_node.specs.Acts.{asked, forced, is_overdue, overdue, tick_at, ticked}
 use Rattle.nsi_play.specs.Play.{changes, does}
-use Rattle.settled_play.proofs.Finding.{door_to, none_there, first_there, later_there, first_or_later, change_doors, map_door, others_map, lies_there, with_leads, queued_there, queue_keeps, says_keeps, said_there, others_change}
+use Rattle.settled_play.proofs.Finding.{door_to, door_all, none_there, first_there, later_there, first_or_later, change_doors, map_door, others_map, lies_there, with_leads, queued_there, queue_keeps, says_keeps, said_there, others_change}
+use Rattle.settled_play.proofs.Putting.{IsRepeat, LosesNone, passes_keep, passes_lose}
 use Rattle.settled_play.proofs.Waiting.{acked_before}
 use Rattle.nsi_world.proofs.Names.{home_leads}
 use Rattle.settled_play.proofs.Links.{Given, Goes, IsLinked, Way, said_goes}
@@ -48,7 +50,7 @@ keeps_queue t a c p hs ds g = record {
 }
   where
     with_one : (d : Door) → d.other ≡ c → IsDoor t a d → IsDoor t a (with_parcel p d)
-    with_one d e k = record { link = k.link; queue = All-push (Goes t a d.other) d.queue p k.queue (subst (λ n. Goes t a n p) (sym e) g); out = k.out; inc = k.inc }
+    with_one d e k = record { link = k.link; queue = All-push (Goes t a d.other) d.queue p k.queue (subst (λ n. Goes t a n p) (sym e) g); out = k.out; inc = k.inc; keeps = k.keeps }
 
     more : (q x : Parcel) (d : Door) → Contains d.queue q ⊎ Contains d.out q → Contains (d.queue ++ x ∷ []) q ⊎ Contains d.out q
     more q x d (inl c) = inl (Contains-append_left d.queue (x ∷ []) q c)
@@ -94,7 +96,7 @@ mapped_from f (x ∷ xs) y c = elim (first_or_later (f x) (map f xs) y c) [
 pub keeps_clear : (t : Network) (a : ℕ) (ds : List Door) → Keeps t a [] (lying ds) ds (map clears ds)
 keeps_clear t a ds = record {
   others = others_map clears (λ d. refl) ds;
-  doors = λ h d c. let r = mapped_from clears ds d c in subst (IsDoor t a) r.2 (let k = h r.0 r.1 in record { link = k.link; queue = k.queue; out = k.out; inc = All-nil (Goes t r.0.other a) });
+  doors = λ h d c. let r = mapped_from clears ds d c in subst (IsDoor t a) r.2 (let k = h r.0 r.1 in record { link = k.link; queue = k.queue; out = k.out; inc = All-nil (Goes t r.0.other a); keeps = k.keeps });
   held = λ h z. held ds h;
   put = λ b p k. subst (λ (d : Door). Contains d.queue p ⊎ Contains d.out p) (sym (map_door b clears (λ d. refl) refl ds)) k;
   came = λ b p k. elim k [
@@ -114,26 +116,18 @@ keeps_clear t a ds = record {
 pub cleared_none : (b : ℕ) (ds : List Door) (p : Parcel) → Contains (door_to b (map clears ds)).inc p → ⊥
 cleared_none b ds p k = none_there p (subst (λ (d : Door). Contains d.inc p) (map_door b clears (λ d. refl) refl ds) k)
 
-abbrev nothing : List Parcel
-nothing = []
-
-take_none : (n : ℕ) → take n nothing ≡ nothing
-take_none zero = refl
-take_none (suc n) = refl
-
-drop_none : (n : ℕ) → drop n nothing ≡ nothing
-drop_none zero = refl
-drop_none (suc n) = refl
-
 pushes_none : (b : ℕ) → pushes (empty_door b) ≡ empty_door b
-pushes_none b = ap (λ (ps : List Parcel). record { other = b; queue = drop (most_parcels - 0) []; out = ps; inc = [] }) (take_none (most_parcels - 0)) ∙ ap (λ (ps : List Parcel). record { other = b; queue = ps; out = []; inc = [] }) (drop_none (most_parcels - 0))
+unfolding passes
+pushes_none b = refl
 
-pub keeps_push : (t : Network) (a : ℕ) (ds : List Door) → Keeps t a [] [] ds (map pushes ds)
-keeps_push t a ds = record {
+pub keeps_push : (t : Network) (a : ℕ) (ds : List Door) → AreDoors t a ds → Keeps t a [] [] ds (map pushes ds)
+keeps_push t a ds are = record {
   others = others_map pushes (λ d. refl) ds;
   doors = λ h d c. let r = mapped_from pushes ds d c in subst (IsDoor t a) r.2 (pushed_door r.0 (h r.0 r.1));
   held = λ d h. h;
-  put = λ b p k. subst (λ (d : Door). Contains d.queue p ⊎ Contains d.out p) (sym (map_door b pushes (λ d. refl) (pushes_none b) ds)) (pushed_put p (door_to b ds) k);
+  put = λ b p k. subst (λ (d : Door). Contains d.queue p ⊎ Contains d.out p) (sym (map_door b pushes (λ d. refl) (pushes_none b) ds))
+      (let d : Door = door_to b ds in
+      passes_keep p d.queue d.plan d.out (door_all (λ d. LosesNone d.plan) b ds (All-nil IsRepeat) (λ d e c. (are d c).keeps)) k);
   came = λ b p k. elim k [
     | inl i ↦ inl (subst (λ (d : Door). Contains d.inc p) (sym (map_door b pushes (λ d. refl) (pushes_none b) ds)) i)
     | inr i ↦ inr i
@@ -142,18 +136,13 @@ keeps_push t a ds = record {
 }
   where
     pushed_door : (d : Door) → IsDoor t a d → IsDoor t a (pushes d)
-    pushed_door d k =
-        let n : ℕ = most_parcels - length d.out in
-        record { link = k.link; queue = All-drop (Goes t a d.other) n d.queue k.queue; out = All-append (Goes t a d.other) d.out (take n d.queue) k.out (All-take (Goes t a d.other) n d.queue k.queue); inc = k.inc }
-
-    pushed_put : (p : Parcel) (d : Door) → Contains d.queue p ⊎ Contains d.out p → Contains (pushes d).queue p ⊎ Contains (pushes d).out p
-    pushed_put p d (inl c) =
-        let n : ℕ = most_parcels - length d.out in
-        elim (Contains-append_cases (take n d.queue) (drop n d.queue) p (subst (λ ps. Contains ps p) (sym (take-append-drop n d.queue)) c)) [
-          | inl x ↦ inr (Contains-append_right d.out (take n d.queue) p x)
-          | inr x ↦ inl x
-        ]
-    pushed_put p d (inr c) = inr (Contains-append_left d.out (take (most_parcels - length d.out) d.queue) p c)
+    pushed_door d k = record {
+      link = k.link;
+      queue = passes_queue (Goes t a d.other) d.queue d.plan d.out k.queue;
+      out = passes_out (Goes t a d.other) d.queue d.plan d.out k.queue k.out;
+      inc = k.inc;
+      keeps = passes_lose d.queue d.plan d.out k.keeps;
+    }
 
 ---- What came is taken
 
@@ -339,7 +328,7 @@ move_turned t routes given a js s h =
     let y : Seat = synced_all home x in
     let o = move_synced t routes given a (length x.fresh == 0) r.journal x r.step.sits in
     let z : Seat = pushed y in
-    let l = step_doors t routes a o.journal [] [] y (map pushes y.doors) (keeps_push t a y.doors) o.step.sits in
+    let l = step_doors t routes a o.journal [] [] y (map pushes y.doors) (keeps_push t a y.doors o.step.sits.doors) o.step.sits in
     let rest : Moves t routes a js (lying s.doors) [] u z = move_twice t routes a js (lying s.doors) [] [] u v z q (move_twice t routes a q.journal [] [] [] v x z r (move_twice t routes a r.journal [] [] [] x y z o (record { journal = o.journal; step = l }))) in
     record {
       moves = record { journal = rest.journal; step = step_twice t routes a js js rest.journal [] (lying s.doors) [] s u z p rest.step };

@@ -21,6 +21,7 @@ use Rattle.agent_node.specs.Openings.{others_of}
 use Rattle.settled_play.specs.Settled.{WasAcked}
 use Rattle.settled_play.proofs.Finding.{door_to, first_or_later}
 use Rattle.settled_play.proofs.Links.{Goes, IsLinked}
+use Rattle.settled_play.proofs.Putting.{LosesNone}
 
 ---- What was entered
 
@@ -71,6 +72,7 @@ pub record IsDoor (t : Network) (a : ℕ) (d : Door) : Type 0 where
   pub queue : All (Goes t a d.other) d.queue
   pub out : All (Goes t a d.other) d.out
   pub inc : All (Goes t d.other a) d.inc
+  pub keeps : LosesNone d.plan
 
 -- it came through a link
 abbrev pub IsInHand : Network → ℕ → ℕ × Parcel → Type 0

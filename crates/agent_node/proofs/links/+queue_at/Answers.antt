@@ -12,5 +12,5 @@ returns-in_ok-put-clause-doors t c =
     let ls = c.in-Some.rest.now in
     let e : c.args.links.now ≡ l ∷ ls = search rules in
     let h : l.other ≡ c.args.to = search rules in
-    ap (λ (q : List Parcel). record { other = l.other; queue = q; out = l.out.parcels; inc = l.inc.parcels } ∷ doors ls) c.in_ok-put.ensures
+    ap (λ (q : List Parcel). record { other = l.other; queue = q; out = l.out.parcels; plan = l.out.plan; inc = l.inc.parcels } ∷ doors ls) c.in_ok-put.ensures
     ∙ sym (ap (λ (ks : List Link). queue_at c.args.to c.args.parcel (doors ks)) e ∙ change_here c.args.to (with_parcel c.args.parcel) (door_of l) (doors ls) h)

@@ -63,6 +63,12 @@ returns-then-len-before-clause-ok g c = λ t o routes r.
       (λ q. cc),
     )
 
+pub returns-then-len-before-clause-more : goal.returns-then-len-before-clause-more
+returns-then-len-before-clause-more g c = λ e.
+    let l = c.loop-alloc in
+    let count = go_count 0 c.args.nodes.now.items l.nodes.items c.args.events.now.items l.events.items l.invariant.leaves.further in
+    omega (arith, count, c.if-len-before.true)
+
 pub returns-then-len-before-clause-agents : goal.returns-then-len-before-clause-agents
 returns-then-len-before-clause-agents g c = same_agents_twice c.args.nodes.now.items c.loop-alloc.nodes.items c.step.new.nodes.items (same_agents c.args.nodes.now.items c.loop-alloc.nodes.items c.loop-alloc.invariant.leaves.same) c.in_ok-step.ensures.agents
 

@@ -1,4 +1,4 @@
-use Rattle.std.proofs.Common.{◌-◌, ◌++◌, ◌∙◌, sym, ap, arith, length, length-append, [], append-nil, append_assoc, Err}
+use Rattle.std.proofs.Common.{◌-◌, ◌+◌, ◌*◌, ◌<◌, Bool, if◌then◌else◌, subst, ◌++◌, ◌∙◌, sym, ap, arith, length, length-append, [], append-nil, append_assoc, Err}
 use Rattle.std.proofs.lemmas.Result.{err_from_is_err_and}
 use Rattle.nsi_agent.specs.Homes.{home_in}
 use Rattle.quiet_rounds.specs.Bounded.{IsBounded}
@@ -8,7 +8,7 @@ use Rattle.agent_threads.proofs.Coming.{settled_none, settled_then, settled_over
 use Rattle.agent_threads.proofs.Causes.{same_error}
 use Rattle.agent_threads.proofs.Leaves.{leaves_none, leaves_then}
 use Rattle.agent_threads.proofs.Bounding.{settled_bounded}
-use Rattle.agent_threads.proofs.Going.{anyhow, still_one, room_after, go_count}
+use Rattle.agent_threads.proofs.Going.{anyhow, still_one, room_after, go_count, rests_or_fills}
 use Rattle.agent_threads.proofs.group.settle.Goals as goal
 
 pub loop-quiet-init : goal.loop-quiet-init
@@ -50,6 +50,15 @@ returns-in_err-quiet-clause-long g c = λ t o routes r h.
 
 pub returns-in_err-quiet-clause-agents : goal.returns-in_err-quiet-clause-agents
 returns-in_err-quiet-clause-agents g c = same_agents_twice c.args.nodes.now.items c.loop-quiet.nodes.items c.advance.new.nodes.items (same_agents c.args.nodes.now.items c.loop-quiet.nodes.items c.loop-quiet.invariant.leaves.same) c.in_err-quiet.ensures.agents
+
+pub loop-quiet-smaller : goal.loop-quiet-smaller
+loop-quiet-smaller g c =
+    let l = c.loop-quiet in
+    let before = length l.events.items in
+    let after = length c.advance.new.events.items in
+    let count = go_count 0 l.nodes.items c.advance.new.nodes.items l.events.items c.advance.new.events.items c.in_ok-quiet.ensures.leaves.further in
+    subst (λ (b : Bool). 2 * (c.args.room - after) + (if c.in_ok-quiet.quiet then 0 else 1) < 2 * (c.args.room - before) + (if b then 0 else 1)) (sym c.loop-quiet-test.true)
+    (rests_or_fills c.args.room before after c.in_ok-quiet.quiet (omega (arith, count)) c.in_ok-quiet.ensures.within c.in_ok-quiet.ensures.more)
 
 pub loop-quiet-preserved : goal.loop-quiet-preserved
 loop-quiet-preserved g c =

@@ -1,4 +1,4 @@
-use Rattle.std.proofs.Common.{◌≡◌, ◌∷◌, [], ◌++◌, ◌∙◌, ℕ, subst, sym, ap, ap₂, arith, length, List}
+use Rattle.std.proofs.Common.{rules, Option, option_to_list, ◌≡◌, ◌∷◌, [], ◌++◌, ◌∙◌, ℕ, subst, sym, ap, ap₂, arith, length, List}
 use Rattle.agent_node.specs.Kept.{Kept}
 use Rattle.agent_node.specs.Seat.{Seat}
 use Rattle.nsi_play.specs.Rounds.{Net, met_all, meets_each}
@@ -112,3 +112,20 @@ returns-in-Some-clause-others g t c = λ m h.
     (c.meet_rest.ensures.there m (absent_last m ks k absent) ∙ (ap (plugs_to m) v ∙ c.meet_all.ensures.others m front))
     (c.meet_rest.ensures.here m mid)
     ∙ (sym (plugs_more m ks k) ∙ ap (plugs_to m) (sym c.in-Some.ensures.items))))
+
+pub returns-in_default-clause-all : goal.returns-in_default-clause-all
+returns-in_default-clause-all g t c =
+    let now : c.pop.new.self.items ≡ [] = search rules in
+    let was : c.args.nodes.now.items ≡ [] = c.pop.ensures.items ∙ (ap (λ (ks : List Kept). ks ++ option_to_list c.pop.result) now ∙ ap (λ (o : Option Kept). option_to_list o) c.in_default.is) in
+    ap seats now ∙ sym (ap (λ (ks : List Kept). met_all (seats ks)) was)
+
+pub returns-in_default-clause-each : goal.returns-in_default-clause-each
+returns-in_default-clause-each g t c =
+    let now : c.pop.new.self.items ≡ [] = search rules in
+    let was : c.args.nodes.now.items ≡ [] = c.pop.ensures.items ∙ (ap (λ (ks : List Kept). ks ++ option_to_list c.pop.result) now ∙ ap (λ (o : Option Kept). option_to_list o) c.in_default.is) in
+    subst (λ (ks : List Kept). EachIs Stays ks c.pop.new.self.items) (sym was) (subst (λ (ks : List Kept). EachIs Stays [] ks) (sym now) tt)
+
+pub returns-in_default-clause-wired : goal.returns-in_default-clause-wired
+returns-in_default-clause-wired g t c =
+    let now : c.pop.new.self.items ≡ [] = search rules in
+    subst AreWired (sym now) tt

@@ -1,7 +1,10 @@
-use Rattle.std.proofs.Common.{List, sym, subst, arith, length}
+use Rattle.std.proofs.Common.{List, Err, ◌≡◌, ◌∙◌, sym, ap, subst, arith, length}
 use Rattle.std.specs.List.{All}
 use Rattle.nsi_primitive.specs.declared.entry.Event.{Event}
 use Rattle.trace_text.specs.Lines.{HasLine}
+use Rattle.agent_threads.specs.declared.fault.RoundFault.{RoundFault}
+use Rattle.agent_threads.specs.declared.fault.RunFault.{RunFault}
+use Rattle.agent_threads.proofs.Causes.{was_long}
 use Rattle.agent_threads.proofs.Keeping.{group_kept}
 use Rattle.agent_threads.proofs.Going.{go_first, have_lines, under_room, under_after, up_to_after}
 use Rattle.agent_threads.proofs.run.play_group.Goals as goal
@@ -28,3 +31,9 @@ pub returns-clause-clocks : goal.returns-clause-clocks
 returns-clause-clocks g c =
     let all = go_first c.args.group.now.at c.args.nodes.now.items c.make_group.new.nodes.items c.new-events.result.items c.make_group.new.events.items c.new-events.ensures.items c.in-Ok.ensures.leaves.further in
     up_to_after c.args.group.now.at (length c.make_group.new.events.items) c.args.group.now.at c.args.nodes.now.items c.make_group.new.nodes.items (omega arith) all.1 c.requires.later
+
+pub returns-in-Err-clause-long : goal.returns-in-Err-clause-long
+returns-in-Err-clause-long g c = λ t o routes r h.
+    let long : c.run_fault.result ≡ RunFault.Long = cc in
+    let p = c.in-Err.ensures.long t o routes r (ap (λ (f : RoundFault). Err f) (was_long c.in-Err.fault (sym c.run_fault.ensures ∙ long))) in
+    (p.0, λ more. let q = p.1 more in omega (arith, q, c.requires.within))

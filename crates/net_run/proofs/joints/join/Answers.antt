@@ -28,8 +28,8 @@ returns-clause-shut c =
     let both : c.push-2.new.self.items ≡ c.push.new.self.items ++ y ∷ [] = search rules in
     let there = c.in_ok-there.ensures.empty in
     let back = c.in_ok-back.ensures.empty in
-    let one : IsShutJoint x = record { out = there.0; inc = back.1 } in
-    let two : IsShutJoint y = record { out = back.0; inc = there.1 } in
+    let one : IsShutJoint x = record { out = there.0; inc = back.1; plain = c.in_ok-there.ensures.plan ∙ search rules } in
+    let two : IsShutJoint y = record { out = back.0; inc = there.1; plain = c.in_ok-back.ensures.plan ∙ search rules } in
     subst (λ (js : List Joint). All IsShutJoint js) (sym both)
     (All-push IsShutJoint c.push.new.self.items y (subst (λ (js : List Joint). All IsShutJoint js) (sym first) (All-push IsShutJoint old x c.requires.shut one)) two)
 

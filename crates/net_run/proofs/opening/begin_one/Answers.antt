@@ -1,6 +1,17 @@
 use Rattle.std.proofs.Common.{inl, rules}
+use Rattle.agent_node.specs.Openings.{nothing_planned}
 use Rattle.net_run.proofs.Counting.{risen_more}
 use Rattle.net_run.proofs.opening.begin_one.Goals as goal
 
 pub returns-in-Err-Failed-clause-cause : goal.returns-in-Err-Failed-clause-cause
 returns-in-Err-Failed-clause-cause g c = (c.requires.within, inl (risen_more (g.H.Shelf.faults c.args.shelf.now) (g.H.Shelf.faults c.fetch.new.self) (c.in-Err-Failed.ensures.failed (search rules))))
+
+pub returns-in-Ok-fresh-clause-fresh : goal.returns-in-Ok-fresh-clause-fresh
+returns-in-Ok-fresh-clause-fresh g c = record {
+  seat = c.in-Ok-fresh.ensures.seat nothing_planned c.requires.planned;
+  network = search rules;
+  plugs = search rules;
+  fault = search rules;
+  faults = search rules;
+  stops = search rules;
+}
