@@ -19,7 +19,8 @@ use Rattle.circuit_pairs.specs.Minding.{no_child, mine}
 use Rattle.circuit_pairs.proofs.Minding.{alike_self}
 use Rattle.circuit_pairs.proofs.Parenting.{dec_pair, mine_own}
 use Rattle.circuit_pairs.proofs.Overseeing.{no_mine}
-use Rattle.circuit_laws.specs.Laws.{child_at, HasPhases, IsInStep, AreBackedIn, ChildrenHavePhases, ChildrenAreInStep, ChildrenAreBacked, ChildrenKnowTheirOwn}
+use Rattle.circuit_laws.specs.Backed.{AreBackedIn}
+use Rattle.circuit_laws.specs.Laws.{child_at, HasPhases, IsInStep, ChildrenHavePhases, ChildrenAreInStep, ChildrenAreBacked, ChildrenKnowTheirOwn}
 use Rattle.circuit_laws.proofs.Roles.{Keeps, views_of, aggregates_keep}
 use Rattle.circuit_laws.proofs.Cutting.{view_phases, view_step, view_known, views_backed}
 

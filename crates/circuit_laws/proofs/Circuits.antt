@@ -1,10 +1,10 @@
 -- What an aggregator's own records have as committed stands with all their children, in every cut of a run.
-use Rattle.std.proofs.Common.{ℕ, zero, suc, ◌≡◌, ◌<◌, ◌∙◌, ◌⊎◌, inl, inr, Bool, true, false, List, [], ◌∷◌, ◌++◌, length, get_or, take, Contains, Option, Some, slice_get, refl, sym, ap, subst, arith, true≢false}
+use Rattle.std.proofs.Common.{ℕ, ◌≡◌, ◌<◌, ◌∙◌, ◌⊎◌, inl, inr, Bool, true, false, List, [], ◌∷◌, ◌++◌, length, get_or, take, Contains, Option, Some, refl, sym, ap, subst, arith, true≢false}
 use Rattle.std.specs.List.{All}
 use Rattle.std.proofs.lemmas.Bool.{cases_eq}
 use Rattle.std.proofs.lemmas.List.{get_or_default}
 use Rattle.std.proofs.lemmas.List.Elements.{All-weaker, All-take, All-contains}
-use Rattle.std.proofs.lemmas.Option.{get_or_from_slice_get, slice_get_within}
+use Rattle.std.proofs.lemmas.Option.{get_or_from_slice_get}
 use Rattle.std.proofs.lemmas.Slice.Eq.{bytes_eq-Decides}
 use Rattle.nsi_primitive.specs.Messages.{is_request}
 use Rattle.nsi_primitive.specs.declared.entry.Entry.{Entry}
@@ -28,10 +28,12 @@ use Rattle.aggregator_agent.specs.Setting.{Setting as AggregatorSetting}
 use Rattle.nsi_agent.specs.Homes.{Role, aggregates, home_in}
 use Rattle.nsi_agent.specs.Laws.{WhatIsSaidIsItsOwn}
 use Rattle.nsi_agent.specs.Steps.{after_as}
-use Rattle.nsi_agent.specs.Told.{Told, told, name_in, HasAsked, Asks, IsFor, IsForIn, IsSaid, IsSaidAs}
+use Rattle.nsi_agent.specs.Told.{Told, told, name_in, HasAsked, Asks, IsForIn, IsSaid, IsSaidAs}
 use Rattle.nsi_world.specs.Worlds.{Homes, IsAgent, World, empty, synced_part, IsSaidBy, IsSent, IsTo}
 use Rattle.nsi_world.specs.Runs.{is_requester, world_after, AreAllowed, MayCome, at}
-use Rattle.nsi_world.specs.Heard.{WasSent, IsHeard, IsFair as IsFairWorld}
+use Rattle.nsi_world.specs.Heard.{IsHeard, IsFair as IsFairWorld}
+use Rattle.nsi_world.specs.Laws.{HeardWasSent}
+use Rattle.run_growth.specs.Cuts.{state_of_cut}
 use Rattle.agent_speech.specs.Laws.{RequestCame, IsEven}
 use Rattle.agent_speech.proofs.Every.{blank_is_even}
 use Rattle.agent_speech.proofs.Spoken.{answers_were_asked}
@@ -47,14 +49,15 @@ use Rattle.circuit_pairs.proofs.Minding.{connected, notice_alike}
 use Rattle.circuit_pairs.proofs.Parenting.{dec_pair, mine_own}
 use Rattle.circuit_fit.specs.Fits.{committed_of, IsCommittedBelow, WasAsked, IsReserveFor, IsHonest, Fits, AllFit, AllHonest, IsEnding, AllEnd}
 use Rattle.circuit_fit.proofs.Entering.{entries_keep_fit, entries_keep_ended, fresh_fits}
-use Rattle.nsi_world.specs.Laws.{HeardWasSent}
-use Rattle.circuit_laws.specs.Laws.{IsBackedIn, AreBackedIn, CircuitsStand}
-use Rattle.circuit_laws.proofs.Leading.{LeadsToOthers, leads_to_others}
+use Rattle.circuit_laws.specs.Backed.{IsChildOf, IsBackedIn, HasView}
+use Rattle.circuit_laws.specs.Laws.{RunsAreBacked, CircuitsStand}
+use Rattle.circuit_laws.proofs.Leading.{AsksOthers, asks_others}
 use Rattle.circuit_laws.proofs.Roles.{views_of, aggregates_keep, even_from}
 use Rattle.circuit_laws.proofs.Facts.{told_fair, told_once, answer_said}
 use Rattle.circuit_laws.proofs.Pairs.{told_none, told_more, grown_pair}
 use Rattle.circuit_laws.proofs.Views.{one_knows}
-use Rattle.circuit_laws.proofs.Aggregators.{blank_slot, children_are_backed}
+use Rattle.circuit_laws.proofs.Aggregators.{blank_slot}
+use Rattle.circuit_laws.proofs.Whose.{for_input}
 
 ---- An entry of an aggregator
 
@@ -72,14 +75,6 @@ keeps_fit role setting e = subst KeepsFit (sym e) (aggregator_keeps_fit setting)
 
 ---- What comes
 
-for_input : (homes : Homes) (given : Given homes) (w : World) (a : ℕ) (i : Input) → WasSent homes w a i → IsFor (name_in (homes a).role) i
-for_input homes given w a (Input.Got m) s = s.1 ∙ sym (given.named a)
-for_input homes given w a Input.Tick s = tt
-for_input homes given w a (Input.Acked i) s = tt
-for_input homes given w a (Input.Work n machine) s = tt
-for_input homes given w a (Input.Force n) s = tt
-for_input homes given w a (Input.Ask n ask) s = tt
-
 -- a notice changes nothing that fits
 quiet_honest : (parent : List ℕ) (asked : List Message) (lives : Bool) (b : Body) (c : ℕ) (x : ChildConnection) → is_answering b ≡ false → IsHonest parent asked lives b c x
 unfolding is_answering is_asking is_noting
@@ -96,7 +91,7 @@ reserve_same p q e = cc
 reserve_request : (b : Body) (q : ReserveRequest) → b ≡ Body.Reserve q → is_request b ≡ true
 reserve_request b q e = ap is_request e
 
-module _ (own_law : WhatIsSaidIsItsOwn) (homes : Homes) (given : Given homes) (a : ℕ) (agent : IsAgent homes a) (setting : AggregatorSetting) (role : (homes a).role ≡ aggregates setting) (leads : LeadsToOthers homes a setting) where
+module _ (own_law : WhatIsSaidIsItsOwn) (homes : Homes) (given : Given homes) (a : ℕ) (agent : IsAgent homes a) (setting : AggregatorSetting) (role : (homes a).role ≡ aggregates setting) (leads : AsksOthers homes a) where
   abbrev parent : List ℕ
   parent = name_in (homes a).role
 
@@ -136,16 +131,16 @@ module _ (own_law : WhatIsSaidIsItsOwn) (homes : Homes) (given : Given homes) (a
         let says : IsSaid (name_in (homes a).role) (Asks (homes a).role) (HasAsked (synced_part w a)) n =
         All-contains (IsSaid (name_in (homes a).role) (Asks (homes a).role) (HasAsked (synced_part w a))) (told (homes a) (synced_part w a)).out n (own_law (homes a) (synced_part w a) all_for) by_a.1
         in
-        let asks : Asks (aggregates setting) n.header.provider =
-        subst (λ (r : Role). Asks r n.header.provider) role (subst (λ (t : Bool). IsSaidAs t (name_in (homes a).role) (Asks (homes a).role) (HasAsked (synced_part w a)) n) q.request says).1
+        let asks : Asks (homes a).role n.header.provider =
+        (subst (λ (t : Bool). IsSaidAs t (name_in (homes a).role) (Asks (homes a).role) (HasAsked (synced_part w a)) n) q.request says).1
         in
-        let below = leads asks.0 asks.1 asks.2 asks.3 in
+        let below : (b : ℕ) × IsChildOf homes a n.header.provider b = leads n.header.provider asks in
         record {
           b = below.0;
-          other = below.1;
-          apart = below.2;
-          asked = below.3;
-          named = given.named below.0 ∙ below.4 ∙ asks.4 ∙ ap (λ (h : Header). h.provider) q.header;
+          other = below.1.agent;
+          apart = below.1.other;
+          asked = below.1.asked;
+          named = given.named below.0 ∙ sym below.1.named ∙ ap (λ (h : Header). h.provider) q.header;
         }
 
     ---- One child
@@ -262,14 +257,8 @@ module _ (own_law : WhatIsSaidIsItsOwn) (homes : Homes) (given : Given homes) (a
 
 ---- The law
 
-list_there : {X : Type 0} (css : List (List X)) (n i : ℕ) (x : X) → slice_get (get_or css n []) i ≡ Some x → slice_get css n ≡ Some (get_or css n [])
-list_there [] n i x e = absurd (cc)
-list_there (c ∷ cs) zero i x e = refl
-list_there (c ∷ cs) (suc n) i x e = list_there cs n i x e
-
-pub circuits_stand : WhatIsSaidIsItsOwn → HeardWasSent → CircuitsStand
-circuits_stand own_law heard t routes events a k n v setting own sound formed routed allowed agent role place here there =
-    record { some = below.some; each = each }
+pub circuits_stand : WhatIsSaidIsItsOwn → HeardWasSent → RunsAreBacked → CircuitsStand
+circuits_stand own_law heard backed t routes events sound formed routed allowed a k n v setting own agent role place here there = record { some = below.some; each = each }
   where
     homes : Homes
     homes = home_in t routes
@@ -277,20 +266,21 @@ circuits_stand own_law heard t routes events a k n v setting own sound formed ro
     w : World
     w = world_after empty events
 
-    xs : List ChildConnection
-    xs = children_at n (told_to homes w a k).state.children
+    s : AgentState
+    s = state_of_cut homes w a k
 
-    fits : Fits (name_in (homes a).role) (told_to homes w a k).out (record_at n (told_to homes w a k).state.base.records) xs
-    fits = (cut_fits own_law homes (given_in t routes) a agent setting role (leads_to_others t routes sound formed routed a setting role) events allowed k place).0 n
+    xs : List ChildConnection
+    xs = children_at n s.children
+
+    fits : Fits (name_in (homes a).role) (told_to homes w a k).out (record_at n s.base.records) xs
+    fits = (cut_fits own_law homes (given_in t routes) a agent setting role (asks_others t routes sound formed routed a) events allowed k (place.synced, place.within)).0 n
 
     below : IsCommittedBelow v xs
-    below = fits.committed v (subst (λ (r : Record). Contains (committed_of r) v) (sym (get_or_from_slice_get (told_to homes w a k).state.base.records n own no_record here)) there)
+    below = fits.committed v (subst (λ (r : Record). Contains (committed_of r) v) (sym (get_or_from_slice_get s.base.records n own no_record here)) there)
 
-    each : (i b : ℕ) (x : ChildConnection) → slice_get xs i ≡ Some x → IsAgent homes b → (b ≡ a → ⊥) → is_requester (homes b).role ≡ false → x.child ≡ (homes b).name → (c : ℕ) × IsBackedIn homes w a b x v c
-    each i b x its other apart asked of =
-        let has : Contains x.committed v = subst (λ (y : ChildConnection). Contains y.committed v) (get_or_from_slice_get xs i x x its) (below.each i x (slice_get_within xs i x its)) in
-        let all : AreBackedIn homes w a b x =
-        children_are_backed heard t routes events a b k n i setting xs x allowed agent other role apart asked place (list_there (told_to homes w a k).state.children n i x its) its of
-        in
+    each : (x : ChildConnection) → Contains xs x → Contains x.committed v × (b : ℕ) × (c : ℕ) × IsChildOf homes a x.child b × IsBackedIn homes w a b x v c
+    each x its =
+        let has : Contains x.committed v = All-contains (λ (y : ChildConnection). Contains y.committed v) xs x below.each its in
+        let (b, child, all) = backed t routes events sound formed routed allowed a k x agent place (subst (λ (r : Role). HasView r s x) (sym role) (n, its)) in
         let one : IsBackedIn homes w a b x (get_or x.committed has.0 0) (get_or all.own has.0 0) = all.each has.0 (omega (arith, has.1, all.long)) in
-        (get_or all.own has.0 0, subst (λ (u : ℕ). IsBackedIn homes w a b x u (get_or all.own has.0 0)) (get_or_default x.committed has.0 0 v has.1 ∙ has.2) one)
+        (has, b, get_or all.own has.0 0, child, subst (λ (u : ℕ). IsBackedIn homes w a b x u (get_or all.own has.0 0)) (get_or_default x.committed has.0 0 v has.1 ∙ has.2) one)

@@ -28,7 +28,8 @@ use Rattle.circuit_link.proofs.Abouts.{same_header, IsSaidUnder, said_under}
 use Rattle.circuit_pairs.specs.Pairs.{IsPair, IsAsked, IsCommitOf, IsBacked, AreBacked}
 use Rattle.circuit_pairs.specs.Minding.{no_child}
 use Rattle.circuit_pairs.specs.Laws.{CanTellApart}
-use Rattle.circuit_laws.specs.Laws.{child_at, HasPhases, IsInStep, IsBackedIn, AreBackedIn}
+use Rattle.circuit_laws.specs.Backed.{IsBackedIn, AreBackedIn}
+use Rattle.circuit_laws.specs.Laws.{child_at, HasPhases, IsInStep}
 use Rattle.circuit_laws.proofs.Roles.{Keeps}
 use Rattle.circuit_laws.proofs.Facts.{told_fair, told_once}
 use Rattle.circuit_laws.proofs.Pairs.{grown_pair}

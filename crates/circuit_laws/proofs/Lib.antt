@@ -1,4 +1,5 @@
 mod Rows
+mod AggregatorRun
 pub mod Roles
 pub mod Facts
 pub mod Pairs
@@ -7,4 +8,7 @@ pub mod Cutting
 pub mod Requesters
 pub mod Aggregators
 pub mod Leading
+pub mod Whose
+pub mod Backing
 pub mod Circuits
+pub mod Nothing

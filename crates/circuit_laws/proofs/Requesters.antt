@@ -18,7 +18,8 @@ use Rattle.run_identities.specs.Cuts.{IsPlaceOf, told_to}
 use Rattle.run_identities.proofs.Sent.{given_in}
 use Rattle.circuit_pairs.specs.Minding.{no_view_of, no_child}
 use Rattle.circuit_pairs.proofs.Minding.{alike_self}
-use Rattle.circuit_laws.specs.Laws.{child_at, HasPhases, IsInStep, AreBackedIn, ViewsHavePhases, ViewsAreInStep, ViewsAreBacked, ViewsKnowTheirOwn}
+use Rattle.circuit_laws.specs.Backed.{AreBackedIn}
+use Rattle.circuit_laws.specs.Laws.{child_at, HasPhases, IsInStep, ViewsHavePhases, ViewsAreInStep, ViewsAreBacked, ViewsKnowTheirOwn}
 use Rattle.circuit_laws.proofs.Roles.{Keeps, views_to, requests_keep}
 use Rattle.circuit_laws.proofs.Cutting.{view_phases, view_step, view_known, views_backed}
 

@@ -1,13 +1,12 @@
 -- The laws of circuits in runs: how each view of a parent stands against the record of its child.
-use Rattle.std.specs.Prelude.{ℕ, ◌≡◌, ◌≢◌, ◌<◌, length, get_or, false, List, [], Contains, Option, Some, None, slice_get}
+use Rattle.std.specs.Prelude.{ℕ, ◌≡◌, ◌≢◌, ◌<◌, length, false, List, Option, Some, None, slice_get}
 use Rattle.nsi_primitive.specs.declared.entry.Event.{Event}
 use Rattle.nsi_primitive.specs.declared.kind.Kind.{Kind}
-use Rattle.nsi_primitive.specs.declared.message.Body.{Body}
 use Rattle.nsi_primitive.specs.declared.state.Rsm.{Rsm}
 use Rattle.stp_topology.specs.Laws.{IsWellFormed}
 use Rattle.stp_topology.specs.Sound.{IsSound}
 use Rattle.stp_topology.specs.declared.network.Network.{Network}
-use Rattle.agent_state.specs.State.{record_at, children_at}
+use Rattle.agent_state.specs.State.{record_at}
 use Rattle.agent_state.specs.declared.parent.View.{View}
 use Rattle.child_connection.specs.Views.{ChildConnection, sent}
 use Rattle.connection_record.specs.declared.record.Record.{Record}
@@ -15,13 +14,14 @@ use Rattle.connection_record.specs.Refusal.{place_of}
 use Rattle.requester_agent.specs.Setting.{Setting as RequesterSetting}
 use Rattle.aggregator_agent.specs.Setting.{Setting as AggregatorSetting}
 use Rattle.nsi_agent.specs.Homes.{Routes, AreRoutes, requests, aggregates, home_in}
-use Rattle.nsi_world.specs.Worlds.{Homes, IsAgent, World, empty, IsSent}
+use Rattle.nsi_world.specs.Worlds.{Homes, IsAgent, World, empty}
 use Rattle.nsi_world.specs.Runs.{is_requester, world_after, AreAllowed}
 use Rattle.run_identities.specs.Cuts.{IsPlaceOf, told_to}
 use Rattle.circuit_link.specs.Sides.{standing_of}
 use Rattle.circuit_link.specs.Links.{InStep, Stands, Waits}
-use Rattle.circuit_link.specs.Children.{Child, header_of, record_of, side_of}
+use Rattle.circuit_link.specs.Children.{Child, record_of, side_of}
 use Rattle.circuit_link.specs.Serving.{child_of}
+use Rattle.circuit_laws.specs.Backed.{AreBackedIn, EachViewIsBacked, EachViewRises, EachCircuitStands}
 
 -- what an agent keeps and has said by the entries before a place, as the views of those who ask it see it
 abbrev pub child_at : Homes → World → (b j : ℕ) → Child
@@ -52,25 +52,6 @@ pub record IsInStep (parent : List ℕ) (d : Child) (x : ChildConnection) : Type
   pub in_step : InStep x.committed (standing_of (record_of place d.records)).committed
   pub commits : (record_of place d.records).rsm ≡ Rsm.ReserveCommitting →
       (c : ℕ) × (x.reserve_request ≡ Some (sent c Kind.ReserveCommit)) × (x.pending ≡ (standing_of (record_of place d.records)).pending)
-
--- A version that a view of the agent a has as committed at the agent b: its commit under a correlation and the confirmation were sent, and it
--- is among those of the record by what b has synced.
-pub record IsBackedIn (homes : Homes) (w : World) (a b : ℕ) (x : ChildConnection) (v c : ℕ) : Type 0 where
-  pub connection : ℕ
-  pub known : x.connection ≡ Some connection
-  pub commit : IsSent homes w (record { header = header_of (homes a).name (homes b).name c; body = Body.ReserveCommit connection })
-  pub id : ℕ
-  pub confirmed : IsSent homes w (record { header = header_of (homes a).name (homes b).name c; body = Body.ReserveCommitConfirmed id })
-  pub place : ℕ
-  pub there : place_of connection (homes a).name (child_at homes w b (w.synced b)).records ≡ Some place
-  pub stands : Contains (standing_of (record_at place (child_at homes w b (w.synced b)).records)).committed v
-
--- Each committed version of such a view has a commit of its own: their correlations in the order of the versions, no two the same.
-pub record AreBackedIn (homes : Homes) (w : World) (a b : ℕ) (x : ChildConnection) : Type 0 where
-  pub own : List ℕ
-  pub long : length own ≡ length x.committed
-  pub each : (n : ℕ) → n < length own → IsBackedIn homes w a b x (get_or x.committed n 0) (get_or own n 0)
-  pub apart : (n k : ℕ) → n < length own → k < length own → get_or own n 0 ≡ get_or own k 0 → n ≡ k
 
 ---- Whose view
 
@@ -143,22 +124,20 @@ ChildrenKnowTheirOwn =
     slice_get (told_to homes w a k).state.children n ≡ Some xs → slice_get xs i ≡ Some x → x.child ≡ (homes b).name → slice_get (told_to homes w a k).state.children m ≡ Some ys → slice_get ys j ≡ Some y →
     y.child ≡ (homes b).name → x.connection ≡ Some id → y.connection ≡ Some id → (n ≡ m) × (i ≡ j)
 
----- Circuits
+---- Every run
 
--- A version of a connection that the agent a has made stands in each network on its way: there is one at least, and each has committed it by a
--- commit of its own that was sent and confirmed, and has it in its record by what it has synced.
-pub record IsCircuit (homes : Homes) (w : World) (a : ℕ) (children : List ChildConnection) (v : ℕ) : Type 0 where
-  pub some : children ≡ [] → ⊥
-  pub each : (i b : ℕ) (x : ChildConnection) → slice_get children i ≡ Some x → IsAgent homes b → b ≢ a → is_requester (homes b).role ≡ false → x.child ≡ (homes b).name →
-      (c : ℕ) × IsBackedIn homes w a b x v c
+-- in the world that the events of a run make, in a topology that a text gives
+abbrev pub InEveryRun : (Homes → World → Type 0) → Type 0
+InEveryRun Holds =
+    (t : Network) (routes : Routes) (events : List Event) → IsSound t → IsWellFormed t → AreRoutes t routes → AreAllowed (home_in t routes) empty events →
+    Holds (home_in t routes) (world_after empty events)
 
--- each version that a record of an aggregator has as committed, by the entries before a place, in a topology that a text gives
+-- whose views these are is known too: no premise names the child
+abbrev pub RunsAreBacked : Type 0
+RunsAreBacked = InEveryRun EachViewIsBacked
+
+abbrev pub ViewsRise : Type 0
+ViewsRise = InEveryRun EachViewRises
+
 abbrev pub CircuitsStand : Type 0
-CircuitsStand =
-    (t : Network) (routes : Routes) (events : List Event) (a k n v : ℕ) (setting : AggregatorSetting) (own : Record) → IsSound t → IsWellFormed t → AreRoutes t routes →
-    AreAllowed (home_in t routes) empty events →
-    let homes : Homes = home_in t routes in
-    let w : World = world_after empty events in
-    IsAgent homes a → (homes a).role ≡ aggregates setting → IsPlaceOf w a k →
-    slice_get (told_to homes w a k).state.base.records n ≡ Some own → Contains (standing_of own).committed v →
-    IsCircuit homes w a (children_at n (told_to homes w a k).state.children) v
+CircuitsStand = InEveryRun EachCircuitStands

@@ -1,8 +1,10 @@
 //! The laws of circuits in runs. Each function is its contract.
 
-ghost use Rattle.circuit_laws.specs.Laws.{ViewsHavePhases, ChildrenHavePhases, ViewsAreInStep, ChildrenAreInStep, ViewsAreBacked, ChildrenAreBacked, ViewsKnowTheirOwn, ChildrenKnowTheirOwn, CircuitsStand};
+ghost use Rattle.circuit_laws.specs.Laws.{ViewsHavePhases, ChildrenHavePhases, ViewsAreInStep, ChildrenAreInStep, ViewsAreBacked, ChildrenAreBacked, ViewsKnowTheirOwn, ChildrenKnowTheirOwn, RunsAreBacked, ViewsRise, CircuitsStand};
 
+use child_connection::laws::places;
 use nsi_world::laws::{agents, sent};
+use run_growth::laws::{in_step, rising};
 
 /// In every run, by the phase of a view that a requester has, or an aggregator of a child, one reads off where the record of the agent that
 /// it asks stands, whatever cut of either is taken.
@@ -32,11 +34,24 @@ pub fn known()
     ensures children { ChildrenKnowTheirOwn }
 {}
 
+/// Whatever a crash leaves of an agent, each of its views is of another agent, no requester, and that one backs so all that the view has as
+/// committed; and these versions rise.
+pub fn views()
+    ensures backed { RunsAreBacked }
+    ensures rise { ViewsRise }
+{
+    places();
+    sent();
+    rising();
+    in_step();
+}
+
 /// What an aggregator's own record has as committed stands in each network on its way, by what that network has synced: a circuit that is
 /// confirmed from end to end is there, whatever was lost, came twice or came late, and whoever began again from what was synced.
 pub fn circuits()
     ensures { CircuitsStand }
 {
+    views();
     sent();
     agents();
 }

@@ -1,5 +1,5 @@
 -- A play is a safe run that asks the whole script, and comes to rest; so is each front of it a safe run.
-use Rattle.std.proofs.Common.{ℕ, zero, suc, ◌≡◌, ◌≤◌, List, [], ◌∷◌, ◌++◌, length, take, refl, arith}
+use Rattle.std.proofs.Common.{ℕ, zero, suc, ◌≡◌, ◌≤◌, List, [], ◌∷◌, ◌++◌, length, take, refl, subst, arith}
 use Rattle.std.specs.List.{All}
 use Rattle.std.proofs.lemmas.List.Elements.{All-nil, All-cons, All-head, All-tail, All-append}
 use Rattle.nsi_primitive.specs.declared.entry.Event.{Event}
@@ -14,10 +14,15 @@ use Rattle.nsi_script.specs.Scripts.{acts_of, seconds_of}
 use Rattle.nsi_agent.specs.Homes.{Routes, AreRoutes, home_in}
 use Rattle.nsi_play.specs.Rounds.{Net}
 use Rattle.nsi_play.specs.Play.{IsPlay}
-use Rattle.nsi_world.specs.Worlds.{empty}
-use Rattle.nsi_world.specs.Runs.{AreAllowed, asks_of, numbered}
+use Rattle.nsi_world.specs.Worlds.{World, empty}
+use Rattle.nsi_world.specs.Runs.{IsRun, world_after, AreAllowed, asks_of, numbered}
 use Rattle.nsi_world.specs.Laws.{PlayIsRun, PlayRests, AsksWhole}
+use Rattle.run_growth.proofs.Worlds.{allowed_front}
+use Rattle.safe_runs.specs.Safe.{InEachWorld, IsSafeAtEachAgent}
 use Rattle.safe_runs.specs.Laws.{EveryRunIsSafe, EveryPlayIsSafe}
+use Rattle.circuit_laws.specs.Backed.{EachViewIsBacked, EachViewRises, EachCircuitStands}
+use Rattle.circuit_laws.specs.Laws.{RunsAreBacked, ViewsRise, CircuitsStand}
+use Rattle.circuit_laws.proofs.Nothing.{nothing_is_unbacked, nothing_falls, no_circuit_lacks}
 use Rattle.settled_play.specs.Settled.{PlayLeavesNone}
 use Rattle.run_command.specs.Runs.{IsSafeRun, IsWholeRun}
 
@@ -32,15 +37,32 @@ pub record PlayLaws : Type 0 where
   pub rests : PlayRests
   pub asks : AsksWhole
   pub safe : EveryPlayIsSafe
+  pub backed : RunsAreBacked
+  pub rising : ViewsRise
+  pub circuits : CircuitsStand
   pub over : PlayLeavesNone
+
+-- a run of a topology that a text gives is safe
+safe_run : PlayLaws → (t : Network) (routes : Routes) (events : List Event) → IsSound t → IsWellFormed t → AreRoutes t routes → IsRun (home_in t routes) events →
+    IsSafeAtEachAgent t routes events → IsSafeRun t routes events
+safe_run laws t routes events sound well are run safe =
+    record {
+      run = run;
+      safe = safe;
+      backed = λ earlier later e. laws.backed t routes earlier sound well are (front earlier later e);
+      rising = λ earlier later e. laws.rising t routes earlier sound well are (front earlier later e);
+      circuits = λ earlier later e. laws.circuits t routes earlier sound well are (front earlier later e);
+    }
+  where
+    front : (earlier later : List Event) → events ≡ earlier ++ later → AreAllowed (home_in t routes) empty earlier
+    front earlier later e = allowed_front (home_in t routes) empty earlier later (subst (AreAllowed (home_in t routes) empty) e run.allowed)
 
 pub plays_run : PlayLaws → (limit : ℕ) (t : Network) (s : Script) → limit ≤ 2000000 → IsSound t → IsWellFormed t → Fits t s → PlaysRun limit t s.groups
 plays_run laws limit t s few sound well fits = λ events last play within routes r.
     record {
-      run = record {
-        run = laws.is_run t routes s.groups events last well fits.rising fits.acts (play routes r) (omega (arith, few, within));
-        safe = laws.safe t routes s.groups events last well fits.rising fits.acts (play routes r) (omega (arith, few, within));
-      };
+      run = safe_run laws t routes events sound well r
+          (laws.is_run t routes s.groups events last well fits.rising fits.acts (play routes r) (omega (arith, few, within)))
+          (laws.safe t routes s.groups events last well fits.rising fits.acts (play routes r) (omega (arith, few, within)));
       asks = laws.asks t routes s.groups events last well fits.rising fits.acts (play routes r);
       rests = laws.rests t routes s.groups events last well fits.rising fits.acts (play routes r);
       over = laws.over t routes s.groups events last sound well r fits.rising fits.acts (play routes r);
@@ -70,14 +92,13 @@ abbrev pub FrontsRun : ℕ → Network → List Group → Type 0
 FrontsRun limit t script =
     (groups : ℕ) (events : List Event) (last : Net) → IsPlay t (take groups script) events last → length events ≤ limit → (routes : Routes) → AreRoutes t routes → IsSafeRun t routes events
 
-pub fronts_run : PlayLaws → (limit : ℕ) (t : Network) (s : Script) → limit ≤ 2000000 → IsWellFormed t → Fits t s → FrontsRun limit t s.groups
-fronts_run laws limit t s few well fits = λ groups events last play within routes r.
+pub fronts_run : PlayLaws → (limit : ℕ) (t : Network) (s : Script) → limit ≤ 2000000 → IsSound t → IsWellFormed t → Fits t s → FrontsRun limit t s.groups
+fronts_run laws limit t s few sound well fits = λ groups events last play within routes r.
     let rising = rising_take groups s.groups fits.rising in
     let acts = acts_take (IsActOf t) groups s.groups fits.acts in
-    record {
-      run = laws.is_run t routes (take groups s.groups) events last well rising acts (play routes r) (omega (arith, few, within));
-      safe = laws.safe t routes (take groups s.groups) events last well rising acts (play routes r) (omega (arith, few, within));
-    }
+    safe_run laws t routes events sound well r
+    (laws.is_run t routes (take groups s.groups) events last well rising acts (play routes r) (omega (arith, few, within)))
+    (laws.safe t routes (take groups s.groups) events last well rising acts (play routes r) (omega (arith, few, within)))
 
 ---- No events
 
@@ -93,6 +114,17 @@ nothing_asked : asks_of [] ≡ numbered 0 []
 unfolding asks_of numbered
 nothing_asked = refl
 
+in_no_world : (Holds : World → Type 0) → Holds empty → InEachWorld [] Holds
+unfolding world_after
+in_no_world Holds h [] later e = h
+in_no_world Holds h (x ∷ earlier) later e = absurd (cc)
+
 pub nothing_runs : EveryRunIsSafe → NothingRuns
 nothing_runs safe = λ t routes.
-    record { run = record { allowed = nothing_allowed t routes; wishes = []; asked = nothing_asked }; safe = safe t routes [] (nothing_allowed t routes) }
+    record {
+      run = record { allowed = nothing_allowed t routes; wishes = []; asked = nothing_asked };
+      safe = safe t routes [] (nothing_allowed t routes);
+      backed = in_no_world (EachViewIsBacked (home_in t routes)) (nothing_is_unbacked (home_in t routes));
+      rising = in_no_world (EachViewRises (home_in t routes)) (nothing_falls (home_in t routes));
+      circuits = in_no_world (EachCircuitStands (home_in t routes)) (no_circuit_lacks (home_in t routes));
+    }

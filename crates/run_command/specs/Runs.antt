@@ -19,7 +19,8 @@ use Rattle.nsi_world.specs.Worlds.{empty, said}
 use Rattle.nsi_world.specs.Runs.{IsRun, world_after, asks_of, numbered}
 use Rattle.nsi_world.specs.Scripts.{wishes_of}
 use Rattle.nsi_world.specs.Laws.{IsAtRest}
-use Rattle.safe_runs.specs.Safe.{IsSafeAtEachAgent}
+use Rattle.safe_runs.specs.Safe.{InEachWorld, IsSafeAtEachAgent}
+use Rattle.circuit_laws.specs.Backed.{EachViewIsBacked, EachViewRises, EachCircuitStands}
 use Rattle.settled_play.specs.Settled.{IsDone}
 use Rattle.trace_text.specs.Lines.{text_of}
 use Rattle.net_run.specs.Journals.{HoldsJournals}
@@ -32,10 +33,14 @@ settled_line n = as_line (codes "settled " ++ decimal n)
 
 ---- Plays
 
--- events that are a run, which is safe at each agent
+-- Events that are a run, which is safe: at each agent; and, in each world that a front of them makes, whatever a crash leaves of an agent, what a view
+-- has as committed rises and is backed by the agent that it is of, and what an aggregator's record has stands in each network on its way.
 pub record IsSafeRun (t : Network) (routes : Routes) (events : List Event) : Type 0 where
   pub run : IsRun (home_in t routes) events
   pub safe : IsSafeAtEachAgent t routes events
+  pub backed : InEachWorld events (EachViewIsBacked (home_in t routes))
+  pub rising : InEachWorld events (EachViewRises (home_in t routes))
+  pub circuits : InEachWorld events (EachCircuitStands (home_in t routes))
 
 -- the play of some first groups of a script, which has no more events than that, and is such a run whichever legs are those of the least paths
 pub record IsTextOf (limit : ℕ) (t : Network) (script : List Group) (groups : ℕ) (events : List Event) : Type 0 where
@@ -44,7 +49,7 @@ pub record IsTextOf (limit : ℕ) (t : Network) (script : List Group) (groups : 
   pub run : (routes : Routes) → AreRoutes t routes → IsSafeRun t routes events
   pub within : length events ≤ limit
 
--- These events are a run that is safe at each agent and asks the whole script, in order. In the world that they make each journal is synced whole, no work
+-- These events are a safe run that asks the whole script, in order. In the world that they make each journal is synced whole, no work
 -- waits, and each message that was said was got and acknowledged.
 pub record IsWholeRun (t : Network) (routes : Routes) (script : List Group) (events : List Event) : Type 0 where
   pub run : IsSafeRun t routes events

@@ -14,6 +14,7 @@ ghost use Rattle.run_command.specs.Runs.{Runs, Breaks, KeepsRun, settled_line};
 use crate::reading::{Declared, read_declared};
 use crate::texts::settled_line;
 use agent_threads::RunFault;
+use circuit_laws::laws::{circuits, views};
 use fault_lines::{disk_fault_text, script_fault, topology_fault};
 use line_reader::{ReadError, read_whole};
 use net_run::run_world;
@@ -144,6 +145,8 @@ where
     play_runs();
     asks_whole();
     every_play_safe_at_each_agent();
+    views();
+    circuits();
     settled();
     match run_world(rt, workers, alloc, topology, script, limit, shelf, out) {
         Ok(events) => tell_events(alloc, out, events),

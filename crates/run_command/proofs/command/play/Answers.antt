@@ -7,7 +7,17 @@ use Rattle.run_command.proofs.command.play.Goals as goal
 pub returns-in-Ok-clause-played : goal.returns-in-Ok-clause-played
 returns-in-Ok-clause-played g c =
     let laws : PlayLaws =
-    record { is_run = c.play_runs.ensures.whole; rests = c.play_runs.ensures.rests; asks = c.asks_whole.ensures; safe = c.every_play_safe_at_each_agent.ensures; over = c.settled.ensures.each } in
+    record {
+      is_run = c.play_runs.ensures.whole;
+      rests = c.play_runs.ensures.rests;
+      asks = c.asks_whole.ensures;
+      safe = c.every_play_safe_at_each_agent.ensures;
+      backed = c.views.ensures.backed;
+      rising = c.views.ensures.rise;
+      circuits = c.circuits.ensures;
+      over = c.settled.ensures.each;
+    }
+    in
     settled_run c.args.topology.now c.args.limit c.args.script.now.groups _ (g.K.Sink.content c.run_world.new.out) _ _ _ _ _ _ (c.in-Ok.ensures.quiet (λ e. cc)) c.tell_events.result
     (plays_run laws c.args.limit c.args.topology.now c.args.script.now c.requires.limit c.facts.ensures c.laws.ensures c.requires.fits)
     c.in-Ok.events c.in-Ok.ensures.done c.tell_events.ensures c.in-Ok.ensures.calm
@@ -25,9 +35,19 @@ pub returns-in-Err-clause-played : goal.returns-in-Err-clause-played
 returns-in-Err-clause-played g c =
     let o = c.in-Err.ensures in
     let laws : PlayLaws =
-    record { is_run = c.play_runs.ensures.whole; rests = c.play_runs.ensures.rests; asks = c.asks_whole.ensures; safe = c.every_play_safe_at_each_agent.ensures; over = c.settled.ensures.each } in
+    record {
+      is_run = c.play_runs.ensures.whole;
+      rests = c.play_runs.ensures.rests;
+      asks = c.asks_whole.ensures;
+      safe = c.every_play_safe_at_each_agent.ensures;
+      backed = c.views.ensures.backed;
+      rising = c.views.ensures.rise;
+      circuits = c.circuits.ensures;
+      over = c.settled.ensures.each;
+    }
+    in
     failing_run c.args.topology.now c.args.limit c.args.script.now.groups _ (g.K.Sink.content c.run_world.new.out) _ _ _ _ _ _ c.fail.result
-    (fronts_run laws c.args.limit c.args.topology.now c.args.script.now c.requires.limit c.laws.ensures c.requires.fits)
+    (fronts_run laws c.args.limit c.args.topology.now c.args.script.now c.requires.limit c.facts.ensures c.laws.ensures c.requires.fits)
     c.in-Err.fault
     (record {
       long = λ e. o.long (ap (λ f. Err f) e);
