@@ -13,6 +13,3 @@ mod turn;
 pub use fault::TurnFault;
 pub use node::Node;
 pub use opening::NodeFault;
-
-#[cfg(test)]
-mod tests;

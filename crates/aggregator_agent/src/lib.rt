@@ -34,6 +34,3 @@ pub use agent::Agent;
 pub use aggregator::Aggregator;
 pub use connection::{Connection, Turning};
 pub use route::views_between;
-
-#[cfg(test)]
-mod tests;

@@ -10,8 +10,6 @@ mod lack;
 mod load;
 mod steps;
 mod tables;
-#[cfg(test)]
-mod tests;
 
 pub use booking::{Booking, Capacity, Lack, Place, Slot};
 pub use calendar::Calendar;

@@ -9,6 +9,3 @@ pub mod view;
 pub use savepoint::Savepoint;
 pub use state::{AskFault, Phase, Sent, Taken};
 pub use view::ChildConnection;
-
-#[cfg(test)]
-mod tests;

@@ -18,6 +18,3 @@ pub use moves::{Origin, Reply, ReservationMove};
 pub use provisioning::ProvisionMove;
 pub use record::Record;
 pub use savepoint::Savepoint;
-
-#[cfg(test)]
-mod tests;

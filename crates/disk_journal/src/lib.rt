@@ -9,6 +9,3 @@ mod reading;
 
 pub use journal::{DiskJournal, StartFault};
 pub use opening::StartCause;
-
-#[cfg(test)]
-mod tests;

@@ -10,6 +10,3 @@ pub use json_fields::{Key, LineFault};
 pub use payload::print_payload;
 pub use printing::{print_ack, print_line, print_message};
 pub use reading::{read_line, read_object};
-
-#[cfg(test)]
-mod tests;

@@ -7,6 +7,3 @@ pub mod laws;
 
 pub use agent::Agent;
 pub use kind::Kind;
-
-#[cfg(test)]
-mod tests;

@@ -12,6 +12,3 @@ mod search;
 pub use laws::one_least;
 pub use least_path::find;
 pub use path::{Path, PathFault, Segment};
-
-#[cfg(test)]
-mod tests;

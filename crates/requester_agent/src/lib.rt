@@ -10,6 +10,3 @@ mod requester_core;
 mod view_table;
 
 pub use requester::Requester;
-
-#[cfg(test)]
-mod tests;

@@ -22,6 +22,3 @@ pub use network::{AgentKind, Network};
 pub use partners::Partners;
 pub use text::read_topology;
 pub use topology::{Taken, Topology};
-
-#[cfg(test)]
-mod tests;

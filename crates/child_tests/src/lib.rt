@@ -1,0 +1,5 @@
+//! Tests alone: one connection at a child, by hand.
+#![tactic(auto)]
+
+#[cfg(test)]
+mod asking;

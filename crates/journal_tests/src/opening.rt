@@ -1,0 +1,330 @@
+//! Journals over the disk in memory: byte by byte, cut off at each call, and of each wrong form.
+
+ghost use Rattle.std.specs.Prelude.{◌≡◌, ◌<◌, false, length, All, IfOk};
+ghost use Rattle.nsi_primitive.specs.Printable.{IsPrintableEntry};
+
+use disk_journal::{DiskJournal, StartCause, StartFault};
+use journal_entry::{Journal, JournalFault, keep};
+use nsi_base::Second;
+use nsi_disk::{Disk, Image, MemoryDisk, Stop};
+use nsi_primitive::{Entry, Input};
+use std::alloc::{AllocError, Global};
+use std::test::Fail;
+
+/// A batch of a tick at second 7, one of ticks at seconds 8 and 9, and a closed gate.
+const TWO_BATCHES: [u8; 48] = [
+    1, 0, 0, 0, 0, 0, 0, 0, 10, 1, 4, 0, 0, 0, 0, 0, 0, 0, 7, // the second gate is at place 19
+    1, 0, 0, 0, 0, 0, 0, 0, 19, 1, 4, 0, 0, 0, 0, 0, 0, 0, 8, 4, 0, 0, 0, 0, 0, 0, 0, 9, 0,
+];
+
+/// A disk of these bytes.
+fn disk_of(
+    alloc: Global,
+    bytes: &[u8],
+    failing: &[u64],
+    stops: &[Stop],
+) -> Result<MemoryDisk, AllocError>
+    ensures runs { IfOk result (λ d. (⟦<MemoryDisk as Disk>⟧.meter d).stopped ≡ false) }
+{
+    let bytes = Vec::from_slice(alloc, bytes)?;
+    let failing = Vec::from_slice(alloc, failing)?;
+    let stops = Vec::from_slice(alloc, stops)?;
+    Ok(MemoryDisk::new(alloc, bytes, failing, stops))
+}
+
+fn tick(second: Second) -> Entry
+    ensures { IsPrintableEntry result }
+{
+    Entry {
+        second,
+        input: Input::Tick,
+    }
+}
+
+/// Whether these are ticks at the first so many of the seconds 7, 8 and 9.
+fn are_ticks_from_seven(entries: &[Entry], count: usize) -> bool {
+    let mut second = 7u64;
+    for entry in entries {
+        if entry.second.get() != second || !matches!(entry.input, Input::Tick) {
+            return false;
+        }
+        second = second.saturating_add(1);
+    }
+    entries.len() == count
+}
+
+/// Keeps two batches.
+fn keep_both<J: Journal>(
+    alloc: Global,
+    journal: &mut J,
+    first: &[Entry],
+    second: &[Entry],
+) -> Result<(), JournalFault>
+    requires ready { J.is_ready journal.old }
+    requires none { J.waits journal.old ≡ false }
+    requires first { (0 < length first.now) × All IsPrintableEntry first.now }
+    requires second { (0 < length second.now) × All IsPrintableEntry second.now }
+{
+    keep(alloc, journal, first)?;
+    keep(alloc, journal, second)
+}
+
+fn fault_of(cause: StartCause) -> JournalFault {
+    match cause {
+        StartCause::DiskFault => JournalFault::DiskFault,
+        StartCause::Stopped => JournalFault::Stopped,
+        _ => JournalFault::NoMemory,
+    }
+}
+
+/// Begins a journal, keeps the two batches, and gives back the disk.
+fn use_journal(
+    alloc: Global,
+    disk: MemoryDisk,
+    first: &[Entry],
+    second: &[Entry],
+) -> (Result<(), JournalFault>, MemoryDisk)
+    requires runs { (⟦<MemoryDisk as Disk>⟧.meter disk).stopped ≡ false }
+    requires first { (0 < length first.now) × All IsPrintableEntry first.now }
+    requires second { (0 < length second.now) × All IsPrintableEntry second.now }
+{
+    match DiskJournal::fresh(disk) {
+        Ok(journal) => {
+            let mut journal = journal;
+            let kept = keep_both(alloc, &mut journal, first, second);
+            (kept, journal.into_disk())
+        }
+        Err(fault) => {
+            let StartFault { cause, disk } = fault;
+            (Err(fault_of(cause)), disk)
+        }
+    }
+}
+
+/// The same on an empty disk: twelve calls. `fresh` cuts, syncs, writes and syncs; each batch is written and synced,
+/// and its gate is written and synced.
+fn cut_off(
+    alloc: Global,
+    failing: &[u64],
+    stops: &[Stop],
+) -> Result<(Result<(), JournalFault>, MemoryDisk), Fail> {
+    let seven = Second::new(7).ok_or("a second")?;
+    let eight = Second::new(8).ok_or("a second")?;
+    let nine = Second::new(9).ok_or("a second")?;
+    let first = [tick(seven)];
+    let second = [tick(eight), tick(nine)];
+    let disk = disk_of(alloc, &[], failing, stops)?;
+    Ok(use_journal(alloc, disk, &first, &second))
+}
+
+/// Whether the disk after a crash now has so many of the ticks.
+fn leaves(alloc: Global, disk: MemoryDisk, count: usize) -> Result<bool, AllocError> {
+    match DiskJournal::start(alloc, disk.again(alloc)?) {
+        Ok((journal, entries)) => {
+            Ok(are_ticks_from_seven(&entries, count) && journal.synced() == count as u64)
+        }
+        Err(_) => Ok(false),
+    }
+}
+
+#[test]
+fn batches_are_written_byte_by_byte(rt: HostRuntime) -> Result<(), Fail> {
+    let (kept, disk) = cut_off(rt.alloc(), &[], &[])?;
+    assert!(rt; kept == Ok(()));
+    assert_eq!(rt; disk.into_bytes().as_slice(), TWO_BATCHES.as_slice());
+    Ok(())
+}
+
+#[test]
+fn batches_are_read_again(rt: HostRuntime) -> Result<(), Fail> {
+    let disk = disk_of(rt.alloc(), &TWO_BATCHES, &[], &[])?;
+    let is_right = leaves(rt.alloc(), disk, 3)?;
+    assert!(rt; is_right);
+    Ok(())
+}
+
+/// How many ticks are left where each call in turn fails.
+const LEFT_BY_FAULTS: [usize; 12] = [0, 0, 0, 0, 0, 0, 0, 1, 1, 1, 1, 3];
+
+#[test]
+fn each_call_fails_in_turn(rt: HostRuntime) -> Result<(), Fail> {
+    let mut call = 0u64;
+    for count in LEFT_BY_FAULTS {
+        call = call.saturating_add(1);
+        let (kept, disk) = cut_off(rt.alloc(), &[call], &[])?;
+        assert!(rt; kept == Err(JournalFault::DiskFault), "{call}");
+        let is_right = leaves(rt.alloc(), disk, count)?;
+        assert!(rt; is_right, "{call}");
+    }
+    Ok(())
+}
+
+/// How many ticks are left where each call in turn stops the disk with the image Old, New and Torn.
+const LEFT_BY_STOPS: [[usize; 3]; 12] = [
+    [0, 0, 0],
+    [0, 0, 0],
+    [0, 0, 0],
+    [0, 0, 0],
+    [0, 0, 0],
+    [0, 0, 0],
+    [0, 1, 0],
+    [0, 1, 1],
+    [1, 1, 1],
+    [1, 1, 1],
+    [1, 3, 1],
+    [1, 3, 3],
+];
+
+/// Whether a stop at this call leaves so many ticks.
+fn stop_leaves(alloc: Global, call: u64, image: Image, count: usize) -> Result<bool, Fail> {
+    let (kept, disk) = cut_off(alloc, &[], &[Stop { call, image }])?;
+    let is_left = leaves(alloc, disk, count)?;
+    Ok(kept == Err(JournalFault::Stopped) && is_left)
+}
+
+#[test]
+fn each_call_stops_with_each_image(rt: HostRuntime) -> Result<(), Fail> {
+    let mut call = 0u64;
+    for [old, new, torn] in LEFT_BY_STOPS {
+        call = call.saturating_add(1);
+        let old = stop_leaves(rt.alloc(), call, Image::Old, old)?;
+        let new = stop_leaves(rt.alloc(), call, Image::New, new)?;
+        let torn = stop_leaves(rt.alloc(), call, Image::Torn, torn)?;
+        assert!(rt; old && new && torn, "{call} {old} {new} {torn}");
+    }
+    Ok(())
+}
+
+/// Bytes that are no journal, and the place of the gate where that is seen.
+const WRONG: [(&[u8], u64); 11] = [
+    // the length goes to the end, and no gate stands behind it
+    (b"\x01\0\0\0\0\0\0\0\x0b\x01\x04\0\0\0\0\0\0\0\x07\0", 0),
+    (b"\x01\0\0\0\0\0\0\0\x0a\x01\x04\0\0\0\0\0\0\0\x07", 0),
+    // the length goes past the end
+    (b"\x01\xff\xff\xff\xff\xff\xff\xff\xff\0", 0),
+    (b"\x01\x0a\0\0\0\0\0\0\0\x01\x04\0\0\0\0\0\0\0\x07\0", 0),
+    // the length itself is cut off
+    (
+        b"\x01\0\0\0\0\0\0\0\x0a\x01\x04\0\0\0\0\0\0\0\x07\x01\0\0",
+        19,
+    ),
+    // behind the entry of the second batch stands one byte more
+    (
+        b"\x01\0\0\0\0\0\0\0\x0a\x01\x04\0\0\0\0\0\0\0\x07\x01\0\0\0\0\0\0\0\x0b\x01\x04\0\0\0\0\0\0\0\x08\0\0",
+        19,
+    ),
+    // its entry has an unknown tag
+    (
+        b"\x01\0\0\0\0\0\0\0\x0a\x01\x04\0\0\0\0\0\0\0\x07\x01\0\0\0\0\0\0\0\x0a\x01\x07\0\0\0\0\0\0\0\x08\0",
+        19,
+    ),
+    // a payload without entries, of another form, and without bytes
+    (b"\x01\0\0\0\0\0\0\0\x01\x01\0", 0),
+    (b"\x01\0\0\0\0\0\0\0\x0a\x02\x04\0\0\0\0\0\0\0\x07\0", 0),
+    (b"\x01\0\0\0\0\0\0\0\0\0", 0),
+    // a message whose line is no message
+    (
+        b"\x01\0\0\0\0\0\0\0\x14\x01\x02\0\0\0\0\0\0\0\x07\0\0\0\0\0\0\0\x02{}\0",
+        0,
+    ),
+];
+
+/// Whether these bytes are refused with this place, and stay as they are.
+fn is_refused(alloc: Global, bytes: &[u8], place: u64) -> Result<bool, AllocError> {
+    match DiskJournal::start(alloc, disk_of(alloc, bytes, &[], &[])?) {
+        Ok(_) => Ok(false),
+        Err(fault) => {
+            let StartFault { cause, disk } = fault;
+            let stays = disk.into_bytes().as_slice() == bytes;
+            Ok(cause == StartCause::NotAJournal { place } && stays)
+        }
+    }
+}
+
+#[test]
+fn bytes_that_are_no_journal_are_refused_with_their_place(rt: HostRuntime) -> Result<(), Fail> {
+    for (bytes, place) in WRONG {
+        let is_right = is_refused(rt.alloc(), bytes, place)?;
+        assert!(rt; is_right, "{bytes:?}");
+    }
+    Ok(())
+}
+
+#[test]
+fn what_is_behind_a_closed_gate_is_nothing(rt: HostRuntime) -> Result<(), Fail> {
+    for gate in [0u8, 2, 165] {
+        let mut bytes = TWO_BATCHES;
+        bytes[19] = gate;
+        let disk = disk_of(rt.alloc(), &bytes, &[], &[])?;
+        let is_right = leaves(rt.alloc(), disk, 1)?;
+        assert!(rt; is_right, "{gate}");
+    }
+    Ok(())
+}
+
+/// Whether a file of so many bytes 1 is an empty journal, whose first byte is a closed gate then.
+fn is_empty_journal(alloc: Global, bytes: &[u8]) -> Result<bool, AllocError> {
+    match DiskJournal::start(alloc, disk_of(alloc, bytes, &[], &[])?) {
+        Ok((journal, entries)) => {
+            let left = journal.into_disk().into_bytes();
+            Ok(entries.is_empty() && left.first() == Some(&0))
+        }
+        Err(_) => Ok(false),
+    }
+}
+
+#[test]
+fn a_file_of_less_than_nine_bytes_is_an_empty_journal(rt: HostRuntime) -> Result<(), Fail> {
+    let ones: [&[u8]; 9] = [
+        b"",
+        b"\x01",
+        b"\x01\x01",
+        b"\x01\x01\x01",
+        b"\x01\x01\x01\x01",
+        b"\x01\x01\x01\x01\x01",
+        b"\x01\x01\x01\x01\x01\x01",
+        b"\x01\x01\x01\x01\x01\x01\x01",
+        b"\x01\x01\x01\x01\x01\x01\x01\x01",
+    ];
+    for bytes in ones {
+        let is_right = is_empty_journal(rt.alloc(), bytes)?;
+        assert!(rt; is_right, "{bytes:?}");
+    }
+    let closed = is_empty_journal(rt.alloc(), b"\0\x01\x01\x01\x01\x01\x01\x01\x01")?;
+    let open = is_refused(rt.alloc(), b"\x01\0\0\0\0\0\0\0\0", 0)?;
+    assert!(rt; closed && open);
+    Ok(())
+}
+
+/// Whether a batch that was forgotten is gone, and another one is kept in its place.
+fn forgets(alloc: Global, disk: MemoryDisk, gone: &[Entry], kept: &[Entry]) -> Result<bool, Fail>
+    requires runs { (⟦<MemoryDisk as Disk>⟧.meter disk).stopped ≡ false }
+    requires first { (0 < length gone.now) × All IsPrintableEntry gone.now }
+    requires second { (0 < length kept.now) × All IsPrintableEntry kept.now }
+{
+    let Ok(journal) = DiskJournal::fresh(disk) else {
+        return Ok(false);
+    };
+    let mut journal = journal;
+    let Ok(()) = journal.append(alloc, gone) else {
+        return Ok(false);
+    };
+    journal.forget();
+    let Ok(()) = keep(alloc, &mut journal, kept) else {
+        return Ok(false);
+    };
+    let is_left = leaves(alloc, journal.into_disk(), 1)?;
+    Ok(is_left)
+}
+
+#[test]
+fn a_forgotten_batch_is_gone(rt: HostRuntime) -> Result<(), Fail> {
+    let seven = Second::new(7).ok_or("a second")?;
+    let eight = Second::new(8).ok_or("a second")?;
+    let gone = [tick(eight), tick(eight)];
+    let kept = [tick(seven)];
+    let disk = disk_of(rt.alloc(), &[], &[], &[])?;
+    let is_right = forgets(rt.alloc(), disk, &gone, &kept)?;
+    assert!(rt; is_right);
+    Ok(())
+}

@@ -1,0 +1,5 @@
+//! Tests alone: paths over small networks.
+#![tactic(auto)]
+
+#[cfg(test)]
+mod finding;
