@@ -108,12 +108,13 @@ impl Core {
         ensures taken { self.new.taken ≡ self.old.taken }
     {
         let entering = Entering {
+            alloc,
             agent: &self.agent,
             message,
             second: self.now,
         };
         let connections = &mut self.connections;
-        let said = connections.hear(alloc, &mut self.outbox, &entering, self.next)?;
+        let said = connections.hear(&mut self.outbox, &entering, self.next)?;
         self.next = said.next;
         Ok(said.out)
     }
@@ -126,12 +127,13 @@ impl Core {
     {
         let Lateness { late, places } = find_late(alloc, &self.outbox, now)?;
         let clocking = Clocking {
+            alloc,
             agent: &self.agent,
             late: &late,
             second: now,
         };
         let connections = &mut self.connections;
-        let said = connections.clock(alloc, &mut self.outbox, &clocking, self.next)?;
+        let said = connections.clock(&mut self.outbox, &clocking, self.next)?;
         self.outbox.dues.tell_at(places.items());
         self.now = now;
         self.next = said.next;

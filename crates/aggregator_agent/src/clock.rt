@@ -19,6 +19,7 @@ use std::alloc::{AllocError, Global};
 /// Whose clock goes on to which second, and which of its requests are late then.
 #[derive(Clone, Copy)]
 pub struct Clocking<'a> {
+    pub alloc: Global,
     pub agent: &'a Agent,
     pub late: &'a [Due],
     pub second: Second,
@@ -37,7 +38,6 @@ impl Connection {
     #[tactic(auto, unfolding(crate::specs::Bonds::clocked_by), using(connection_record::proofs::Growing::later_trans))]
     pub fn clock(
         &mut self,
-        alloc: Global,
         said: &mut Said,
         clocking: &Clocking<'_>,
         number: RecordNo,
@@ -50,7 +50,7 @@ impl Connection {
         ensures children { self.new.children ≡ self.old.children }
     {
         let mut telling = Telling {
-            replies: Vec::new(alloc),
+            replies: Vec::new(clocking.alloc),
             next: said.next,
         };
         telling.end_if_over(&mut self.own, clocking.second)?;

@@ -69,20 +69,15 @@ impl ConnectionIndex {
     }
 
     /// The places of the connections that the clock may change, where there are so many.
-    pub fn clocked(
-        &self,
-        alloc: Global,
-        clocking: &Clocking<'_>,
-        count: usize,
-    ) -> Result<Places, AllocError>
+    pub fn clocked(&self, clocking: &Clocking<'_>, count: usize) -> Result<Places, AllocError>
         ensures { IfOk result (λ places. (p : ℕ) → let e = clocking.now in
             Contains places p ↔ (MayChange self.now.ends e.second e.late.now p × (p < count))) }
     {
-        let due = self.ends.due_by(alloc, clocking.second)?;
-        let mut places = Vec::new(alloc);
+        let due = self.ends.due_by(clocking.alloc, clocking.second)?;
+        let mut places = Vec::new(clocking.alloc);
         places.extend_from_slice(due.items())?;
         note_late(clocking.late, &mut places)?;
-        places_below(alloc, &places, count)
+        places_below(clocking.alloc, &places, count)
     }
 }
 

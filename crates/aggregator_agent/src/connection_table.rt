@@ -85,7 +85,6 @@ impl ConnectionTable {
     /// All connections hear a message of a child. Where memory is wanting, none has heard it.
     pub fn hear(
         &mut self,
-        alloc: Global,
         outbox: &mut Outbox,
         entering: &Entering<'_>,
         next: u64,
@@ -99,10 +98,9 @@ impl ConnectionTable {
         ensures undue { OnErr result (outbox.new.dues ≡ outbox.old.dues) }
     {
         let count = self.items.len();
-        let places = self.index.hearing(alloc, entering.message, count)?;
+        let places = self.index.hearing(entering.alloc, entering.message, count)?;
         let connections = &mut self.items;
         hear_all(
-            alloc,
             connections,
             &mut self.index,
             places.items(),
@@ -115,7 +113,6 @@ impl ConnectionTable {
     /// The clock of all connections goes on. Where memory is wanting, that of none does.
     pub fn clock(
         &mut self,
-        alloc: Global,
         outbox: &mut Outbox,
         clocking: &Clocking<'_>,
         next: u64,
@@ -129,10 +126,9 @@ impl ConnectionTable {
         ensures undue { OnErr result (outbox.new.dues ≡ outbox.old.dues) }
     {
         let count = self.items.len();
-        let places = self.index.clocked(alloc, clocking, count)?;
+        let places = self.index.clocked(clocking, count)?;
         let ends = &mut self.index.ends;
         clock_all(
-            alloc,
             &mut self.items,
             ends,
             places.items(),
@@ -145,7 +141,6 @@ impl ConnectionTable {
     /// The connection at a place takes a request of its owner. Where memory is wanting, nothing has changed.
     pub fn request_at(
         &mut self,
-        alloc: Global,
         topology: &Topology,
         place: usize,
         outbox: &mut Outbox,
@@ -171,7 +166,6 @@ impl ConnectionTable {
         };
         let connection = &mut self.items[place];
         request(
-            alloc,
             topology,
             connection,
             &mut self.index,
@@ -185,7 +179,6 @@ impl ConnectionTable {
     /// nothing has changed.
     pub fn open(
         &mut self,
-        alloc: Global,
         topology: &Topology,
         connection: Connection,
         outbox: &mut Outbox,
@@ -207,56 +200,55 @@ impl ConnectionTable {
     {
         let items = &mut self.items;
         let index = &mut self.index;
-        open_in(
-            alloc, topology, items, index, connection, outbox, entering, next,
-        )
+        let opening = Opening { connection, next };
+        open_in(topology, items, index, opening, outbox, entering)
     }
+}
+
+/// A connection that was asked for nothing yet, and the number of the next id.
+#[derive(Drop)]
+struct Opening {
+    connection: Connection,
+    next: u64,
 }
 
 /// A connection takes its first request, and joins the others, for which there is room before anything is said.
 fn open_in(
-    alloc: Global,
     topology: &Topology,
     items: &mut Vec<Connection>,
     index: &mut ConnectionIndex,
-    connection: Connection,
+    opening: Opening,
     outbox: &mut Outbox,
     entering: &Entering<'_>,
-    next: u64,
 ) -> Result<Said, AllocError>
     requires table { IsTable index.old (bonds items.old.items) }
-    requires uncommitted { connection.own.committed ≡ [] }
+    requires uncommitted { opening.connection.own.committed ≡ [] }
     ensures table { IsTable index.new (bonds items.new.items) }
     ensures by { (route : ℕ → ℕ → Sequence LegValue) →
         IsRoute topology.now entering.now.agent.now.number route →
         IfOk result (λ said. IsRequestedAt (length (bonds items.old.items))
-        (bonds items.old.items ++ bond connection ∷ []) (bonds items.new.items)
-        outbox.old outbox.new said entering.now next route) }
+        (bonds items.old.items ++ bond opening.connection ∷ []) (bonds items.new.items)
+        outbox.old outbox.new said entering.now opening.next route) }
     ensures some { IfOk result (λ said. (route : ℕ → ℕ → Sequence LegValue) ×
         IsRequestedAt (length (bonds items.old.items))
-        (bonds items.old.items ++ bond connection ∷ []) (bonds items.new.items)
-        outbox.old outbox.new said entering.now next route) }
+        (bonds items.old.items ++ bond opening.connection ∷ []) (bonds items.new.items)
+        outbox.old outbox.new said entering.now opening.next route) }
     ensures back { OnErr result (bonds items.new.items ≡ bonds items.old.items) }
     ensures unsaid { OnErr result (outbox.new.retry ≡ outbox.old.retry) }
     ensures undue { OnErr result (outbox.new.dues ≡ outbox.old.dues) }
 {
     items.reserve(1)?;
     let place = items.len();
+    let Opening {
+        mut connection,
+        next,
+    } = opening;
     let start = Start {
         number: number_of(place)?,
         place,
         next,
     };
-    let mut connection = connection;
-    let said = request(
-        alloc,
-        topology,
-        &mut connection,
-        index,
-        outbox,
-        entering,
-        start,
-    )?;
+    let said = request(topology, &mut connection, index, outbox, entering, start)?;
     push_in_room(items, connection);
     Ok(said)
 }

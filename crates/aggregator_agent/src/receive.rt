@@ -141,6 +141,7 @@ impl Core {
         let id = self.agent.id(self.next)?;
         let connection = opened(alloc, id, message, reserve, points)?;
         let entering = Entering {
+            alloc,
             agent: &self.agent,
             message,
             second: self.now,
@@ -148,7 +149,7 @@ impl Core {
         let next = self.next + 1;
         let connections = &mut self.connections;
         let outbox = &mut self.outbox;
-        let said = connections.open(alloc, topology, connection, outbox, &entering, next)?;
+        let said = connections.open(topology, connection, outbox, &entering, next)?;
         self.next = said.next;
         Ok(said.out)
     }
@@ -168,6 +169,7 @@ impl Core {
         ensures taken { self.new.taken ≡ self.old.taken }
     {
         let entering = Entering {
+            alloc,
             agent: &self.agent,
             message,
             second: self.now,
@@ -175,7 +177,7 @@ impl Core {
         let next = self.next;
         let connections = &mut self.connections;
         let outbox = &mut self.outbox;
-        let said = connections.request_at(alloc, topology, place, outbox, &entering, next)?;
+        let said = connections.request_at(topology, place, outbox, &entering, next)?;
         self.next = said.next;
         Ok(said.out)
     }

@@ -31,7 +31,6 @@ pub struct Start {
 
 /// A connection takes a request of its owner, and what it says waits. Where memory is wanting, nothing has changed.
 pub fn request(
-    alloc: Global,
     topology: &Topology,
     connection: &mut Connection,
     index: &mut ConnectionIndex,
@@ -53,8 +52,8 @@ pub fn request(
     ensures unsaid { OnErr result (outbox.new.retry ≡ outbox.old.retry) }
     ensures undue { OnErr result (outbox.new.dues ≡ outbox.old.dues) }
 {
-    let kept = connection.keep(alloc, start.place)?;
-    match request_and_store(alloc, topology, connection, index, outbox, entering, start) {
+    let kept = connection.keep(entering.alloc, start.place)?;
+    match request_and_store(topology, connection, index, outbox, entering, start) {
         Ok(said) => Ok(said),
         Err(error) => {
             connection.go_back(kept);
@@ -65,7 +64,6 @@ pub fn request(
 
 /// The same, but that the connection may have changed where memory is wanting, and can go back.
 fn request_and_store(
-    alloc: Global,
     topology: &Topology,
     connection: &mut Connection,
     index: &mut ConnectionIndex,
@@ -88,10 +86,10 @@ fn request_and_store(
         (IsNamedAgain index.new start.place (bond connection.old) (bond connection.new)) }
 {
     let before = connection.end();
-    let aggregator = entering.agent.number;
-    connection.find_children(alloc, topology, aggregator, entering.message)?;
+    let Entering { alloc, agent, .. } = *entering;
+    connection.find_children(alloc, topology, agent.number, entering.message)?;
     let mut said = Said::new(alloc, start.next);
-    connection.take_request(alloc, &mut said, entering, start.number)?;
+    connection.take_request(&mut said, entering, start.number)?;
     index.name(start.place, connection, before)?;
     outbox.store(alloc, &said)?;
     Ok(said)

@@ -33,7 +33,6 @@ pub struct Round {
 
 /// The connections at the places hear a message of a child. Where memory is wanting, none has heard it.
 pub fn hear_all(
-    alloc: Global,
     connections: &mut Vec<Connection>,
     index: &mut ConnectionIndex,
     places: &[usize],
@@ -56,8 +55,8 @@ pub fn hear_all(
     ensures unsaid { OnErr result (outbox.new.retry ≡ outbox.old.retry) }
     ensures undue { OnErr result (outbox.new.dues ≡ outbox.old.dues) }
 {
-    let mut round = Round::new(alloc, next);
-    let heard = round.hear_and_store(alloc, connections, index, places, outbox, entering);
+    let mut round = Round::new(entering.alloc, next);
+    let heard = round.hear_and_store(connections, index, places, outbox, entering);
     let Round { kept, said } = round;
     match heard {
         Ok(()) => Ok(said),
@@ -71,7 +70,6 @@ pub fn hear_all(
 /// The clock of the connections at the places goes on, and the ends that have come are forgotten. Where memory is wanting,
 /// that of none does.
 pub fn clock_all(
-    alloc: Global,
     connections: &mut Vec<Connection>,
     ends: &mut Deadlines,
     places: &[usize],
@@ -95,8 +93,8 @@ pub fn clock_all(
     ensures unsaid { OnErr result (outbox.new.retry ≡ outbox.old.retry) }
     ensures undue { OnErr result (outbox.new.dues ≡ outbox.old.dues) }
 {
-    let mut round = Round::new(alloc, next);
-    let clocked = round.clock_and_store(alloc, connections, places, outbox, clocking);
+    let mut round = Round::new(clocking.alloc, next);
+    let clocked = round.clock_and_store(connections, places, outbox, clocking);
     let Round { kept, said } = round;
     match clocked {
         Ok(()) => {
@@ -125,7 +123,6 @@ impl Round {
     /// them is kept.
     fn hear_and_store(
         &mut self,
-        alloc: Global,
         connections: &mut Vec<Connection>,
         index: &mut ConnectionIndex,
         places: &[usize],
@@ -147,13 +144,12 @@ impl Round {
         ensures found { OnOk result (AreFound index.new (bonds connections.new.items)) }
         ensures stored { IsStored outbox.old outbox.new self.new.said result }
     {
-        self.hear_each(alloc, connections, index, places, entering)?;
-        outbox.store(alloc, &self.said)
+        self.hear_each(connections, index, places, entering)?;
+        outbox.store(entering.alloc, &self.said)
     }
 
     fn hear_each(
         &mut self,
-        alloc: Global,
         connections: &mut Vec<Connection>,
         index: &mut ConnectionIndex,
         places: &[usize],
@@ -174,7 +170,7 @@ impl Round {
         ensures found { OnOk result (AreFound index.new (bonds connections.new.items)) }
     {
         for place in places {
-            self.hear_at(alloc, connections, index, *place, entering)?;
+            self.hear_at(connections, index, *place, entering)?;
         }
         Ok(())
     }
@@ -182,7 +178,6 @@ impl Round {
     /// The connection at a place hears a message. It is kept first, and named anew.
     fn hear_at(
         &mut self,
-        alloc: Global,
         connections: &mut Vec<Connection>,
         index: &mut ConnectionIndex,
         place: usize,
@@ -205,25 +200,16 @@ impl Round {
             (bonds connections.old.items) (bonds connections.new.items)) }
     {
         let number = number_of(place)?;
-        let kept = connections[place].keep(alloc, place)?;
+        let kept = connections[place].keep(entering.alloc, place)?;
         self.kept.push(kept)?;
         let connection = &mut connections[place];
-        hear_and_name(
-            alloc,
-            connection,
-            index,
-            &mut self.said,
-            entering,
-            number,
-            place,
-        )
+        hear_and_name(connection, index, &mut self.said, entering, number, place)
     }
 
     /// The clock of the connections goes on, and what they say waits. Where memory is wanting that of some may have, and
     /// each of them is kept.
     fn clock_and_store(
         &mut self,
-        alloc: Global,
         connections: &mut Vec<Connection>,
         places: &[usize],
         outbox: &mut Outbox,
@@ -241,13 +227,12 @@ impl Round {
             self.new.kept.items }
         ensures stored { IsStored outbox.old outbox.new self.new.said result }
     {
-        self.clock_each(alloc, connections, places, clocking)?;
-        outbox.store(alloc, &self.said)
+        self.clock_each(connections, places, clocking)?;
+        outbox.store(clocking.alloc, &self.said)
     }
 
     fn clock_each(
         &mut self,
-        alloc: Global,
         connections: &mut Vec<Connection>,
         places: &[usize],
         clocking: &Clocking<'_>,
@@ -264,7 +249,7 @@ impl Round {
             self.new.kept.items }
     {
         for place in places {
-            self.clock_at(alloc, connections, *place, clocking)?;
+            self.clock_at(connections, *place, clocking)?;
         }
         Ok(())
     }
@@ -272,7 +257,6 @@ impl Round {
     /// The clock of the connection at a place goes on. It is kept first.
     fn clock_at(
         &mut self,
-        alloc: Global,
         connections: &mut Vec<Connection>,
         place: usize,
         clocking: &Clocking<'_>,
@@ -294,13 +278,12 @@ impl Round {
         let kept = connections[place].keep_own(place);
         self.kept.push(kept)?;
         let connection = &mut connections[place];
-        connection.clock(alloc, &mut self.said, clocking, number)
+        connection.clock(&mut self.said, clocking, number)
     }
 }
 
 /// A connection hears a message, and is named as it stands then.
 fn hear_and_name(
-    alloc: Global,
     connection: &mut Connection,
     index: &mut ConnectionIndex,
     said: &mut Said,
@@ -318,6 +301,6 @@ fn hear_and_name(
         (IsNamedAgain index.new place (bond connection.old) (bond connection.new)) }
 {
     let before = connection.end();
-    connection.take_answer(alloc, said, entering, number)?;
+    connection.take_answer(said, entering, number)?;
     index.name(place, connection, before)
 }

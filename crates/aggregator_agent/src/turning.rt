@@ -73,7 +73,6 @@ impl Connection {
     #[tactic(auto, unfolding(crate::specs::Turns::request_turn, crate::specs::Turns::spoken))]
     pub fn take_request(
         &mut self,
-        alloc: Global,
         said: &mut Said,
         entering: &Entering<'_>,
         number: RecordNo,
@@ -85,12 +84,13 @@ impl Connection {
             IsDone said.old said.new (bond self.new) result one }
         ensures later { IsLater self.old.own self.new.own }
     {
-        let mut turning = Turning::new(alloc, said.next);
         let Entering {
+            alloc,
             agent,
             message,
             second,
         } = *entering;
+        let mut turning = Turning::new(alloc, said.next);
         self.try_request(alloc, &mut turning, agent, message, second)?;
         said.add(agent, &self.own.owner, Moment { number, second }, turning)
     }
@@ -100,7 +100,6 @@ impl Connection {
     #[tactic(auto, unfolding(crate::specs::Turns::answer_turn, crate::specs::Turns::spoken))]
     pub fn take_answer(
         &mut self,
-        alloc: Global,
         said: &mut Said,
         entering: &Entering<'_>,
         number: RecordNo,
@@ -111,12 +110,13 @@ impl Connection {
             IsDone said.old said.new (bond self.new) result one }
         ensures later { IsLater self.old.own self.new.own }
     {
-        let mut turning = Turning::new(alloc, said.next);
         let Entering {
+            alloc,
             agent,
             message,
             second,
         } = *entering;
+        let mut turning = Turning::new(alloc, said.next);
         self.try_answer(alloc, &mut turning, agent, message, second)?;
         said.add(agent, &self.own.owner, Moment { number, second }, turning)
     }

@@ -22,11 +22,11 @@ returns-clause-table c =
     let xs = c.args.items.now.items in
     let bs = bonds xs in
     let n = c.len-place.result in
-    let x = c.args.connection in
+    let x = c.args.opening.connection in
     let y = c.request.new.connection in
     let counted : n ≡ length c.reserve.new.self.items = search rules in
     let long : n ≡ length bs = counted ∙ (ap length c.in_ok-reserve.ensures.items ∙ sym (length-map xs bond)) in
-    let start : Start = record { number = c.in_ok-number_of.field-0; place = n; next = c.args.next } in
+    let start : Start = record { number = c.in_ok-number_of.field-0; place = n; next = c.args.opening.next } in
     let put : bonds c.push_in_room.new.connections.items ≡ bs ++ bond y ∷ [] = ap bonds (c.push_in_room.ensures ∙ ap (λ zs. zs ++ y ∷ []) c.in_ok-reserve.ensures.items) ∙ map_push bond xs y in
     let said = c.in_ok-said.said in
     opened_table c.args.index.now c.request.new.index bs (bonds c.push_in_room.new.connections.items) n (bond x) (bond y) c.args.outbox.now c.request.new.outbox said c.args.entering.now start c.requires.table long refl c.requires.uncommitted put c.request.ensures.grows c.in_ok-said.ensures.named c.in_ok-said.ensures.some
@@ -36,11 +36,11 @@ returns-clause-by c route h =
     let xs = c.args.items.now.items in
     let bs = bonds xs in
     let n = c.len-place.result in
-    let x = c.args.connection in
+    let x = c.args.opening.connection in
     let y = c.request.new.connection in
     let counted : n ≡ length c.reserve.new.self.items = search rules in
     let long : n ≡ length bs = counted ∙ (ap length c.in_ok-reserve.ensures.items ∙ sym (length-map xs bond)) in
-    let start : Start = record { number = c.in_ok-number_of.field-0; place = n; next = c.args.next } in
+    let start : Start = record { number = c.in_ok-number_of.field-0; place = n; next = c.args.opening.next } in
     let put : bonds c.push_in_room.new.connections.items ≡ bs ++ bond y ∷ [] = ap bonds (c.push_in_room.ensures ∙ ap (λ zs. zs ++ y ∷ []) c.in_ok-reserve.ensures.items) ∙ map_push bond xs y in
     let said = c.in_ok-said.said in
     opened_in bs (bonds c.push_in_room.new.connections.items) n (bond x) (bond y) c.args.outbox.now c.request.new.outbox said c.args.entering.now start route long put c.in_ok-number_of.ensures (c.in_ok-said.ensures.by route h)
@@ -50,11 +50,11 @@ returns-clause-some c =
     let xs = c.args.items.now.items in
     let bs = bonds xs in
     let n = c.len-place.result in
-    let x = c.args.connection in
+    let x = c.args.opening.connection in
     let y = c.request.new.connection in
     let counted : n ≡ length c.reserve.new.self.items = search rules in
     let long : n ≡ length bs = counted ∙ (ap length c.in_ok-reserve.ensures.items ∙ sym (length-map xs bond)) in
-    let start : Start = record { number = c.in_ok-number_of.field-0; place = n; next = c.args.next } in
+    let start : Start = record { number = c.in_ok-number_of.field-0; place = n; next = c.args.opening.next } in
     let put : bonds c.push_in_room.new.connections.items ≡ bs ++ bond y ∷ [] = ap bonds (c.push_in_room.ensures ∙ ap (λ zs. zs ++ y ∷ []) c.in_ok-reserve.ensures.items) ∙ map_push bond xs y in
     let said = c.in_ok-said.said in
     let some = c.in_ok-said.ensures.some in
