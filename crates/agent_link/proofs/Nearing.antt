@@ -1,5 +1,5 @@
 -- A loop that changes each element of a list in its place.
-use Rattle.std.proofs.Common.{ℕ, zero, suc, ◌+◌, ◌<◌, ◌≡◌, List, [], ◌∷◌, refl, sym, ap, ap₂, ◌∙◌, arith, length, map, take, drop, get_or, slice_set}
+use Rattle.std.proofs.Common.{ℕ, zero, suc, ◌+◌, ◌<◌, ◌≤◌, ◌≡◌, List, [], ◌∷◌, refl, sym, ap, ap₂, ◌∙◌, subst, arith, length, map, take, drop, get_or, slice_set}
 
 done_at : {X : Type 0} (f : X → X) (olds news : List X) (i : ℕ) (y d : X) → i < length news → take i news ≡ map f (take i olds) → drop i news ≡ drop i olds → y ≡ f (get_or news i d) → take (suc i) (slice_set news i y) ≡ map f (take (suc i) olds)
 done_at f [] [] i y d h t r e = absurd (omega (arith, h))

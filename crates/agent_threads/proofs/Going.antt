@@ -18,6 +18,7 @@ use Rattle.agent_node.specs.Turns.{turned}
 use Rattle.agent_node.specs.Kept.{Kept}
 use Rattle.agent_node.specs.Made.{IsTurn}
 use Rattle.nsi_play.specs.Rounds.{Net, events_of, meets_all, met_all}
+use Rattle.run_totals.specs.Totals.{IsOf}
 use Rattle.agent_threads.specs.Nets.{seats, numbers, EachIs, AtHomes, AreUsable, AreSame}
 use Rattle.agent_threads.specs.Made.{Does, Drained, Stays, HaveRoom}
 use Rattle.agent_threads.specs.Journals.{AreBy, Grows}
@@ -225,6 +226,10 @@ numbered_one : (t : Network) (ks : List Kept) (a : ℕ) → AreNumbered t ks →
 numbered_one t [] a p q = absurd q
 numbered_one t (k ∷ ks) a p (inl e) = subst (λ (n : ℕ). n < length t.agents) (sym e) p.0
 numbered_one t (k ∷ ks) a p (inr q) = numbered_one t ks a p.1 q
+
+pub are_of : (t : Network) (ks : List Kept) (events : List Event) → AreNumbered t ks → AreOneOf (numbers (seats ks)) events → All (IsOf t) events
+are_of t ks [] n p = All-nil (IsOf t)
+are_of t ks (e ∷ es) n p = All-cons (IsOf t) e es (numbered_one t ks e.agent n p.0) (are_of t ks es n p.1)
 
 -- events of agents of the topology have lines
 pub have_lines : (t : Network) (ks : List Kept) (events : List Event) → AreNumbered t ks → AreOneOf (numbers (seats ks)) events → All IsPrintableEvent events → All (HasLine t) events

@@ -1,5 +1,5 @@
 -- Meeting one pair after another is meeting all at once.
-use Rattle.std.proofs.Common.{ℕ, ◌≡◌, List, [], ◌∷◌, ◌++◌, inl, inr, eq-eqb, ne_eqb, refl, sym, ap, ap₂, ◌∙◌, subst, map}
+use Rattle.std.proofs.Common.{ℕ, ◌≡◌, List, [], ◌∷◌, ◌++◌, inl, inr, refl, sym, ap, ap₂, ◌∙◌, subst, map}
 use Rattle.std.proofs.lemmas.Bool.{cases_eq}
 use Rattle.nsi_primitive.specs.declared.message.Parcel.{Parcel}
 use Rattle.agent_node.specs.Doors.{Door, others, change_first, let_through, learns}

@@ -14,6 +14,12 @@ use Rattle.nsi_play.specs.Rounds.{Net, Homes}
 use Rattle.nsi_play.specs.Play.{asks_among, PassesFrom}
 use Rattle.agent_threads.specs.Nets.{seats, AtHomes, AreSame}
 use Rattle.agent_threads.specs.Coming.{IsPlayedBy, IsGroupOver, GroupPasses}
+use Rattle.run_totals.specs.Totals.{plus, totals_of}
+use Rattle.run_totals.specs.declared.totals.Totals.{Totals}
+use Rattle.run_totals.proofs.Appending.{totals_append}
+use Rattle.agent_threads.specs.Reports.{written}
+use Rattle.agent_threads.specs.declared.report.Report.{Report}
+use Rattle.agent_threads.specs.declared.report.RunOptions.{RunOptions}
 use Rattle.agent_threads.specs.Promise.{AllCanBeDone, CanBeDone, CanBePlayed, WritesSomeOfGroup, WritesSomeOfPlay}
 use Rattle.agent_threads.proofs.Same.{still_of}
 use Rattle.agent_threads.proofs.Coming.{played_more, played_all, play_passes}
@@ -26,26 +32,43 @@ text_append : (t : Network) (es fs : List Event) → text_of t (es ++ fs) ≡ te
 text_append t [] fs = refl
 text_append t (e ∷ es) fs = ap (λ z. line_of t e ++ z) (text_append t es fs) ∙ sym (append_assoc (line_of t e) (text_of t es) (text_of t fs))
 
--- a text and another one
-pub writes_more : (t : Network) (es fs : List Event) (old mid new : Option (List ℕ)) → WritesAll old mid (text_of t es) → WritesAll mid new (text_of t fs) → WritesAll old new (text_of t (es ++ fs))
-writes_more t es fs None mid new p q = tt
-writes_more t es fs (Some c) mid new p q = (subst (λ m. WritesAll m new (text_of t fs)) p q) ∙ ap (λ z. Some z) (append_assoc c (text_of t es) (text_of t fs) ∙ ap (λ z. c ++ z) (sym (text_append t es fs)))
+pub written_append : (r : Report) (t : Network) (es fs : List Event) → written r t (es ++ fs) ≡ written r t es ++ written r t fs
+written_append Report.Trace t es fs = text_append t es fs
+written_append Report.Summary t es fs = refl
 
-pub writes_none : (t : Network) (old : Option (List ℕ)) → WritesAll old old (text_of t [])
-writes_none t None = tt
-writes_none t (Some c) = ap (λ z. Some z) (sym (append-nil c))
+-- nothing is written of no events
+written_none : (r : Report) (t : Network) → written r t [] ≡ []
+written_none Report.Trace t = refl
+written_none Report.Summary t = refl
+
+-- a text and another one
+pub writes_more : (r : Report) (t : Network) (es fs : List Event) (old mid new : Option (List ℕ)) → WritesAll old mid (written r t es) → WritesAll mid new (written r t fs) → WritesAll old new (written r t (es ++ fs))
+writes_more r t es fs None mid new p q = tt
+writes_more r t es fs (Some c) mid new p q = (subst (λ m. WritesAll m new (written r t fs)) p q) ∙ ap (λ z. Some z) (append_assoc c (written r t es) (written r t fs) ∙ ap (λ z. c ++ z) (sym (written_append r t es fs)))
+
+pub writes_none : (r : Report) (t : Network) (old : Option (List ℕ)) → WritesAll old old (written r t [])
+writes_none r t None = tt
+writes_none r t (Some c) = ap (λ z. Some z) (sym (append-nil c) ∙ ap (λ z. c ++ z) (sym (written_none r t)))
 
 -- a text is a front of itself
-pub writes_front_all : (t : Network) (es : List Event) (old new : Option (List ℕ)) → WritesAll old new (text_of t es) → WritesFront old new (text_of t es)
-writes_front_all t es None new p = tt
-writes_front_all t es (Some c) new p = (length (text_of t es), p ∙ ap (λ z. Some (c ++ z)) (sym (take_all (length (text_of t es)) (text_of t es) (omega arith))))
+pub writes_front_all : (r : Report) (t : Network) (es : List Event) (old new : Option (List ℕ)) → WritesAll old new (written r t es) → WritesFront old new (written r t es)
+writes_front_all r t es None new p = tt
+writes_front_all r t es (Some c) new p = (length (written r t es), p ∙ ap (λ z. Some (c ++ z)) (sym (take_all (length (written r t es)) (written r t es) (omega arith))))
 
 -- a text and a front of another one
-pub writes_front_more : (t : Network) (es fs : List Event) (old mid new : Option (List ℕ)) → WritesAll old mid (text_of t es) → WritesFront mid new (text_of t fs) → WritesFront old new (text_of t (es ++ fs))
-writes_front_more t es fs None mid new p q = tt
-writes_front_more t es fs (Some c) mid new p q =
-    let f : IfSome (Some (c ++ text_of t es)) (λ d. (k : ℕ) × (new ≡ Some (d ++ take k (text_of t fs)))) = subst (λ m. WritesFront m new (text_of t fs)) p q in
-    (length (text_of t es) + f.0, f.1 ∙ ap (λ z. Some z) (append_assoc c (text_of t es) (take f.0 (text_of t fs)) ∙ ap (λ z. c ++ z) (sym (take-append-add (text_of t es) (text_of t fs) f.0) ∙ ap (take (length (text_of t es) + f.0)) (sym (text_append t es fs)))))
+pub writes_front_more : (r : Report) (t : Network) (es fs : List Event) (old mid new : Option (List ℕ)) → WritesAll old mid (written r t es) → WritesFront mid new (written r t fs) → WritesFront old new (written r t (es ++ fs))
+writes_front_more r t es fs None mid new p q = tt
+writes_front_more r t es fs (Some c) mid new p q =
+    let f : IfSome (Some (c ++ written r t es)) (λ d. (k : ℕ) × (new ≡ Some (d ++ take k (written r t fs)))) = subst (λ m. WritesFront m new (written r t fs)) p q in
+    (length (written r t es) + f.0, f.1 ∙ ap (λ z. Some z) (append_assoc c (written r t es) (take f.0 (written r t fs)) ∙ ap (λ z. c ++ z) (sym (take-append-add (written r t es) (written r t fs) f.0) ∙ ap (take (length (written r t es) + f.0)) (sym (written_append r t es fs)))))
+
+---- Numbers
+
+pub how_many : {m n : Totals} → m ≡ n → m.events ≡ n.events
+how_many e = ap (λ (z : Totals). z.events) e
+
+pub more_totals : (t : Network) (es fs : List Event) (m n : Totals) → m ≡ totals_of t es → n ≡ plus m (totals_of t fs) → n ≡ totals_of t (es ++ fs)
+more_totals t es fs m n p q = q ∙ (ap (λ z. plus z (totals_of t fs)) p ∙ sym (totals_append t es fs))
 
 ---- Groups
 
@@ -76,18 +99,18 @@ pub at_start : (starts nows : List Kept) (P : Homes → Type 0) → AreSame star
 at_start starts nows P s f t o routes r = f t (still_of t starts nows s o) routes r
 
 -- what stands where a group wasn't made or wasn't written
-pub some_of_play : (t : Network) (script : List Group) (i : ℕ) (d : Group) (starts nows : List Kept) (events : List Event) (next limit : ℕ) (old mid new : Option (List ℕ)) → i < length script → AreSame starts nows
-    → AtHomes starts (λ homes. IsPlayedBy homes (take i script) (seats starts) events next (seats nows)) → length events ≤ limit → WritesAll old mid (text_of t events)
-    → WritesSomeOfGroup t limit (length events) (get_or script i d) next nows mid new → WritesSomeOfPlay t limit script starts old new
-some_of_play t script i d starts nows events next limit old mid new h s p few w (inl e) = (
+pub some_of_play : (t : Network) (script : List Group) (i : ℕ) (d : Group) (starts nows : List Kept) (events : List Event) (next : ℕ) (options : RunOptions) (old mid new : Option (List ℕ)) → i < length script → AreSame starts nows
+    → AtHomes starts (λ homes. IsPlayedBy homes (take i script) (seats starts) events next (seats nows)) → length events ≤ options.limit → WritesAll old mid (written options.report t events)
+    → WritesSomeOfGroup t options (length events) (get_or script i d) next nows mid new → WritesSomeOfPlay t options script starts old new
+some_of_play t script i d starts nows events next options old mid new h s p few w (inl e) = (
   i,
   events,
   seats nows,
   (λ u o routes r. played_all _ (take i script) (seats starts) events next (seats nows) (p u o routes r)),
   few,
-  writes_front_all t events old new (subst (λ m. WritesAll old m (text_of t events)) (sym e) w),
+  writes_front_all options.report t events old new (subst (λ m. WritesAll old m (written options.report t events)) (sym e) w),
 )
-some_of_play t script i d starts nows events next limit old mid new h s p few w (inr q) = (
+some_of_play t script i d starts nows events next options old mid new h s p few w (inr q) = (
   i + 1,
   events ++ q.0,
   q.1,
@@ -95,7 +118,7 @@ some_of_play t script i d starts nows events next limit old mid new h s p few w 
       played_all _ (take (i + 1) script) (seats starts) (events ++ q.0) (next + asks_among (get_or script i d).acts) q.1
       (group_more _ script i d (seats starts) events next (seats nows) q.0 q.1 h (p u o routes r) (q.2 u (still_of u starts nows s o) routes r))),
   (let m = q.3 in omega (arith, m, length-append events q.0)),
-  writes_front_more t events q.0 old mid new w q.4,
+  writes_front_more options.report t events q.0 old mid new w q.4,
 )
 
 ---- What a script asks for

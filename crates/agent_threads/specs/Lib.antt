@@ -1,5 +1,6 @@
 pub mod Nets
 pub mod Made
+pub mod Reports
 pub mod Coming
 pub mod Promise
 pub mod Journals

@@ -6,7 +6,6 @@ use Rattle.nsi_outside.specs.Stream.{WritesAll, WritesFront}
 use Rattle.stp_topology.specs.declared.network.Network.{Network}
 use Rattle.requester_agent.specs.Setting.{IsRequester}
 use Rattle.requester_agent.specs.Steps.{is_query_ask}
-use Rattle.trace_text.specs.Lines.{text_of}
 use Rattle.nsi_script.specs.declared.script.Act.{Act}
 use Rattle.nsi_script.specs.declared.script.Group.{Group}
 use Rattle.agent_node.specs.Kept.{Kept}
@@ -14,6 +13,10 @@ use Rattle.nsi_play.specs.Rounds.{Net}
 use Rattle.nsi_play.specs.Play.{IsPlayFrom, PassesFrom}
 use Rattle.agent_threads.specs.Nets.{seats, AtHomes, AreOf}
 use Rattle.agent_threads.specs.Coming.{IsGroupOver}
+use Rattle.agent_threads.specs.Reports.{written}
+use Rattle.agent_threads.specs.declared.report.RunOptions.{RunOptions}
+use Rattle.run_totals.specs.Totals.{totals_of}
+use Rattle.run_totals.specs.declared.totals.Totals.{Totals}
 
 ---- What is asked of a script
 
@@ -45,33 +48,33 @@ CanBePlayed t (g ∷ gs) = AllCanBeDone t g.acts × CanBePlayed t gs
 
 ---- What is written
 
--- the text of the play was written, and this is how many events it has
-abbrev pub WritesPlay : Network → ℕ → List Group → List Kept → Option (List ℕ) → Option (List ℕ) → ℕ → Type 0
-WritesPlay t limit script start old new count =
+-- what is wanted of the play was written, and these are its numbers
+abbrev pub WritesPlay : Network → RunOptions → List Group → List Kept → Option (List ℕ) → Option (List ℕ) → Totals → Type 0
+WritesPlay t options script start old new totals =
     (events : List Event) × (last : Net) × AtHomes start (λ homes. IsPlayFrom script homes (seats start) events last)
-    × (count ≡ length events) × (count ≤ limit) × WritesAll old new (text_of t events)
+    × (totals ≡ totals_of t events) × (length events ≤ options.limit) × WritesAll old new (written options.report t events)
 
 -- these groups of the script were played and written, and with the next one the play has too many events
-abbrev pub WritesTooLong : Network → ℕ → List Group → List Kept → Option (List ℕ) → Option (List ℕ) → Type 0
-WritesTooLong t limit script start old new =
+abbrev pub WritesTooLong : Network → RunOptions → List Group → List Kept → Option (List ℕ) → Option (List ℕ) → Type 0
+WritesTooLong t options script start old new =
     (groups : ℕ) × (events : List Event) × (last : Net) × AtHomes start (λ homes. IsPlayFrom (take groups script) homes (seats start) events last)
-    × AtHomes start (λ homes. PassesFrom limit (take (groups + 1) script) homes (seats start))
-    × AtHomes start (λ homes. PassesFrom limit script homes (seats start))
-    × (length events ≤ limit) × WritesAll old new (text_of t events)
+    × AtHomes start (λ homes. PassesFrom options.limit (take (groups + 1) script) homes (seats start))
+    × AtHomes start (λ homes. PassesFrom options.limit script homes (seats start))
+    × (length events ≤ options.limit) × WritesAll old new (written options.report t events)
 
--- a front of the text of some groups of the play was written
-abbrev pub WritesSomeOfPlay : Network → ℕ → List Group → List Kept → Option (List ℕ) → Option (List ℕ) → Type 0
-WritesSomeOfPlay t limit script start old new =
+-- a front of what is wanted of some groups of the play was written
+abbrev pub WritesSomeOfPlay : Network → RunOptions → List Group → List Kept → Option (List ℕ) → Option (List ℕ) → Type 0
+WritesSomeOfPlay t options script start old new =
     (groups : ℕ) × (events : List Event) × (last : Net) × AtHomes start (λ homes. IsPlayFrom (take groups script) homes (seats start) events last)
-    × (length events ≤ limit) × WritesFront old new (text_of t events)
+    × (length events ≤ options.limit) × WritesFront old new (written options.report t events)
 
--- the text of some whole groups of the play was written
-abbrev pub WritesGroups : Network → ℕ → List Group → List Kept → Option (List ℕ) → Option (List ℕ) → Type 0
-WritesGroups t limit script start old new =
+-- what is wanted of some whole groups of the play was written
+abbrev pub WritesGroups : Network → RunOptions → List Group → List Kept → Option (List ℕ) → Option (List ℕ) → Type 0
+WritesGroups t options script start old new =
     (groups : ℕ) × (events : List Event) × (last : Net) × AtHomes start (λ homes. IsPlayFrom (take groups script) homes (seats start) events last)
-    × (length events ≤ limit) × WritesAll old new (text_of t events)
+    × (length events ≤ options.limit) × WritesAll old new (written options.report t events)
 
--- nothing of the group was written, or it is over and a front of its text was
-abbrev pub WritesSomeOfGroup : Network → (limit before : ℕ) → Group → ℕ → List Kept → Option (List ℕ) → Option (List ℕ) → Type 0
-WritesSomeOfGroup t limit before g next x old new =
-    (new ≡ old) ⊎ ((own : List Event) × (y : Net) × AtHomes x (λ homes. IsGroupOver homes g next (seats x) own y) × (before + length own ≤ limit) × WritesFront old new (text_of t own))
+-- nothing of the group was written, or it is over and a front of what is wanted of it was
+abbrev pub WritesSomeOfGroup : Network → RunOptions → (before : ℕ) → Group → ℕ → List Kept → Option (List ℕ) → Option (List ℕ) → Type 0
+WritesSomeOfGroup t options before g next x old new =
+    (new ≡ old) ⊎ ((own : List Event) × (y : Net) × AtHomes x (λ homes. IsGroupOver homes g next (seats x) own y) × (before + length own ≤ options.limit) × WritesFront old new (written options.report t own))

@@ -18,6 +18,7 @@ ghost use Rattle.agent_threads.specs.Promise.{CanAct, CanDo};
 
 use crate::act::act_all;
 use crate::fault::RoundFault;
+use crate::resources::Resources;
 use crate::rounds::{round, settled};
 use agent_node::Node;
 use journal_entry::Journal;
@@ -207,9 +208,7 @@ pub fn begin<'t, J: Journal + Drop>(
 
 /// A round, and what has happened then, where there is room for its events.
 fn step<'t, R: Threads + Sync, J: Journal + Drop + Send>(
-    rt: &R,
-    workers: usize,
-    alloc: Global,
+    resources: &Resources<'_, R>,
     nodes: &mut Vec<Node<'t, J>>,
     events: &mut Vec<Event>,
     room: u64,
@@ -234,7 +233,7 @@ fn step<'t, R: Threads + Sync, J: Journal + Drop + Send>(
 {
     routes_exist();
     let left = room - events.len() as u64;
-    round(rt, workers, alloc, nodes, left)?;
+    round(resources, nodes, left)?;
     drain(nodes, events)?;
     if events.len() as u64 > room {
         return Err(RoundFault::Long);
@@ -244,9 +243,7 @@ fn step<'t, R: Threads + Sync, J: Journal + Drop + Send>(
 
 /// Rounds until something happens or all agents are quiet. It answers whether they are.
 fn advance<'t, R: Threads + Sync, J: Journal + Drop + Send>(
-    rt: &R,
-    workers: usize,
-    alloc: Global,
+    resources: &Resources<'_, R>,
     nodes: &mut Vec<Node<'t, J>>,
     events: &mut Vec<Event>,
     room: u64,
@@ -277,7 +274,7 @@ fn advance<'t, R: Threads + Sync, J: Journal + Drop + Send>(
     left_falls();
     while !settled(nodes) {
         let before = events.len();
-        step(rt, workers, alloc, nodes, events, room)?;
+        step(resources, nodes, events, room)?;
         if events.len() > before {
             return Ok(false);
         }
@@ -287,9 +284,7 @@ fn advance<'t, R: Threads + Sync, J: Journal + Drop + Send>(
 
 /// Rounds until all agents are quiet.
 pub fn settle<'t, R: Threads + Sync, J: Journal + Drop + Send>(
-    rt: &R,
-    workers: usize,
-    alloc: Global,
+    resources: &Resources<'_, R>,
     nodes: &mut Vec<Node<'t, J>>,
     events: &mut Vec<Event>,
     room: u64,
@@ -317,7 +312,7 @@ pub fn settle<'t, R: Threads + Sync, J: Journal + Drop + Send>(
     nets_are_bounded();
     let mut quiet = false;
     while !quiet {
-        quiet = advance(rt, workers, alloc, nodes, events, room)?;
+        quiet = advance(resources, nodes, events, room)?;
     }
     Ok(())
 }

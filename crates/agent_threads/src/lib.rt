@@ -4,11 +4,14 @@
 mod act;
 pub mod fault;
 mod group;
-mod lines;
 mod meeting;
+mod report;
+mod resources;
 mod rounds;
 mod run;
 
 pub use fault::{RoundFault, RunFault};
+pub use report::{Report, RunOptions};
+pub use resources::Resources;
 pub use rounds::{round, settled};
 pub use run::play_all;

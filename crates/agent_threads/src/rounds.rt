@@ -12,10 +12,10 @@ ghost use Rattle.agent_threads.specs.Made.{HasRoom, HaveRoom, failure_at, stop_a
 
 use crate::fault::RoundFault;
 use crate::meeting::meet_all;
+use crate::resources::Resources;
 use agent_node::{Node, TurnFault};
 use journal_entry::Journal;
 use nsi_base::AgentNo;
-use std::alloc::Global;
 use std::thread;
 use std::thread::Threads;
 
@@ -35,9 +35,8 @@ fn workers_for<'t, J: Journal + Drop>(nodes: &[Node<'t, J>], most: usize) -> usi
 
 /// Every agent has its turn, by so many workers at once.
 fn turn_each<'t, R: Threads + Sync, J: Journal + Drop + Send>(
-    rt: &R,
+    resources: &Resources<'_, R>,
     workers: usize,
-    alloc: Global,
     nodes: &mut [Node<'t, J>],
     room: u64,
 )
@@ -48,14 +47,14 @@ fn turn_each<'t, R: Threads + Sync, J: Journal + Drop + Send>(
     ensures each { (i : ℕ) (d : Kept) → i < length nodes.old →
         IsTurn room (slice_index_or nodes.old i d) (slice_index_or nodes.new i d) }
 {
+    let alloc = resources.alloc;
+    let rt = resources.threads;
     thread::for_each_mut(rt, nodes, workers, &|_, node| node.take_turn(alloc, room));
 }
 
 /// Every agent has its turn, also where another one's fails: each keeps its fault.
 fn turn_all<'t, R: Threads + Sync, J: Journal + Drop + Send>(
-    rt: &R,
-    workers: usize,
-    alloc: Global,
+    resources: &Resources<'_, R>,
     nodes: &mut Vec<Node<'t, J>>,
     room: u64,
 )
@@ -63,8 +62,8 @@ fn turn_all<'t, R: Threads + Sync, J: Journal + Drop + Send>(
     requires few { HaveRoom room nodes.old.items }
     ensures { EachIs (IsTurn room) nodes.old.items nodes.new.items }
 {
-    let workers = workers_for(nodes, workers);
-    turn_each(rt, workers, alloc, nodes, room);
+    let workers = workers_for(nodes, resources.workers);
+    turn_each(resources, workers, nodes, room);
 }
 
 fn failure_of(agent: AgentNo, fault: Option<TurnFault>) -> Option<RoundFault>
@@ -122,9 +121,7 @@ fn fault_in<'t, J: Journal + Drop>(nodes: &[Node<'t, J>]) -> Option<RoundFault>
 /// A round, by so many workers at most: every agent has its turn, as if all at once, and then each learns what was let through to
 /// it. Every turn has the whole room. Where one fails, all are made; the agents are then only good for giving their disks back.
 pub fn round<'t, R: Threads + Sync, J: Journal + Drop + Send>(
-    rt: &R,
-    workers: usize,
-    alloc: Global,
+    resources: &Resources<'_, R>,
     nodes: &mut Vec<Node<'t, J>>,
     room: u64,
 ) -> Result<(), RoundFault>
@@ -150,7 +147,7 @@ pub fn round<'t, R: Threads + Sync, J: Journal + Drop + Send>(
     ensures moves { AtHomes nodes.old.items (λ homes.
         OnOk result (EachIs (MovesOn 0) nodes.old.items nodes.new.items)) }
 {
-    turn_all(rt, workers, alloc, nodes, room);
+    turn_all(resources, nodes, room);
     if let Some(fault) = fault_in(nodes) {
         return Err(fault);
     }

@@ -16,6 +16,7 @@ mod plain_provider;
 mod playing;
 mod provisioning;
 mod rows;
+mod summary;
 mod terminating;
 mod workers;
 

@@ -24,6 +24,7 @@ use Rattle.nsi_play.specs.Laws.{OnePlay}
 use Rattle.least_routes.specs.Laws.{RoutesExist}
 use Rattle.nsi_world.specs.Worlds.{World, empty}
 use Rattle.nsi_world.specs.Runs.{happens, world_after}
+use Rattle.run_totals.specs.declared.totals.Totals.{Totals}
 use Rattle.agent_threads.specs.declared.fault.RunFault.{RunFault}
 use Rattle.agent_threads.specs.Nets.{seats, numbers, EachIs, AreUsable, IsAbsent, AreApart}
 use Rattle.agent_threads.specs.Journals.{entry_at, entries_at, entry_in, AllGoOn, AllSynced, Takes, HaveTaken, KeepPlay}
@@ -200,7 +201,7 @@ module _ (t : Network) (old new : List ℕ → Option (List ℕ)) (listed : List
       let same : p.0 ≡ events = (one script (home_in t r.0) (opening t) p.0 events p.1 last played (play r.0 r.1)).0 in
       subst (λ (es : List Event). HoldsOf t new es) same (holds_of p.0 (k.1 start) (k.2 synced) told)
 
-pub run_holds : OnePlay → RoutesExist → (t : Network) (old new : List ℕ → Option (List ℕ)) (listed : List ℕ → Bool) (gs hs : List Group) (olds news : List Kept) (r : Result ℕ RunFault) → hs ≡ gs → IsWellFormed t → AreOpened t olds → AreListed listed t olds → AreEmpty t old olds
+pub run_holds : OnePlay → RoutesExist → (t : Network) (old new : List ℕ → Option (List ℕ)) (listed : List ℕ → Bool) (gs hs : List Group) (olds news : List Kept) (r : Result Totals RunFault) → hs ≡ gs → IsWellFormed t → AreOpened t olds → AreListed listed t olds → AreEmpty t old olds
     → EachIs IsSameAgent olds news → (AreToReturn t news → AreRead t new news) → OnOk r (AreUsable news) → OnOk r (KeepPlay hs olds news) → OnOk r (HoldsJournals t gs old new)
 run_holds one exist t old new listed gs hs olds news (Ok n) e formed opened named none same returned usable p = subst (λ (xs : List Group). HoldsJournals t xs old new) e (holds_journals t old new listed olds news formed opened named none usable same returned one exist hs p)
 run_holds one exist t old new listed gs hs olds news (Err f) e formed opened named none same returned usable p = tt

@@ -7,7 +7,7 @@ use Rattle.nsi_disk.specs.ShelfCounts.{Raised}
 use Rattle.nsi_outside.specs.Stream.{WritesAll, WritesFront}
 use Rattle.nsi_primitive.specs.declared.entry.Event.{Event}
 use Rattle.stp_topology.specs.declared.network.Network.{Network}
-use Rattle.trace_text.specs.Lines.{text_of}
+use Rattle.run_totals.specs.declared.totals.Totals.{Totals}
 use Rattle.nsi_script.specs.declared.script.Act.{Act}
 use Rattle.nsi_script.specs.declared.script.Group.{Group}
 use Rattle.nsi_script.specs.Fits.{IsActOf}
@@ -21,6 +21,10 @@ use Rattle.nsi_play.specs.Rounds.{Net}
 use Rattle.nsi_play.specs.Play.{IsPlayFrom, PassesFrom, IsPlay, Passes}
 use Rattle.nsi_play.proofs.Settling.{plays_nil}
 use Rattle.agent_threads.specs.declared.fault.RunFault.{RunFault}
+use Rattle.agent_threads.specs.Reports.{written}
+use Rattle.agent_threads.specs.declared.report.Report.{Report}
+use Rattle.agent_threads.specs.declared.report.RunOptions.{RunOptions}
+use Rattle.agent_threads.proofs.Told.{writes_none}
 use Rattle.agent_threads.specs.Nets.{seats, AtHomes, AreCalm}
 use Rattle.agent_threads.specs.Made.{HasFailed}
 use Rattle.agent_threads.specs.Promise.{CanBeDone, AllCanBeDone, CanBePlayed, WritesPlay as WritesPlayFrom, WritesTooLong as WritesTooLongFrom, WritesGroups as WritesGroupsFrom, WritesSomeOfPlay as WritesSomeFrom}
@@ -60,48 +64,44 @@ play_from t ks script events last o p = λ routes r. subst (λ (net : Net). IsPl
 passes_from : (limit : ℕ) (t : Network) (ks : List Kept) (script : List Group) → AreOpened t ks → AtHomes ks (λ homes. PassesFrom limit script homes (seats ks)) → Passes limit t script
 passes_from limit t ks script o p = λ routes r. subst (λ (net : Net). PassesFrom limit script (home_in t routes) net) o.seats (p t o.of routes r)
 
-module _ (t : Network) (limit : ℕ) (gs hs : List Group) (ks : List Kept) (old new : Option (List ℕ)) (o : AreOpened t ks) (e : hs ≡ gs) where
-  pub done_of : (r : Result ℕ RunFault) → IfOk r (λ n. WritesPlayFrom t limit hs ks old new n) → IfOk r (λ n. WritesPlay t limit gs old new n)
+module _ (t : Network) (options : RunOptions) (gs hs : List Group) (ks : List Kept) (old new : Option (List ℕ)) (o : AreOpened t ks) (e : hs ≡ gs) where
+  pub done_of : (r : Result Totals RunFault) → IfOk r (λ n. WritesPlayFrom t options hs ks old new n) → IfOk r (λ n. WritesPlay t options gs old new n)
   done_of (Ok n) (events, last, p, counted, few, w) =
-      subst (λ (xs : List Group). WritesPlay t limit xs old new n) e (events, last, play_from t ks hs events last o p, counted, few, w)
+      subst (λ (xs : List Group). WritesPlay t options xs old new n) e (events, last, play_from t ks hs events last o p, counted, few, w)
   done_of (Err f) w = tt
 
-  pub long_of : WritesTooLongFrom t limit hs ks old new → WritesTooLong t limit gs old new
+  pub long_of : WritesTooLongFrom t options hs ks old new → WritesTooLong t options gs old new
   long_of (groups, events, last, p, q, all, few, w) =
-      subst (λ (xs : List Group). WritesTooLong t limit xs old new) e
-      (groups, events, last, play_from t ks (take groups hs) events last o p, few, passes_from limit t ks (take (groups + 1) hs) o q, w)
+      subst (λ (xs : List Group). WritesTooLong t options xs old new) e
+      (groups, events, last, play_from t ks (take groups hs) events last o p, few, passes_from options.limit t ks (take (groups + 1) hs) o q, w)
 
-  pub groups_of : WritesGroupsFrom t limit hs ks old new → WritesGroups t limit gs old new
+  pub groups_of : WritesGroupsFrom t options hs ks old new → WritesGroups t options gs old new
   groups_of (groups, events, last, p, few, w) =
-      subst (λ (xs : List Group). WritesGroups t limit xs old new) e (groups, events, last, play_from t ks (take groups hs) events last o p, few, w)
+      subst (λ (xs : List Group). WritesGroups t options xs old new) e (groups, events, last, play_from t ks (take groups hs) events last o p, few, w)
 
-  pub some_of : (r : Result ℕ RunFault) → OnErr r (WritesSomeFrom t limit hs ks old new) → OnErr r (WritesSomeOfPlay t limit gs old new)
+  pub some_of : (r : Result Totals RunFault) → OnErr r (WritesSomeFrom t options hs ks old new) → OnErr r (WritesSomeOfPlay t options gs old new)
   some_of (Ok n) w = tt
   some_of (Err f) (groups, events, last, p, few, w) =
-      subst (λ (xs : List Group). WritesSomeOfPlay t limit xs old new) e (groups, events, last, play_from t ks (take groups hs) events last o p, few, w)
+      subst (λ (xs : List Group). WritesSomeOfPlay t options xs old new) e (groups, events, last, play_from t ks (take groups hs) events last o p, few, w)
 
-writes_none : (t : Network) (old : Option (List ℕ)) → WritesAll old old (text_of t [])
-writes_none t None = tt
-writes_none t (Some c) = ap (λ z. Some z) (sym (append-nil c))
-
-front_none : (t : Network) (old : Option (List ℕ)) → WritesFront old old (text_of t [])
-front_none t None = tt
-front_none t (Some c) = (0, ap (λ z. Some z) (sym (append-nil c)))
+front_none : (r : Report) (t : Network) (old : Option (List ℕ)) → WritesFront old old (written r t [])
+front_none r t None = tt
+front_none r t (Some c) = (0, ap (λ z. Some z) (sym (append-nil c)))
 
 -- nothing of a play
-pub no_groups : (t : Network) (limit : ℕ) (gs : List Group) (old : Option (List ℕ)) → WritesGroups t limit gs old old
-no_groups t limit gs old = (0, [], opening t, (λ routes r. (0, plays_nil 0 0 (home_in t routes) (opening t))), omega arith, writes_none t old)
+pub no_groups : (t : Network) (options : RunOptions) (gs : List Group) (old : Option (List ℕ)) → WritesGroups t options gs old old
+no_groups t options gs old = (0, [], opening t, (λ routes r. (0, plays_nil 0 0 (home_in t routes) (opening t))), omega arith, writes_none options.report t old)
 
-pub nothing_of : (t : Network) (limit : ℕ) (gs : List Group) (old : Option (List ℕ)) → WritesSomeOfPlay t limit gs old old
-nothing_of t limit gs old = (0, [], opening t, (λ routes r. (0, plays_nil 0 0 (home_in t routes) (opening t))), omega arith, front_none t old)
+pub nothing_of : (t : Network) (options : RunOptions) (gs : List Group) (old : Option (List ℕ)) → WritesSomeOfPlay t options gs old old
+nothing_of t options gs old = (0, [], opening t, (λ routes r. (0, plays_nil 0 0 (home_in t routes) (opening t))), omega arith, front_none options.report t old)
 
 ---- Faults
 
-pub same_fault : (x y : RunFault) → IsErrOf {T = ℕ} (Err x) y → x ≡ y
+pub same_fault : (x y : RunFault) → IsErrOf {T = Totals} (Err x) y → x ≡ y
 same_fault x y e = cc
 
-pub cause_in : (r : Result ℕ RunFault) (f : RunFault) (P : RunFault → Type 0) → IfErr r P → IsErrOf r f → P f
-cause_in r f P p e = subst (λ (z : Result ℕ RunFault). IfErr z P) e p
+pub cause_in : (r : Result Totals RunFault) (f : RunFault) (P : RunFault → Type 0) → IfErr r P → IsErrOf r f → P f
+cause_in r f P p e = subst (λ (z : Result Totals RunFault). IfErr z P) e p
 
 pub failed_within : (a : ℕ) (listed : List ℕ → Bool) (t : Network) (ks : List Kept) → AreListed listed t ks → HasFailed a ks → a < length t.agents
 failed_within a listed t [] l h = absurd h
@@ -112,7 +112,7 @@ pub broken_in : (a f g h s r q : ℕ) (ks : List Kept) → HasFailed a ks → g 
 broken_in a f g h s r q ks failed e d p o =
     broken_by (faults_among ks) (stops_among ks) f h s q (some_failed a ks failed) (subst (λ (n : ℕ). Raised n (faults_among ks) h) e p) (subst (λ (n : ℕ). Raised n (stops_among ks) q) d o)
 
-pub calm_of : (x : Result ℕ RunFault) (t : Network) (f g h s r q : ℕ) (olds news : List Kept) → AreOpened t olds → g ≡ f → r ≡ s → OnOk x (AreCalm olds news)
+pub calm_of : (x : Result Totals RunFault) (t : Network) (f g h s r q : ℕ) (olds news : List Kept) → AreOpened t olds → g ≡ f → r ≡ s → OnOk x (AreCalm olds news)
     → Raised g (faults_among news) h → Raised r (stops_among news) q → OnOk x (IsQuiet f h s q)
 calm_of (Ok n) t f g h s r q olds news a e d c p o = (
   subst (λ (n : ℕ). Raised n 0 h) e (subst (λ (n : ℕ). Raised g n h) (calm_faults olds news c ∙ a.faults) p),

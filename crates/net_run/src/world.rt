@@ -8,48 +8,46 @@ ghost use Rattle.net_run.specs.Shelves.{HasBroken, IsQuiet};
 
 use crate::closing::close_net;
 use crate::opening::open_net;
-use agent_threads::{RunFault, play_all};
+use agent_threads::{Resources, RunFault, RunOptions, play_all};
 use least_routes::laws::routes_exist;
 use nsi_disk::Shelf;
 use nsi_outside::Sink;
 use nsi_play::laws::one_play;
 use nsi_script::Script;
 use quiet_rounds::laws::nets_are_bounded;
-use std::alloc::Global;
+use run_totals::Totals;
 use std::thread::Threads;
 use stp_topology::Topology;
 
 /// Plays the groups of a script with the agents of a topology, each round by so many workers at most. Their journals are kept on the
-/// disks of their names, and begin empty. Each group's events are written in its end. It answers how many events there were. The
-/// disks are given back, however the run ends.
+/// disks of their names, and begin empty. What is wanted of each group is written in its end. It answers the numbers of
+/// all. The disks are given back, however the run ends.
 pub fn run_world<R: Threads + Sync, K: Sink, H: Shelf>(
-    rt: &R,
-    workers: usize,
-    alloc: Global,
+    resources: &Resources<'_, R>,
     topology: &Topology,
     script: &Script,
-    limit: u64,
+    options: RunOptions,
     shelf: &mut H,
     out: &mut K,
-) -> Result<u64, RunFault>
+) -> Result<Totals, RunFault>
 where
     H::Disk: Drop + Send,
-    requires limit { limit ≤ 2000000 }
+    requires limit { options.limit ≤ 2000000 }
     requires fits { Fits topology.now script.now }
 
-    // What is written is the text of the play.
-    ensures done { IfOk result (λ n. WritesPlay topology.now limit script.now.groups
+    // What is wanted of the play is written.
+    ensures done { IfOk result (λ n. WritesPlay topology.now options script.now.groups
         (K.content out.old) (K.content out.new) n) }
 
     // It is too long only where the play passes the limit, and then the groups that fit were written.
-    ensures long { IsErrOf result RunFault.Long → WritesTooLong topology.now limit script.now.groups
+    ensures long { IsErrOf result RunFault.Long → WritesTooLong topology.now options script.now.groups
         (K.content out.old) (K.content out.new) }
 
     // Another fault comes only from outside. Where a disk has failed, whole groups were written; else a front of them.
     ensures broken { (a : ℕ) → IsErrOf result (RunFault.DiskFault a) →
-        (a < length topology.now.agents) × WritesGroups topology.now limit script.now.groups
+        (a < length topology.now.agents) × WritesGroups topology.now options script.now.groups
         (K.content out.old) (K.content out.new) }
-    ensures front { OnErr result (WritesSomeOfPlay topology.now limit script.now.groups
+    ensures front { OnErr result (WritesSomeOfPlay topology.now options script.now.groups
         (K.content out.old) (K.content out.new)) }
     ensures disk { (a : ℕ) → IsErrOf result (RunFault.DiskFault a) →
         HasBroken (H.faults shelf.old) (H.faults shelf.new)
@@ -70,18 +68,16 @@ where
     routes_exist();
     one_play();
     nets_are_bounded();
-    let mut nodes = match open_net(alloc, topology, shelf) {
+    let mut nodes = match open_net(resources.alloc, topology, shelf) {
         Ok(nodes) => nodes,
         Err(fault) => return Err(fault),
     };
     let played = play_all(
-        rt,
-        workers,
-        alloc,
+        resources,
         topology,
         &mut nodes,
         script.groups.items(),
-        limit,
+        options,
         out,
     );
     close_net(nodes, topology, shelf);

@@ -16,4 +16,5 @@ pub mod Stepping
 pub mod TopologyLines
 pub mod Kept
 pub mod Backing
+pub mod Optioning
 mod CheckRows

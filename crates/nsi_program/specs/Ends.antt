@@ -13,7 +13,7 @@ use Rattle.nsi_program.specs.declared.words.Load.{Load}
 use Rattle.nsi_program.specs.Check.{Checks, Begins}
 pub use Rattle.run_command.specs.Ends.{Counts, counted, HasRisen, HasDiskFault}
 use Rattle.run_command.specs.Runs.{Begins as RunBegins, Breaks}
-use Rattle.nsi_program.specs.RunsTo.{RunsTo}
+use Rattle.nsi_program.specs.RunsTo.{RunsTo, options_of}
 use Rattle.nsi_program.specs.Lines.{as_line}
 use Rattle.nsi_program.specs.Phases.{Reading}
 use Rattle.nsi_program.specs.Outcome.{disk_fault_line}
@@ -60,7 +60,7 @@ WithReading holds left P = (read : Reading) × IfSome left (λ bytes. IsReading 
 abbrev pub MayEnd : Option Command → (List ℕ → Option (List ℕ)) → Option (List ℕ) → Option (List ℕ) → Option (Status × List ℕ) → Type 0
 MayEnd None holds content left promise = promise ≡ usage_promise content
 MayEnd (Some (Command.Provide most)) holds content left promise = WithReading holds left (λ read. promise ≡ promise_of read most content left)
-MayEnd (Some (Command.Run play)) holds content left promise = Promises (λ bytes end. RunsTo play.most bytes end.0 end.1) content left promise
+MayEnd (Some (Command.Run play)) holds content left promise = Promises (λ bytes end. RunsTo (options_of play) bytes end.0 end.1) content left promise
 MayEnd (Some Command.Check) holds content left promise = Promises (λ bytes end. Checks bytes end.0 end.1) content left promise
 MayEnd (Some (Command.Generate load)) holds content left promise = promise ≡ load_promise load content
 
@@ -82,14 +82,14 @@ abbrev pub IsBroken : Option Command → (List ℕ → Option (List ℕ)) → (c
 IsBroken (Some (Command.Provide most)) holds content left new =
     WithReading holds left (λ read. IfSome content (λ c. IfSome left (λ bytes. (t : Network) × (provider : ℕ) × Serves (lines_in bytes) t provider
     × (text : List ℕ) × AnswersThen read most (given_of greatest_input bytes) (disk_fault_line (name_of t provider)) text × (new ≡ Some (c ++ text)))))
-IsBroken (Some (Command.Run play)) holds content left new = IfSome left (λ bytes. WritesSome (Breaks play.most bytes) content new)
+IsBroken (Some (Command.Run play)) holds content left new = IfSome left (λ bytes. WritesSome (Breaks (options_of play) bytes) content new)
 IsBroken _ holds content left new = ⊥
 
 -- Writing was cut short, and no read has failed.
 abbrev pub IsCutInAnswers : Option Command → (List ℕ → Option (List ℕ)) → (content left new : Option (List ℕ)) → Type 0
 IsCutInAnswers None holds content left new = WritesFront content new (as_line (codes "fault usage"))
 IsCutInAnswers (Some (Command.Provide most)) holds content left new = WithReading holds left (λ read. IsStopped read most content left new)
-IsCutInAnswers (Some (Command.Run play)) holds content left new = IfSome left (λ bytes. WritesSomeFront (RunBegins play.most bytes) content new)
+IsCutInAnswers (Some (Command.Run play)) holds content left new = IfSome left (λ bytes. WritesSomeFront (RunBegins (options_of play) bytes) content new)
 IsCutInAnswers (Some Command.Check) holds content left new = IfSome left (λ bytes. WritesSomeFront (Begins bytes) content new)
 IsCutInAnswers (Some (Command.Generate load)) holds content left new = WritesFront content new (load_of load.from load.size)
 
@@ -106,7 +106,7 @@ abbrev pub IsCutInDisk : Option Command → (List ℕ → Option (List ℕ)) →
 IsCutInDisk (Some (Command.Provide most)) holds content left new =
     WithReading holds left (λ read. IfSome content (λ c. IfSome left (λ bytes. (t : Network) × (provider : ℕ) × Serves (lines_in bytes) t provider × (k : ℕ)
     × (text : List ℕ) × AnswersThen read most (given_of greatest_input bytes) (take k (disk_fault_line (name_of t provider))) text × (new ≡ Some (c ++ text)))))
-IsCutInDisk (Some (Command.Run play)) holds content left new = IfSome left (λ bytes. WritesSomeFront (Breaks play.most bytes) content new)
+IsCutInDisk (Some (Command.Run play)) holds content left new = IfSome left (λ bytes. WritesSomeFront (Breaks (options_of play) bytes) content new)
 IsCutInDisk _ holds content left new = ⊥
 
 -- Writing was cut short: in the answers, or behind a fault of reading or of the disk, whose counts then rose.

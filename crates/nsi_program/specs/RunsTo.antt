@@ -1,8 +1,10 @@
 -- How the command `run` ends, as the program tells it.
 use Rattle.std.specs.Prelude.{◌≡◌, ℕ, List}
+use Rattle.agent_threads.specs.declared.report.RunOptions.{RunOptions}
 use Rattle.run_command.specs.declared.command.RunEnd.{RunEnd}
 use Rattle.run_command.specs.Runs.{Runs}
 use Rattle.nsi_program.specs.declared.status.Status.{Status}
+use Rattle.nsi_program.specs.declared.words.Play.{Play}
 
 abbrev pub status_of_run : RunEnd → Status
 status_of_run RunEnd.Done = Status.Done
@@ -14,6 +16,10 @@ status_of_run RunEnd.ReadFault = Status.ReadFault
 status_of_run RunEnd.WriteFault = Status.WriteFault
 status_of_run RunEnd.DiskFault = Status.DiskFault
 
+-- how far a run may go, and what is written of it
+abbrev pub options_of : Play → RunOptions
+options_of play = record { limit = play.most; report = play.report }
+
 -- `run` ends on these bytes with this status, and that is all that it writes
-abbrev pub RunsTo : ℕ → List ℕ → Status → List ℕ → Type 0
-RunsTo most bytes status text = (end : RunEnd) × (status ≡ status_of_run end) × Runs most bytes end text
+abbrev pub RunsTo : RunOptions → List ℕ → Status → List ℕ → Type 0
+RunsTo options bytes status text = (end : RunEnd) × (status ≡ status_of_run end) × Runs options bytes end text

@@ -1,8 +1,10 @@
 -- Which command the words name.
-use Rattle.std.specs.Prelude.{ℕ, List, [], ◌∷◌, codes, drop, nat_eq, if◌then◌else◌, Option, Some, None, option_map}
+use Rattle.std.specs.Prelude.{ℕ, List, [], ◌∷◌, Bool, true, false, ◌||◌, codes, drop, nat_eq, if◌then◌else◌, Option, Some, None, option_map, option_and_then}
 use Rattle.std.specs.List.{starts_with}
 use Rattle.std.specs.Str.{bytes_eq}
 use Rattle.nsi_base.specs.Digits.{number_of}
+use Rattle.agent_threads.specs.declared.report.Report.{Report}
+use Rattle.nsi_program.specs.declared.words.Asked.{Asked}
 use Rattle.nsi_program.specs.declared.words.Choice.{Choice}
 use Rattle.nsi_program.specs.declared.words.Command.{Command}
 use Rattle.nsi_program.specs.declared.words.Load.{Load}
@@ -51,12 +53,17 @@ most_workers = 64
 abbrev pub workers_in : List ℕ → Option ℕ
 workers_in word = number_of 1 most_workers word
 
--- `--events=N`, `--workers=W`
+-- an option in one word: `--events=N`, `--workers=W`, `--summary`
 abbrev pub joined_option : List ℕ → Option RunOption
 joined_option word =
     if starts_with nat_eq word (codes "--events=") then option_map RunOption.Events (events_in (drop 9 word))
     else if starts_with nat_eq word (codes "--workers=") then option_map RunOption.Workers (workers_in (drop 10 word))
+    else if bytes_eq word (codes "--summary") then Some RunOption.Summary
     else None
+
+-- the value stands in the next word
+abbrev pub is_parted : List ℕ → Bool
+is_parted word = bytes_eq word (codes "--events") || bytes_eq word (codes "--workers")
 
 -- `--events N`, `--workers W`
 abbrev pub parted_option : List ℕ → List ℕ → Option RunOption
@@ -65,35 +72,60 @@ parted_option option word =
     else if bytes_eq option (codes "--workers") then option_map RunOption.Workers (workers_in word)
     else None
 
--- one option: the other one stands as where neither is given
-abbrev pub one_option : Option RunOption → Option Play
-one_option (Some (RunOption.Events most)) = Some (record { most = most; workers = 1 })
-one_option (Some (RunOption.Workers workers)) = Some (record { most = most_events; workers = workers })
-one_option None = None
+-- nothing is asked for yet: what stands where no option is given
+abbrev pub no_options : Asked
+no_options = record { play = record { most = most_events; workers = 1; report = Report.Trace }; has_events = false; has_workers = false; has_summary = false }
 
--- one of each, in either order
-abbrev pub both_options : Option RunOption → Option RunOption → Option Play
-both_options (Some (RunOption.Events most)) (Some (RunOption.Workers workers)) = Some (record { most = most; workers = workers })
-both_options (Some (RunOption.Workers workers)) (Some (RunOption.Events most)) = Some (record { most = most; workers = workers })
-both_options _ _ = None
+abbrev pub with_events : Asked → ℕ → Asked
+with_events asked most = record asked { play = record asked.play { most = most }; has_events = true }
+
+abbrev pub with_workers : Asked → ℕ → Asked
+with_workers asked workers = record asked { play = record asked.play { workers = workers }; has_workers = true }
+
+abbrev pub with_summary : Asked → Asked
+with_summary asked = record asked { play = record asked.play { report = Report.Summary }; has_summary = true }
+
+-- an option more, which may be given once
+abbrev pub and_option : Asked → Option RunOption → Option Asked
+and_option asked (Some (RunOption.Events most)) = if asked.has_events then None else Some (with_events asked most)
+and_option asked (Some (RunOption.Workers workers)) = if asked.has_workers then None else Some (with_workers asked workers)
+and_option asked (Some RunOption.Summary) = if asked.has_summary then None else Some (with_summary asked)
+and_option asked None = None
+
+abbrev pub and_parted : Asked → List ℕ → List (List ℕ) → Option Asked
+and_parted asked word [] = None
+and_parted asked word (value ∷ words) = and_option asked (parted_option word value)
+
+-- the option that stands first
+abbrev pub and_first : Asked → List (List ℕ) → Option Asked
+and_first asked [] = None
+and_first asked (word ∷ words) = if is_parted word then and_parted asked word words else and_option asked (joined_option word)
+
+-- the words behind it
+abbrev pub behind_first : List (List ℕ) → List (List ℕ)
+behind_first [] = []
+behind_first (word ∷ words) = if is_parted word then drop 1 words else words
+
+-- the options that words are, one after another, behind those that were given
+unfoldable pub options_from : Asked → List (List ℕ) → Option Asked
+options_from asked [] = Some asked
+options_from asked (word ∷ []) = and_first asked (word ∷ [])
+options_from asked (word ∷ next ∷ words) =
+    if is_parted word then option_and_then (λ a. options_from a words) (and_first asked (word ∷ next ∷ words))
+    else option_and_then (λ a. options_from a (next ∷ words)) (and_first asked (word ∷ next ∷ words))
+
+-- what the words behind `run` ask for
+abbrev pub run_asked : List (List ℕ) → Option Play
+run_asked words = option_map (λ (asked : Asked). asked.play) (options_from no_options words)
+
+abbrev pub run_with : Option Play → Option Command
+run_with None = None
+run_with (Some play) = Some (Command.Run play)
 
 -- the first that there is
 abbrev pub or_else : {T : Type 0} → Option T → Option T → Option T
 or_else (Some x) other = Some x
 or_else None other = other
-
--- what the words behind `run` ask for
-abbrev pub run_asked : List (List ℕ) → Option Play
-run_asked [] = Some (record { most = most_events; workers = 1 })
-run_asked (a ∷ []) = one_option (joined_option a)
-run_asked (a ∷ b ∷ []) = or_else (one_option (parted_option a b)) (both_options (joined_option a) (joined_option b))
-run_asked (a ∷ b ∷ c ∷ []) = or_else (both_options (parted_option a b) (joined_option c)) (both_options (joined_option a) (parted_option b c))
-run_asked (a ∷ b ∷ c ∷ d ∷ []) = both_options (parted_option a b) (parted_option c d)
-run_asked _ = None
-
-abbrev pub run_with : Option Play → Option Command
-run_with None = None
-run_with (Some play) = Some (Command.Run play)
 
 ---- The options of `generate`
 

@@ -6,11 +6,12 @@ ghost use Rattle.run_command.specs.Runs.{KeepsRun, Breaks as BreaksRun};
 ghost use Rattle.nsi_disk.specs.ShelfCounts.{Raised};
 ghost use Rattle.nsi_program.specs.Ends.{counted, HasDiskFault};
 ghost use Rattle.nsi_program.specs.Promise.{is_told, read_fault_line, Writes};
-ghost use Rattle.nsi_program.specs.RunsTo.{RunsTo, status_of_run};
+ghost use Rattle.nsi_program.specs.RunsTo.{RunsTo, options_of, status_of_run};
 ghost use Rattle.nsi_program.specs.Writes.{WritesSome};
 
 use crate::status::Status;
-use crate::words::{EventLimit, Workers};
+use crate::words::Play;
+use agent_threads::{Resources, RunOptions};
 use nsi_disk::Shelf;
 use nsi_outside::{Sink, Source};
 use run_command::RunEnd;
@@ -38,10 +39,9 @@ fn status_of(end: RunEnd) -> Status
 
 /// The command `run`.
 pub(crate) fn run<R: Threads + Sync, S: Source, K: Sink, H: Shelf>(
-    rt: &R,
+    threads: &R,
     alloc: Global,
-    most: EventLimit,
-    workers: Workers,
+    play: Play,
     input: &mut S,
     out: &mut K,
     shelf: &mut H,
@@ -49,7 +49,8 @@ pub(crate) fn run<R: Threads + Sync, S: Source, K: Sink, H: Shelf>(
 where
     H::Disk: Drop + Send,
     ensures ends { is_told result ≡ true → IfSome (S.left input.old)
-        (λ bytes. WritesSome (RunsTo most bytes result) (K.content out.old) (K.content out.new)) }
+        (λ bytes. WritesSome (RunsTo (options_of play) bytes result)
+        (K.content out.old) (K.content out.new)) }
     ensures not_usage { result ≡ Status.Usage → ⊥ }
     ensures read_fault { result ≡ Status.ReadFault → S.faults input.old < S.faults input.new }
     ensures alone { result ≡ Status.ReadFault →
@@ -60,9 +61,10 @@ where
         (counted (S.faults input.old) (H.faults shelf.old) (H.stops shelf.old))
         (counted (S.faults input.new) (H.faults shelf.new) (H.stops shelf.new)) }
     ensures broken { result ≡ Status.DiskFault → IfSome (S.left input.old)
-        (λ bytes. WritesSome (BreaksRun most bytes) (K.content out.old) (K.content out.new)) }
+        (λ bytes. WritesSome (BreaksRun (options_of play) bytes)
+        (K.content out.old) (K.content out.new)) }
     ensures unfinished { (result ≡ Status.WriteFault) ⊎ (result ≡ Status.NoMemory) →
-        IsRunCutShort most (K.content out.old) (S.left input.old)
+        IsRunCutShort (options_of play) (K.content out.old) (S.left input.old)
         (counted (S.faults input.old) (H.faults shelf.old) (H.stops shelf.old))
         (counted (S.faults input.new) (H.faults shelf.new) (H.stops shelf.new))
         (K.content out.new) }
@@ -76,7 +78,15 @@ where
     ensures journals { result ≡ Status.Done → IfSome (S.left input.old)
         (λ bytes. KeepsRun bytes (H.holds shelf.old) (H.holds shelf.new)) }
 {
-    let limit = most.get();
-    let end = run_command::run(rt, workers.get(), alloc, limit, input, out, shelf);
+    let resources = Resources {
+        alloc,
+        threads,
+        workers: play.workers.get(),
+    };
+    let options = RunOptions {
+        limit: play.most.get(),
+        report: play.report,
+    };
+    let end = run_command::run(&resources, options, input, out, shelf);
     status_of(end)
 }

@@ -113,7 +113,7 @@ where
     };
     match &command {
         Command::Provide(most) => provide(alloc, *most, input, out, shelf),
-        Command::Run(play) => run(rt, alloc, play.most, play.workers, input, out, shelf),
+        Command::Run(play) => run(rt, alloc, *play, input, out, shelf),
         Command::Check => check(alloc, input, out),
         Command::Generate(load) => generate(alloc, *load, out),
     }

@@ -1,11 +1,12 @@
 //! The words that the program is run with.
 
-ghost use Rattle.std.specs.Prelude.{◌≡◌, ◌≤◌, map, string_bytes};
+ghost use Rattle.std.specs.Prelude.{◌≡◌, ◌≤◌, ◌<◌, length, map, string_bytes};
 ghost use Rattle.nsi_base.specs.Range.{within};
 ghost use Rattle.nsi_program.specs.Words.{command_of, allowed, joined, parted, events_in, workers_in, most_events};
-ghost use Rattle.nsi_program.specs.Words.{run_asked, one_option, both_options, joined_option, parted_option};
+ghost use Rattle.nsi_program.specs.Words.{run_asked, no_options, with_events, with_workers, with_summary, and_option, and_first, behind_first, is_parted, joined_option, parted_option};
 ghost use Rattle.nsi_program.specs.Words.{load_asked, joined_choice, parted_choice, both, from_in, size_in, most_reserves, greatest_number};
 
+use agent_threads::Report;
 use nsi_base::digits::number_of;
 use std::marker::Model;
 
@@ -109,11 +110,12 @@ pub struct Load {
     pub size: u32,
 }
 
-/// How a script is to be played: in how many events at most, and each round by how many workers at most.
+/// How a script is to be played: in how many events at most, each round by how many workers at most, and what is written of it.
 #[derive(Clone, Copy, Debug, PartialEq, Eq)]
 pub struct Play {
     pub most: EventLimit,
     pub workers: Workers,
+    pub report: Report,
 }
 
 /// One option of `run`.
@@ -121,6 +123,7 @@ pub struct Play {
 enum RunOption {
     Events(EventLimit),
     Workers(Workers),
+    Summary,
 }
 
 /// One option of `generate`.
@@ -206,68 +209,126 @@ fn events_in(word: &[u8]) -> Option<EventLimit>
     }
 }
 
-/// What the words behind `run` ask for: none, one or both of its options, in either order.
-fn run_asked(options: &[String]) -> Option<Play>
-    ensures { result ≡ run_asked (map string_bytes options.now) }
-{
-    match options.len() {
-        0 => Some(Play {
-            most: EventLimit::greatest(),
-            workers: Workers::one(),
-        }),
-        1 => one_option(joined_option(options[0].as_str())),
-        2 => match one_option(parted_option(options[0].as_str(), options[1].as_str())) {
-            Some(play) => Some(play),
-            None => both_options(
-                joined_option(options[0].as_str()),
-                joined_option(options[1].as_str()),
-            ),
-        },
-        3 => match both_options(
-            parted_option(options[0].as_str(), options[1].as_str()),
-            joined_option(options[2].as_str()),
-        ) {
-            Some(play) => Some(play),
-            None => both_options(
-                joined_option(options[0].as_str()),
-                parted_option(options[1].as_str(), options[2].as_str()),
-            ),
-        },
-        4 => both_options(
-            parted_option(options[0].as_str(), options[1].as_str()),
-            parted_option(options[2].as_str(), options[3].as_str()),
-        ),
-        _ => None,
+/// What the options of `run` that were given ask for.
+#[derive(Clone, Copy, Debug, PartialEq, Eq)]
+struct Asked {
+    play: Play,
+    has_events: bool,
+    has_workers: bool,
+    has_summary: bool,
+}
+
+impl Asked {
+    fn nothing() -> Self
+        ensures { result ≡ no_options }
+    {
+        Asked {
+            play: Play {
+                most: EventLimit::greatest(),
+                workers: Workers::one(),
+                report: Report::Trace,
+            },
+            has_events: false,
+            has_workers: false,
+            has_summary: false,
+        }
+    }
+
+    fn with_events(&self, most: EventLimit) -> Asked
+        ensures { result ≡ with_events self.now most }
+    {
+        Asked {
+            play: Play { most, ..self.play },
+            has_events: true,
+            ..*self
+        }
+    }
+
+    fn with_workers(&self, workers: Workers) -> Asked
+        ensures { result ≡ with_workers self.now workers }
+    {
+        Asked {
+            play: Play {
+                workers,
+                ..self.play
+            },
+            has_workers: true,
+            ..*self
+        }
+    }
+
+    fn with_summary(&self) -> Asked
+        ensures { result ≡ with_summary self.now }
+    {
+        Asked {
+            play: Play {
+                report: Report::Summary,
+                ..self.play
+            },
+            has_summary: true,
+            ..*self
+        }
+    }
+
+    /// An option more, which may be given once.
+    fn and(&self, option: Option<RunOption>) -> Option<Asked>
+        ensures { result ≡ and_option self.now option }
+    {
+        let option = option?;
+        match &option {
+            RunOption::Events(most) if !self.has_events => Some(self.with_events(*most)),
+            RunOption::Workers(workers) if !self.has_workers => Some(self.with_workers(*workers)),
+            RunOption::Summary if !self.has_summary => Some(self.with_summary()),
+            _ => None,
+        }
+    }
+
+    /// The option that stands first.
+    fn and_first(&self, words: &[String]) -> Option<Asked>
+        ensures { result ≡ and_first self.now (map string_bytes words.now) }
+    {
+        let (word, rest) = words.split_first()?;
+        if is_parted(word.as_str()) {
+            let value = rest.first()?;
+            self.and(parted_option(word.as_str(), value.as_str()))
+        } else {
+            self.and(joined_option(word.as_str()))
+        }
     }
 }
 
-fn one_option(option: Option<RunOption>) -> Option<Play>
-    ensures { result ≡ one_option option }
+/// What the words behind `run` ask for: each of its options at most once, in any order.
+fn run_asked(words: &[String]) -> Option<Play>
+    ensures { result ≡ run_asked (map string_bytes words.now) }
 {
-    match option? {
-        RunOption::Events(most) => Some(Play {
-            most,
-            workers: Workers::one(),
-        }),
-        RunOption::Workers(workers) => Some(Play {
-            most: EventLimit::greatest(),
-            workers,
-        }),
+    let mut asked = Asked::nothing();
+    let mut rest = words;
+    while !rest.is_empty() {
+        asked = asked.and_first(rest)?;
+        rest = behind_first(rest);
+    }
+    Some(asked.play)
+}
+
+/// The words behind the option that stands first.
+fn behind_first(words: &[String]) -> &[String]
+    ensures words { map string_bytes result.now ≡ behind_first (map string_bytes words.now) }
+    ensures less { 0 < length words.now → length result.now < length words.now }
+{
+    let Some((word, rest)) = words.split_first() else {
+        return words;
+    };
+    if is_parted(word.as_str()) {
+        rest.get(1..).unwrap_or(rest)
+    } else {
+        rest
     }
 }
 
-fn both_options(first: Option<RunOption>, second: Option<RunOption>) -> Option<Play>
-    ensures { result ≡ both_options first second }
+fn is_parted(word: &str) -> bool
+    ensures { result ≡ is_parted word.now }
 {
-    let (first, second) = (first?, second?);
-    match (&first, &second) {
-        (RunOption::Events(most), RunOption::Workers(workers))
-        | (RunOption::Workers(workers), RunOption::Events(most)) => Some(Play {
-            most: *most,
-            workers: *workers,
-        }),
-        _ => None,
-    }
+    word == "--events" || word == "--workers"
 }
 
 fn joined_option(word: &str) -> Option<RunOption>
@@ -279,6 +340,8 @@ fn joined_option(word: &str) -> Option<RunOption>
     } else if word.as_bytes().starts_with(b"--workers=") {
         let workers = workers_in(&word.as_bytes()[10..])?;
         Some(RunOption::Workers(workers))
+    } else if word == "--summary" {
+        Some(RunOption::Summary)
     } else {
         None
     }

@@ -1,5 +1,5 @@
 -- What a run makes of an input.
-use Rattle.std.proofs.Common.{◌≡◌, ◌≤◌, ◌<◌, ◌+◌, inl, inr, ℕ, List, [], length, leb, Bool, true, false, Option, Some, None, Result, Ok, Err, refl, sym, ap, ◌∙◌, subst, arith}
+use Rattle.std.proofs.Common.{◌≡◌, ◌≤◌, ◌<◌, ◌+◌, inl, inr, ℕ, List, [], ◌++◌, length, leb, Bool, true, false, Option, Some, None, Result, Ok, Err, refl, sym, ap, ◌∙◌, subst, arith}
 use Rattle.std.specs.Prelude.{IfSome}
 use Rattle.nsi_base.specs.Lines.{lines_of}
 use Rattle.nsi_base.specs.Range.{greatest_input}
@@ -15,6 +15,9 @@ use Rattle.nsi_script.specs.Text.{script_of}
 use Rattle.nsi_play.specs.Openings.{opening}
 use Rattle.nsi_play.specs.Play.{plays}
 use Rattle.fault_lines.specs.Lines.{topology_fault, script_fault, long_line}
+use Rattle.agent_threads.specs.Reports.{written}
+use Rattle.agent_threads.specs.declared.report.Report.{Report}
+use Rattle.agent_threads.specs.declared.report.RunOptions.{RunOptions}
 use Rattle.run_command.specs.declared.command.RunEnd.{RunEnd}
 use Rattle.run_command.specs.declared.reading.Declared.{Declared}
 use Rattle.run_command.specs.Reading.{IsDeclared}
@@ -31,22 +34,22 @@ passes : (n most : ℕ) → most < n → leb n most ≡ false
 passes n most h = grind arith
 
 -- a text that is within the size is read
-runs_within : (limit : ℕ) (bytes : List ℕ) (end : RunEnd) (text : List ℕ) → length bytes ≤ greatest_input → RunsRead limit bytes (read_lines nothing 0 (lines_of bytes)) end text → Runs limit bytes end text
-runs_within limit bytes end text few r = let P : Bool → Type 0 = λ b. RunsIf b limit bytes end text in subst P (sym (fits (length bytes) greatest_input few)) r
+runs_within : (options : RunOptions) (bytes : List ℕ) (end : RunEnd) (text : List ℕ) → length bytes ≤ greatest_input → RunsRead options bytes (read_lines nothing 0 (lines_of bytes)) end text → Runs options bytes end text
+runs_within options bytes end text few r = let P : Bool → Type 0 = λ b. RunsIf b options bytes end text in subst P (sym (fits (length bytes) greatest_input few)) r
 
-module _ (limit : ℕ) (bytes : List ℕ) (few : length bytes ≤ greatest_input) where
+module _ (options : RunOptions) (bytes : List ℕ) (few : length bytes ≤ greatest_input) where
   ---- The topology
 
-  bad_topology : (n : ℕ) (fault : TopologyFault) → read_lines nothing 0 (lines_of bytes) ≡ Err (n, fault) → Runs limit bytes RunEnd.BadTopology (topology_fault n fault)
+  bad_topology : (n : ℕ) (fault : TopologyFault) → read_lines nothing 0 (lines_of bytes) ≡ Err (n, fault) → Runs options bytes RunEnd.BadTopology (topology_fault n fault)
   bad_topology n fault e =
-      let P : Result (Network × ℕ) (ℕ × TopologyFault) → Type 0 = λ r. RunsRead limit bytes r RunEnd.BadTopology (topology_fault n fault) in
-      runs_within limit bytes RunEnd.BadTopology (topology_fault n fault) few (subst P (sym e) (refl, refl))
+      let P : Result (Network × ℕ) (ℕ × TopologyFault) → Type 0 = λ r. RunsRead options bytes r RunEnd.BadTopology (topology_fault n fault) in
+      runs_within options bytes RunEnd.BadTopology (topology_fault n fault) few (subst P (sym e) (refl, refl))
 
   module _ (d : Declared) (is : IsDeclared bytes d) where
-    runs_behind : (end : RunEnd) (text : List ℕ) → RunsScript limit d.topology (script_behind bytes (d.topology, d.lines)) end text → Runs limit bytes end text
+    runs_behind : (end : RunEnd) (text : List ℕ) → RunsScript options d.topology (script_behind bytes (d.topology, d.lines)) end text → Runs options bytes end text
     runs_behind end text r =
-        let P : Result (Network × ℕ) (ℕ × TopologyFault) → Type 0 = λ x. RunsRead limit bytes x end text in
-        runs_within limit bytes end text few (subst P (sym is.read) r)
+        let P : Result (Network × ℕ) (ℕ × TopologyFault) → Type 0 = λ x. RunsRead options bytes x end text in
+        runs_within options bytes end text few (subst P (sym is.read) r)
 
     -- the script of the text behind the topology is the script of the input
     script_is : (read : Result Script (ℕ × ScriptFault)) → script_of d.topology (d.lines + 1) d.behind.now ≡ read → script_behind bytes (d.topology, d.lines) ≡ read
@@ -54,9 +57,9 @@ module _ (limit : ℕ) (bytes : List ℕ) (few : length bytes ≤ greatest_input
 
     ---- A faulty script
 
-    bad_script : (n : ℕ) (fault : ScriptFault) → script_of d.topology (d.lines + 1) d.behind.now ≡ Err (n, fault) → Runs limit bytes RunEnd.BadScript (script_fault n fault)
+    bad_script : (n : ℕ) (fault : ScriptFault) → script_of d.topology (d.lines + 1) d.behind.now ≡ Err (n, fault) → Runs options bytes RunEnd.BadScript (script_fault n fault)
     bad_script n fault e =
-        let P : Result Script (ℕ × ScriptFault) → Type 0 = λ r. RunsScript limit d.topology r RunEnd.BadScript (script_fault n fault) in
+        let P : Result Script (ℕ × ScriptFault) → Type 0 = λ r. RunsScript options d.topology r RunEnd.BadScript (script_fault n fault) in
         runs_behind RunEnd.BadScript (script_fault n fault) (subst P (sym (script_is (Err (n, fault)) e)) (refl, refl))
 
     ---- A script that is played
@@ -65,95 +68,100 @@ module _ (limit : ℕ) (bytes : List ℕ) (few : length bytes ≤ greatest_input
       pub are_read : AreRead bytes d.topology script.groups
       are_read = record { lines = d.lines; whole = script; topology = is.read; behind = script_is (Ok script) e; groups = refl }
 
-      plays_runs : (end : RunEnd) (text : List ℕ) → Plays limit d.topology script.groups end text → Runs limit bytes end text
+      plays_runs : (end : RunEnd) (text : List ℕ) → Plays options d.topology script.groups end text → Runs options bytes end text
       plays_runs end text p =
-          let P : Result Script (ℕ × ScriptFault) → Type 0 = λ r. RunsScript limit d.topology r end text in
+          let P : Result Script (ℕ × ScriptFault) → Type 0 = λ r. RunsScript options d.topology r end text in
           runs_behind end text (subst P (sym (script_is (Ok script) e)) p)
 
-      starts_begins : (text : List ℕ) → BeginsPlay limit d.topology script.groups text → Begins limit bytes text
+      starts_begins : (text : List ℕ) → BeginsPlay options d.topology script.groups text → Begins options bytes text
       starts_begins text (inl p) = inl (p.0, plays_runs p.0 text p.1)
       starts_begins text (inr p) = inr (d.topology, script.groups, are_read, p)
 
-      breaks_breaks : (text : List ℕ) → BreaksPlay limit d.topology script.groups text → Breaks limit bytes text
+      breaks_breaks : (text : List ℕ) → BreaksPlay options d.topology script.groups text → Breaks options bytes text
       breaks_breaks text p = (d.topology, script.groups, are_read, p)
 
-      pub played_read : (old new : Option (List ℕ)) (before after : Counts) (b a : ℕ) (end : RunEnd) → HasPlayed limit d.topology script.groups old new before after b a end → HasRead limit bytes old new before after b a end
+      pub played_read : (old new : Option (List ℕ)) (before after : Counts) (b a : ℕ) (end : RunEnd) → HasPlayed options d.topology script.groups old new before after b a end → HasRead options bytes old new before after b a end
       played_read old new before after b a end k =
-          run_along (Plays limit d.topology script.groups) (Runs limit bytes) (BeginsPlay limit d.topology script.groups) (Begins limit bytes) (BreaksPlay limit d.topology script.groups) (Breaks limit bytes)
+          run_along (Plays options d.topology script.groups) (Runs options bytes) (BeginsPlay options d.topology script.groups) (Begins options bytes) (BreaksPlay options d.topology script.groups) (Breaks options bytes)
           old new before after b a end plays_runs starts_begins breaks_breaks k
 
     pub bad_script_read : (old new : Option (List ℕ)) (counts : Counts) (b a : ℕ) (end : RunEnd) (n : ℕ) (fault : ScriptFault) → script_of d.topology (d.lines + 1) d.behind.now ≡ Err (n, fault)
-        → Closes (script_fault n fault) RunEnd.BadScript end old new b a → HasRead limit bytes old new counts counts b a end
+        → Closes (script_fault n fault) RunEnd.BadScript end old new b a → HasRead options bytes old new counts counts b a end
     bad_script_read old new counts b a end n fault e k =
         let is = bad_script n fault e in
-        told_run (Runs limit bytes) (Begins limit bytes) (Breaks limit bytes) old old new counts counts b a [] (script_fault n fault) end (none_all old) RunEnd.BadScript k refl is (inl (RunEnd.BadScript, is)) (λ _. still counts)
+        told_run (Runs options bytes) (Begins options bytes) (Breaks options bytes) old old new counts counts b a [] (script_fault n fault) end (none_all old) RunEnd.BadScript k refl is (inl (RunEnd.BadScript, is)) (λ _. still counts)
       where
         still : (counts : Counts) → IsQuiet counts counts
         still counts = (inl (omega arith), inl (omega arith))
 
   pub bad_topology_read : (old new : Option (List ℕ)) (counts : Counts) (b a : ℕ) (end : RunEnd) (n : ℕ) (fault : TopologyFault) → read_lines nothing 0 (lines_of bytes) ≡ Err (n, fault)
-      → Closes (topology_fault n fault) RunEnd.BadTopology end old new b a → HasRead limit bytes old new counts counts b a end
+      → Closes (topology_fault n fault) RunEnd.BadTopology end old new b a → HasRead options bytes old new counts counts b a end
   bad_topology_read old new counts b a end n fault e k =
       let is = bad_topology n fault e in
-      told_run (Runs limit bytes) (Begins limit bytes) (Breaks limit bytes) old old new counts counts b a [] (topology_fault n fault) end (none_all old) RunEnd.BadTopology k refl is (inl (RunEnd.BadTopology, is)) (λ _. still counts)
+      told_run (Runs options bytes) (Begins options bytes) (Breaks options bytes) old old new counts counts b a [] (topology_fault n fault) end (none_all old) RunEnd.BadTopology k refl is (inl (RunEnd.BadTopology, is)) (λ _. still counts)
     where
       still : (counts : Counts) → IsQuiet counts counts
       still counts = (inl (omega arith), inl (omega arith))
 
 ---- Want of memory
 
+-- nothing is written of no events
+none_written : (r : Report) (t : Network) → [] ≡ written r t [] ++ no_text t
+none_written Report.Trace t = refl
+none_written Report.Summary t = refl
+
 -- nothing is played yet
-nothing_starts : NothingRuns → (limit : ℕ) (t : Network) (script : List Group) → StartsPlay limit t script no_text []
+nothing_starts : NothingRuns → (options : RunOptions) (t : Network) (script : List Group) → StartsPlay options t script no_text []
 unfolding plays
-nothing_starts none limit t script =
-    record { groups = 0; events = []; first = record { last = opening t; play = λ routes r. (0, refl); run = λ routes r. none t routes; within = omega arith }; spelled = refl }
+nothing_starts none options t script =
+    record { groups = 0; events = []; first = record { last = opening t; play = λ routes r. (0, refl); run = λ routes r. none t routes; within = omega arith }; spelled = none_written options.report t }
 
 -- every input begins with some text
-pub some_begins : NothingRuns → (limit : ℕ) (bytes : List ℕ) → (text : List ℕ) × Begins limit bytes text
-some_begins none limit bytes = by_size (leb (length bytes) greatest_input) refl
+pub some_begins : NothingRuns → (options : RunOptions) (bytes : List ℕ) → (text : List ℕ) × Begins options bytes text
+some_begins none options bytes = by_size (leb (length bytes) greatest_input) refl
   where
-    by_size : (b : Bool) → leb (length bytes) greatest_input ≡ b → (text : List ℕ) × Begins limit bytes text
+    by_size : (b : Bool) → leb (length bytes) greatest_input ≡ b → (text : List ℕ) × Begins options bytes text
     by_size true e = by_topology (read_lines nothing 0 (lines_of bytes)) refl
       where
-        within : (end : RunEnd) (text : List ℕ) → RunsRead limit bytes (read_lines nothing 0 (lines_of bytes)) end text → Runs limit bytes end text
-        within end text r = let P : Bool → Type 0 = λ b. RunsIf b limit bytes end text in subst P (sym e) r
+        within : (end : RunEnd) (text : List ℕ) → RunsRead options bytes (read_lines nothing 0 (lines_of bytes)) end text → Runs options bytes end text
+        within end text r = let P : Bool → Type 0 = λ b. RunsIf b options bytes end text in subst P (sym e) r
 
-        by_topology : (read : Result (Network × ℕ) (ℕ × TopologyFault)) → read_lines nothing 0 (lines_of bytes) ≡ read → (text : List ℕ) × Begins limit bytes text
+        by_topology : (read : Result (Network × ℕ) (ℕ × TopologyFault)) → read_lines nothing 0 (lines_of bytes) ≡ read → (text : List ℕ) × Begins options bytes text
         by_topology (Err x) h =
-            let P : Result (Network × ℕ) (ℕ × TopologyFault) → Type 0 = λ r. RunsRead limit bytes r RunEnd.BadTopology (topology_fault x.0 x.1) in
+            let P : Result (Network × ℕ) (ℕ × TopologyFault) → Type 0 = λ r. RunsRead options bytes r RunEnd.BadTopology (topology_fault x.0 x.1) in
             (topology_fault x.0 x.1, inl (RunEnd.BadTopology, within RunEnd.BadTopology (topology_fault x.0 x.1) (subst P (sym h) (refl, refl))))
         by_topology (Ok (t, n)) h = by_script (script_behind bytes (t, n)) refl
           where
-            by_script : (read : Result Script (ℕ × ScriptFault)) → script_behind bytes (t, n) ≡ read → (text : List ℕ) × Begins limit bytes text
+            by_script : (read : Result Script (ℕ × ScriptFault)) → script_behind bytes (t, n) ≡ read → (text : List ℕ) × Begins options bytes text
             by_script (Err x) s =
-                let P : Result (Network × ℕ) (ℕ × TopologyFault) → Type 0 = λ r. RunsRead limit bytes r RunEnd.BadScript (script_fault x.0 x.1) in
-                let Q : Result Script (ℕ × ScriptFault) → Type 0 = λ r. RunsScript limit t r RunEnd.BadScript (script_fault x.0 x.1) in
+                let P : Result (Network × ℕ) (ℕ × TopologyFault) → Type 0 = λ r. RunsRead options bytes r RunEnd.BadScript (script_fault x.0 x.1) in
+                let Q : Result Script (ℕ × ScriptFault) → Type 0 = λ r. RunsScript options t r RunEnd.BadScript (script_fault x.0 x.1) in
                 (script_fault x.0 x.1, inl (RunEnd.BadScript, within RunEnd.BadScript (script_fault x.0 x.1) (subst P (sym h) (subst Q (sym s) (refl, refl)))))
             by_script (Ok script) s =
-                ([], inr (t, script.groups, record { lines = n; whole = script; topology = h; behind = s; groups = refl }, nothing_starts none limit t script.groups))
-    by_size false e = let P : Bool → Type 0 = λ b. RunsIf b limit bytes RunEnd.Long long_line in (long_line, inl (RunEnd.Long, subst P (sym e) (refl, refl)))
+                ([], inr (t, script.groups, record { lines = n; whole = script; topology = h; behind = s; groups = refl }, nothing_starts none options t script.groups))
+    by_size false e = let P : Bool → Type 0 = λ b. RunsIf b options bytes RunEnd.Long long_line in (long_line, inl (RunEnd.Long, subst P (sym e) (refl, refl)))
 
 -- nothing was written, for want of memory
-pub nothing_begun : NothingRuns → (limit : ℕ) (left old : Option (List ℕ)) → IfSome left (λ bytes. WritesSomeFront (Begins limit bytes) old old)
-nothing_begun none limit None old = tt
-nothing_begun none limit (Some bytes) old = let b = some_begins none limit bytes in some_front (Begins limit bytes) old old b.0 b.1 (nothing_front old b.0)
+pub nothing_begun : NothingRuns → (options : RunOptions) (left old : Option (List ℕ)) → IfSome left (λ bytes. WritesSomeFront (Begins options bytes) old old)
+nothing_begun none options None old = tt
+nothing_begun none options (Some bytes) old = let b = some_begins none options bytes in some_front (Begins options bytes) old old b.0 b.1 (nothing_front old b.0)
 
 -- an input that is too long
-pub long_begun : (limit : ℕ) (left old new : Option (List ℕ)) → IfSome left (λ bytes. greatest_input < length bytes) → WritesFront old new long_line → IfSome left (λ bytes. WritesSomeFront (Begins limit bytes) old new)
-long_begun limit None old new l w = tt
-long_begun limit (Some bytes) old new l w =
-    let P : Bool → Type 0 = λ b. RunsIf b limit bytes RunEnd.Long long_line in
-    some_front (Begins limit bytes) old new long_line (inl (RunEnd.Long, subst P (sym (passes (length bytes) greatest_input l)) (refl, refl))) w
+pub long_begun : (options : RunOptions) (left old new : Option (List ℕ)) → IfSome left (λ bytes. greatest_input < length bytes) → WritesFront old new long_line → IfSome left (λ bytes. WritesSomeFront (Begins options bytes) old new)
+long_begun options None old new l w = tt
+long_begun options (Some bytes) old new l w =
+    let P : Bool → Type 0 = λ b. RunsIf b options bytes RunEnd.Long long_line in
+    some_front (Begins options bytes) old new long_line (inl (RunEnd.Long, subst P (sym (passes (length bytes) greatest_input l)) (refl, refl))) w
 
 -- nothing was written of an input that was read
-pub wanting_read : NothingRuns → (limit : ℕ) (bytes : List ℕ) (old : Option (List ℕ)) (counts : Counts) (faults : ℕ) → HasRead limit bytes old old counts counts faults faults RunEnd.NoMemory
-wanting_read none limit bytes old counts faults =
-    let b = some_begins none limit bytes in
+pub wanting_read : NothingRuns → (options : RunOptions) (bytes : List ℕ) (old : Option (List ℕ)) (counts : Counts) (faults : ℕ) → HasRead options bytes old old counts counts faults faults RunEnd.NoMemory
+wanting_read none options bytes old counts faults =
+    let b = some_begins none options bytes in
     record {
       ends = λ t. cc;
       broken = λ e. cc;
       disk = λ e. cc;
-      unfinished = λ _. inl (some_front (Begins limit bytes) old old b.0 b.1 (nothing_front old b.0));
+      unfinished = λ _. inl (some_front (Begins options bytes) old old b.0 b.1 (nothing_front old b.0));
       write = λ e. cc;
       quiet = λ _. refl;
       quiet_disk = λ t n. cc;

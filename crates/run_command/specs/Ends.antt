@@ -7,6 +7,7 @@ use Rattle.stp_topology.specs.Network.{name_of}
 use Rattle.nsi_script.specs.declared.script.Group.{Group}
 use Rattle.fault_lines.specs.Lines.{disk_fault_line, long_line, read_fault_line}
 use Rattle.agent_threads.specs.declared.fault.RunFault.{RunFault}
+use Rattle.agent_threads.specs.declared.report.RunOptions.{RunOptions}
 use Rattle.run_command.specs.declared.command.RunEnd.{RunEnd}
 use Rattle.run_command.specs.Runs.{Plays, BeginsPlay, BreaksPlay, Runs, Begins, Breaks}
 
@@ -48,10 +49,10 @@ HasDiskFault before after = HasRisen before.faults after.faults ⊎ HasRisen bef
 ---- Runs that were cut short
 
 -- Writing was cut short: in the run, or behind a fault of reading or of a disk, whose counts then rose.
-abbrev pub IsCutShort : ℕ → (content left : Option (List ℕ)) → (before after : Counts) → Option (List ℕ) → Type 0
-IsCutShort limit content left before after new =
-    ((after.reads ≡ before.reads) × IfSome left (λ bytes. WritesSomeFront (Begins limit bytes) content new)) ⊎ ((before.reads < after.reads) × WritesFront content new read_fault_line)
-    ⊎ (HasDiskFault before after × IfSome left (λ bytes. WritesSomeFront (Breaks limit bytes) content new))
+abbrev pub IsCutShort : RunOptions → (content left : Option (List ℕ)) → (before after : Counts) → Option (List ℕ) → Type 0
+IsCutShort options content left before after new =
+    ((after.reads ≡ before.reads) × IfSome left (λ bytes. WritesSomeFront (Begins options bytes) content new)) ⊎ ((before.reads < after.reads) × WritesFront content new read_fault_line)
+    ⊎ (HasDiskFault before after × IfSome left (λ bytes. WritesSomeFront (Breaks options bytes) content new))
 
 ---- Steps of a run
 
@@ -105,9 +106,9 @@ pub record HasRun (Texts : RunEnd → List ℕ → Type 0) (Fronts Broken : List
   pub read : end ≡ RunEnd.ReadFault → ⊥
 
 -- a script is played
-abbrev pub HasPlayed : ℕ → Network → List Group → (old new : Option (List ℕ)) → (before after : Counts) → (faults_before faults_after : ℕ) → RunEnd → Type 0
-HasPlayed limit t script = HasRun (Plays limit t script) (BeginsPlay limit t script) (BreaksPlay limit t script)
+abbrev pub HasPlayed : RunOptions → Network → List Group → (old new : Option (List ℕ)) → (before after : Counts) → (faults_before faults_after : ℕ) → RunEnd → Type 0
+HasPlayed options t script = HasRun (Plays options t script) (BeginsPlay options t script) (BreaksPlay options t script)
 
 -- an input is read
-abbrev pub HasRead : ℕ → List ℕ → (old new : Option (List ℕ)) → (before after : Counts) → (faults_before faults_after : ℕ) → RunEnd → Type 0
-HasRead limit bytes = HasRun (Runs limit bytes) (Begins limit bytes) (Breaks limit bytes)
+abbrev pub HasRead : RunOptions → List ℕ → (old new : Option (List ℕ)) → (before after : Counts) → (faults_before faults_after : ℕ) → RunEnd → Type 0
+HasRead options bytes = HasRun (Runs options bytes) (Begins options bytes) (Breaks options bytes)

@@ -22,7 +22,11 @@ use Rattle.nsi_world.specs.Laws.{IsAtRest}
 use Rattle.safe_runs.specs.Safe.{InEachWorld, IsSafeAtEachAgent}
 use Rattle.circuit_laws.specs.Backed.{EachViewIsBacked, EachViewRises, EachCircuitStands}
 use Rattle.settled_play.specs.Settled.{IsDone}
-use Rattle.trace_text.specs.Lines.{text_of}
+use Rattle.run_totals.specs.Totals.{totals_of}
+use Rattle.run_totals.specs.declared.totals.Totals.{Totals}
+use Rattle.agent_threads.specs.Reports.{written}
+use Rattle.agent_threads.specs.declared.report.Report.{Report}
+use Rattle.agent_threads.specs.declared.report.RunOptions.{RunOptions}
 use Rattle.net_run.specs.Journals.{HoldsJournals}
 use Rattle.fault_lines.specs.Lines.{as_line, topology_fault, script_fault, disk_fault_line, long_line}
 use Rattle.run_command.specs.declared.command.RunEnd.{RunEnd}
@@ -30,6 +34,16 @@ use Rattle.run_command.specs.declared.command.RunEnd.{RunEnd}
 -- how many events the run has
 abbrev pub settled_line : ℕ → List ℕ
 settled_line n = as_line (codes "settled " ++ decimal n)
+
+-- the numbers of a run
+abbrev pub summary_line : Totals → List ℕ
+summary_line n =
+    as_line (codes "summary events " ++ decimal n.events ++ codes " confirmed " ++ decimal n.confirmed ++ codes " committed " ++ decimal n.committed ++ codes " failed " ++ decimal n.failed)
+
+-- the last line of a run
+abbrev pub closing_line : Report → Totals → List ℕ
+closing_line Report.Trace n = settled_line n.events
+closing_line Report.Summary n = summary_line n
 
 ---- Plays
 
@@ -43,11 +57,11 @@ pub record IsSafeRun (t : Network) (routes : Routes) (events : List Event) : Typ
   pub circuits : InEachWorld events (EachCircuitStands (home_in t routes))
 
 -- the play of some first groups of a script, which has no more events than that, and is such a run whichever legs are those of the least paths
-pub record IsTextOf (limit : ℕ) (t : Network) (script : List Group) (groups : ℕ) (events : List Event) : Type 0 where
+pub record IsTextOf (options : RunOptions) (t : Network) (script : List Group) (groups : ℕ) (events : List Event) : Type 0 where
   pub last : Net
   pub play : IsPlay t (take groups script) events last
   pub run : (routes : Routes) → AreRoutes t routes → IsSafeRun t routes events
-  pub within : length events ≤ limit
+  pub within : length events ≤ options.limit
 
 -- These events are a safe run that asks the whole script, in order. In the world that they make each journal is synced whole, no work
 -- waits, and each message that was said was got and acknowledged.
@@ -57,67 +71,67 @@ pub record IsWholeRun (t : Network) (routes : Routes) (script : List Group) (eve
   pub rests : (a : ℕ) → a < length t.agents → IsAtRest (home_in t routes) (world_after empty events) a
   pub over : (a : ℕ) → a < length t.agents → All (IsDone t (home_in t routes) (world_after empty events) a) (said (home_in t routes) (world_after empty events) a)
 
--- the whole play, which is such a run whichever legs are those of the least paths, and behind it how many events it has
-pub record IsSettled (limit : ℕ) (t : Network) (script : List Group) (text : List ℕ) : Type 0 where
+-- what is wanted of the whole play, which is such a run whichever legs are those of the least paths, and behind it its numbers
+pub record IsSettled (options : RunOptions) (t : Network) (script : List Group) (text : List ℕ) : Type 0 where
   pub events : List Event
   pub last : Net
   pub play : IsPlay t script events last
   pub run : (routes : Routes) → AreRoutes t routes → IsWholeRun t routes script events
-  pub within : length events ≤ limit
-  pub spelled : text ≡ text_of t events ++ settled_line (length events)
+  pub within : length events ≤ options.limit
+  pub spelled : text ≡ written options.report t events ++ closing_line options.report (totals_of t events)
 
 -- as many groups as make no more events than that, and behind them that there are more
-pub record IsTooLong (limit : ℕ) (t : Network) (script : List Group) (text : List ℕ) : Type 0 where
+pub record IsTooLong (options : RunOptions) (t : Network) (script : List Group) (text : List ℕ) : Type 0 where
   pub groups : ℕ
   pub events : List Event
-  pub first : IsTextOf limit t script groups events
-  pub passes : Passes limit t (take (groups + 1) script)
-  pub spelled : text ≡ text_of t events ++ long_line
+  pub first : IsTextOf options t script groups events
+  pub passes : Passes options.limit t (take (groups + 1) script)
+  pub spelled : text ≡ written options.report t events ++ long_line
 
 -- some first groups of the play, and that text behind them
-pub record StartsPlay (limit : ℕ) (t : Network) (script : List Group) (behind : Network → List ℕ) (text : List ℕ) : Type 0 where
+pub record StartsPlay (options : RunOptions) (t : Network) (script : List Group) (behind : Network → List ℕ) (text : List ℕ) : Type 0 where
   pub groups : ℕ
   pub events : List Event
-  pub first : IsTextOf limit t script groups events
-  pub spelled : text ≡ text_of t events ++ behind t
+  pub first : IsTextOf options t script groups events
+  pub spelled : text ≡ written options.report t events ++ behind t
 
 -- some first groups of the play, and behind them whose disk has failed
-abbrev pub BreaksPlay : ℕ → Network → List Group → List ℕ → Type 0
-BreaksPlay limit t script text = (agent : ℕ) × StartsPlay limit t script (λ u. disk_fault_line (name_of u agent)) text
+abbrev pub BreaksPlay : RunOptions → Network → List Group → List ℕ → Type 0
+BreaksPlay options t script text = (agent : ℕ) × StartsPlay options t script (λ u. disk_fault_line (name_of u agent)) text
 
 abbrev pub no_text : Network → List ℕ
 no_text t = []
 
-abbrev pub Plays : ℕ → Network → List Group → RunEnd → List ℕ → Type 0
-Plays limit t script RunEnd.Done text = IsSettled limit t script text
-Plays limit t script RunEnd.Long text = IsTooLong limit t script text
-Plays limit t script end text = ⊥
+abbrev pub Plays : RunOptions → Network → List Group → RunEnd → List ℕ → Type 0
+Plays options t script RunEnd.Done text = IsSettled options t script text
+Plays options t script RunEnd.Long text = IsTooLong options t script text
+Plays options t script end text = ⊥
 
 -- all that a play writes, or some first groups of it
-abbrev pub BeginsPlay : ℕ → Network → List Group → List ℕ → Type 0
-BeginsPlay limit t script text = ((end : RunEnd) × Plays limit t script end text) ⊎ StartsPlay limit t script no_text text
+abbrev pub BeginsPlay : RunOptions → Network → List Group → List ℕ → Type 0
+BeginsPlay options t script text = ((end : RunEnd) × Plays options t script end text) ⊎ StartsPlay options t script no_text text
 
 ---- Inputs
 
-abbrev pub RunsScript : ℕ → Network → Result Script (ℕ × ScriptFault) → RunEnd → List ℕ → Type 0
-RunsScript limit t (Ok script) end text = Plays limit t script.groups end text
-RunsScript limit t (Err e) end text = (end ≡ RunEnd.BadScript) × (text ≡ script_fault e.0 e.1)
+abbrev pub RunsScript : RunOptions → Network → Result Script (ℕ × ScriptFault) → RunEnd → List ℕ → Type 0
+RunsScript options t (Ok script) end text = Plays options t script.groups end text
+RunsScript options t (Err e) end text = (end ≡ RunEnd.BadScript) × (text ≡ script_fault e.0 e.1)
 
 -- the script stands behind the topology's lines
 abbrev pub script_behind : List ℕ → Network × ℕ → Result Script (ℕ × ScriptFault)
 script_behind bytes read = script_of read.0 (read.1 + 1) (behind_lines read.1 bytes)
 
-abbrev pub RunsRead : ℕ → List ℕ → Result (Network × ℕ) (ℕ × TopologyFault) → RunEnd → List ℕ → Type 0
-RunsRead limit bytes (Ok read) end text = RunsScript limit read.0 (script_behind bytes read) end text
-RunsRead limit bytes (Err e) end text = (end ≡ RunEnd.BadTopology) × (text ≡ topology_fault e.0 e.1)
+abbrev pub RunsRead : RunOptions → List ℕ → Result (Network × ℕ) (ℕ × TopologyFault) → RunEnd → List ℕ → Type 0
+RunsRead options bytes (Ok read) end text = RunsScript options read.0 (script_behind bytes read) end text
+RunsRead options bytes (Err e) end text = (end ≡ RunEnd.BadTopology) × (text ≡ topology_fault e.0 e.1)
 
-abbrev pub RunsIf : (fits : Bool) → ℕ → List ℕ → RunEnd → List ℕ → Type 0
-RunsIf true limit bytes end text = RunsRead limit bytes (read_lines nothing 0 (lines_of bytes)) end text
-RunsIf false limit bytes end text = (end ≡ RunEnd.Long) × (text ≡ long_line)
+abbrev pub RunsIf : (fits : Bool) → RunOptions → List ℕ → RunEnd → List ℕ → Type 0
+RunsIf true options bytes end text = RunsRead options bytes (read_lines nothing 0 (lines_of bytes)) end text
+RunsIf false options bytes end text = (end ≡ RunEnd.Long) × (text ≡ long_line)
 
--- how `run` ends on these bytes, where there may be so many events, and all that it writes
-abbrev pub Runs : ℕ → List ℕ → RunEnd → List ℕ → Type 0
-Runs limit bytes end text = RunsIf (nat_le (length bytes) greatest_input) limit bytes end text
+-- how `run` ends on these bytes with these options, and all that it writes
+abbrev pub Runs : RunOptions → List ℕ → RunEnd → List ℕ → Type 0
+Runs options bytes end text = RunsIf (nat_le (length bytes) greatest_input) options bytes end text
 
 ---- Runs that were cut short
 
@@ -134,12 +148,12 @@ abbrev pub OfRead : List ℕ → (Network → List Group → Type 0) → Type 0
 OfRead bytes P = (t : Network) × (script : List Group) × AreRead bytes t script × P t script
 
 -- some first groups of the play, and behind them whose disk has failed
-abbrev pub Breaks : ℕ → List ℕ → List ℕ → Type 0
-Breaks limit bytes text = OfRead bytes (λ t script. BreaksPlay limit t script text)
+abbrev pub Breaks : RunOptions → List ℕ → List ℕ → Type 0
+Breaks options bytes text = OfRead bytes (λ t script. BreaksPlay options t script text)
 
 -- all that a run writes, or some first groups of its play
-abbrev pub Begins : ℕ → List ℕ → List ℕ → Type 0
-Begins limit bytes text = ((end : RunEnd) × Runs limit bytes end text) ⊎ OfRead bytes (λ t script. StartsPlay limit t script no_text text)
+abbrev pub Begins : RunOptions → List ℕ → List ℕ → Type 0
+Begins options bytes text = ((end : RunEnd) × Runs options bytes end text) ⊎ OfRead bytes (λ t script. StartsPlay options t script no_text text)
 
 ---- Journals
 

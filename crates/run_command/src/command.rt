@@ -1,4 +1,4 @@
-//! A topology and a script come in, and every step of every agent goes out.
+//! A topology and a script come in, and every step of every agent goes out, or how many there were.
 
 ghost use Rattle.std.specs.Prelude.{◌≡◌, ◌≤◌, ◌<◌, ◌+◌, ◌⊎◌, ℕ, true, length, IfSome};
 ghost use Rattle.nsi_base.specs.Range.{greatest_input};
@@ -9,11 +9,11 @@ ghost use Rattle.fault_lines.specs.Lines.{topology_fault, script_fault, disk_fau
 ghost use Rattle.run_command.specs.Ends.{is_told, WritesSome, IsCutShort, IsQuiet, HasDiskFault, IsTold, Closes, IsOfAgent, FailsAs, HasPlayed, HasRead, counted};
 ghost use Rattle.run_command.specs.Reading.{IsDeclared};
 ghost use Rattle.net_run.specs.Journals.{HoldsJournals};
-ghost use Rattle.run_command.specs.Runs.{Runs, Breaks, KeepsRun, settled_line};
+ghost use Rattle.run_command.specs.Runs.{Runs, Breaks, KeepsRun, closing_line};
 
 use crate::reading::{Declared, read_declared};
-use crate::texts::settled_line;
-use agent_threads::RunFault;
+use crate::texts::closing_line;
+use agent_threads::{Report, Resources, RunFault, RunOptions};
 use circuit_laws::laws::{circuits, views};
 use fault_lines::{disk_fault_text, script_fault, topology_fault};
 use line_reader::{ReadError, read_whole};
@@ -23,6 +23,7 @@ use nsi_disk::Shelf;
 use nsi_outside::{Sink, SinkError, Source, write_all};
 use nsi_script::{Script, ScriptFault, ScriptRefusal, read_script};
 use nsi_world::laws::{asks_whole, play_runs};
+use run_totals::Totals;
 use safe_runs::laws::{every_play_safe_at_each_agent, every_run_safe_at_each_agent};
 use settled_play::laws::settled;
 use std::alloc::Global;
@@ -80,12 +81,12 @@ fn bad_script<K: Sink>(alloc: Global, out: &mut K, line: u32, fault: ScriptFault
     }
 }
 
-/// Writes how many events the run has.
-fn tell_events<K: Sink>(alloc: Global, out: &mut K, events: u64) -> RunEnd
-    ensures { Closes (settled_line events) RunEnd.Done result
+/// Writes the last line of a run.
+fn tell_totals<K: Sink>(alloc: Global, out: &mut K, report: Report, totals: Totals) -> RunEnd
+    ensures { Closes (closing_line report totals) RunEnd.Done result
         (K.content out.old) (K.content out.new) (K.faults out.old) (K.faults out.new) }
 {
-    match settled_line(alloc, events) {
+    match closing_line(alloc, report, totals) {
         Ok(text) => close(out, &text, RunEnd::Done),
         Err(_) => RunEnd::NoMemory,
     }
@@ -119,10 +120,8 @@ fn fail<K: Sink>(alloc: Global, out: &mut K, topology: &Topology, fault: &RunFau
 
 /// Plays a script.
 fn play<R: Threads + Sync, K: Sink, H: Shelf>(
-    rt: &R,
-    workers: usize,
-    alloc: Global,
-    limit: u64,
+    resources: &Resources<'_, R>,
+    options: RunOptions,
     topology: &Topology,
     script: &Script,
     out: &mut K,
@@ -130,9 +129,9 @@ fn play<R: Threads + Sync, K: Sink, H: Shelf>(
 ) -> RunEnd
 where
     H::Disk: Drop + Send,
-    requires limit { limit ≤ 2000000 }
+    requires limit { options.limit ≤ 2000000 }
     requires fits { Fits topology.now script.now }
-    ensures played { HasPlayed limit topology.now script.now.groups
+    ensures played { HasPlayed options topology.now script.now.groups
         (K.content out.old) (K.content out.new)
         (counted 0 (H.faults shelf.old) (H.stops shelf.old))
         (counted 0 (H.faults shelf.new) (H.stops shelf.new))
@@ -148,18 +147,16 @@ where
     views();
     circuits();
     settled();
-    match run_world(rt, workers, alloc, topology, script, limit, shelf, out) {
-        Ok(events) => tell_events(alloc, out, events),
-        Err(fault) => fail(alloc, out, topology, &fault),
+    match run_world(resources, topology, script, options, shelf, out) {
+        Ok(totals) => tell_totals(resources.alloc, out, options.report, totals),
+        Err(fault) => fail(resources.alloc, out, topology, &fault),
     }
 }
 
 /// Reads the script that stands behind a topology, and plays it.
 fn run_script<R: Threads + Sync, K: Sink, H: Shelf>(
-    rt: &R,
-    workers: usize,
-    alloc: Global,
-    limit: u64,
+    resources: &Resources<'_, R>,
+    options: RunOptions,
     bytes: &[u8],
     declared: &Declared<'_>,
     out: &mut K,
@@ -167,11 +164,11 @@ fn run_script<R: Threads + Sync, K: Sink, H: Shelf>(
 ) -> RunEnd
 where
     H::Disk: Drop + Send,
-    requires limit { limit ≤ 2000000 }
+    requires limit { options.limit ≤ 2000000 }
     requires size { length bytes.now ≤ greatest_input }
     requires declared { IsDeclared bytes.now declared.now }
     requires behind { declared.now.lines + length declared.now.behind.now ≤ length bytes.now }
-    ensures read { HasRead limit bytes.now (K.content out.old) (K.content out.new)
+    ensures read { HasRead options bytes.now (K.content out.old) (K.content out.new)
         (counted 0 (H.faults shelf.old) (H.stops shelf.old))
         (counted 0 (H.faults shelf.new) (H.stops shelf.new))
         (K.faults out.old) (K.faults out.new) result }
@@ -179,22 +176,14 @@ where
         KeepsRun bytes.now (H.holds shelf.old) (H.holds shelf.new) }
 {
     every_run_safe_at_each_agent();
+    let alloc = resources.alloc;
     match read_script(
         alloc,
         declared.behind,
         declared.lines + 1,
         &declared.topology,
     ) {
-        Ok(script) => play(
-            rt,
-            workers,
-            alloc,
-            limit,
-            &declared.topology,
-            &script,
-            out,
-            shelf,
-        ),
+        Ok(script) => play(resources, options, &declared.topology, &script, out, shelf),
         Err(ScriptRefusal::Fault { line, fault }) => bad_script(alloc, out, line, fault),
         Err(ScriptRefusal::NoMemory) => RunEnd::NoMemory,
     }
@@ -202,19 +191,17 @@ where
 
 /// Reads a topology and a script, and plays it.
 fn run_bytes<R: Threads + Sync, K: Sink, H: Shelf>(
-    rt: &R,
-    workers: usize,
-    alloc: Global,
-    limit: u64,
+    resources: &Resources<'_, R>,
+    options: RunOptions,
     bytes: &[u8],
     out: &mut K,
     shelf: &mut H,
 ) -> RunEnd
 where
     H::Disk: Drop + Send,
-    requires limit { limit ≤ 2000000 }
+    requires limit { options.limit ≤ 2000000 }
     requires size { length bytes.now ≤ greatest_input }
-    ensures read { HasRead limit bytes.now (K.content out.old) (K.content out.new)
+    ensures read { HasRead options bytes.now (K.content out.old) (K.content out.new)
         (counted 0 (H.faults shelf.old) (H.stops shelf.old))
         (counted 0 (H.faults shelf.new) (H.stops shelf.new))
         (K.faults out.old) (K.faults out.new) result }
@@ -222,30 +209,29 @@ where
         KeepsRun bytes.now (H.holds shelf.old) (H.holds shelf.new) }
 {
     every_run_safe_at_each_agent();
+    let alloc = resources.alloc;
     match read_declared(alloc, bytes) {
-        Ok(declared) => run_script(rt, workers, alloc, limit, bytes, &declared, out, shelf),
+        Ok(declared) => run_script(resources, options, bytes, &declared, out, shelf),
         Err(TopologyRefusal::Fault { line, fault }) => bad_topology(alloc, out, line, fault),
         Err(TopologyRefusal::NoMemory) => RunEnd::NoMemory,
     }
 }
 
-/// Plays the script that stands in the input behind a topology, with at most so many events, each round by so many workers at most. The
-/// whole input is read first, and each group's events are written in its end. Journals begin empty.
+/// Plays the script that stands in the input behind a topology, each round by so many workers at most. The whole input is read first, and
+/// what is wanted of each group is written in its end. Journals begin empty.
 pub fn run<R: Threads + Sync, S: Source, K: Sink, H: Shelf>(
-    rt: &R,
-    workers: usize,
-    alloc: Global,
-    limit: u64,
+    resources: &Resources<'_, R>,
+    options: RunOptions,
     input: &mut S,
     out: &mut K,
     shelf: &mut H,
 ) -> RunEnd
 where
     H::Disk: Drop + Send,
-    requires { limit ≤ 2000000 }
+    requires { options.limit ≤ 2000000 }
     // The bytes say how it ends and all that is written.
     ensures ends { is_told result ≡ true → IfSome (S.left input.old)
-        (λ bytes. WritesSome (Runs limit bytes result) (K.content out.old) (K.content out.new)) }
+        (λ bytes. WritesSome (Runs options bytes result) (K.content out.old) (K.content out.new)) }
 
     // A fault comes only from outside, and leaves whole groups or a front of them.
     ensures read_fault { result ≡ RunEnd.ReadFault → S.faults input.old < S.faults input.new }
@@ -257,9 +243,9 @@ where
         (counted (S.faults input.old) (H.faults shelf.old) (H.stops shelf.old))
         (counted (S.faults input.new) (H.faults shelf.new) (H.stops shelf.new)) }
     ensures broken { result ≡ RunEnd.DiskFault → IfSome (S.left input.old)
-        (λ bytes. WritesSome (Breaks limit bytes) (K.content out.old) (K.content out.new)) }
+        (λ bytes. WritesSome (Breaks options bytes) (K.content out.old) (K.content out.new)) }
     ensures unfinished { (result ≡ RunEnd.WriteFault) ⊎ (result ≡ RunEnd.NoMemory) →
-        IsCutShort limit (K.content out.old) (S.left input.old)
+        IsCutShort options (K.content out.old) (S.left input.old)
         (counted (S.faults input.old) (H.faults shelf.old) (H.stops shelf.old))
         (counted (S.faults input.new) (H.faults shelf.new) (H.stops shelf.new))
         (K.content out.new) }
@@ -277,8 +263,8 @@ where
         (λ bytes. KeepsRun bytes (H.holds shelf.old) (H.holds shelf.new)) }
 {
     every_run_safe_at_each_agent();
-    match read_whole(alloc, input, GREATEST_INPUT) {
-        Ok(Some(bytes)) => run_bytes(rt, workers, alloc, limit, &bytes, out, shelf),
+    match read_whole(resources.alloc, input, GREATEST_INPUT) {
+        Ok(Some(bytes)) => run_bytes(resources, options, &bytes, out, shelf),
         Ok(None) => close(out, b"fault long\n", RunEnd::Long),
         Err(ReadError::Failed) => close(out, b"fault read\n", RunEnd::ReadFault),
         Err(ReadError::NoMemory) => RunEnd::NoMemory,

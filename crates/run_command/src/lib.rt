@@ -1,4 +1,4 @@
-//! The command `run`: all agents of a topology play a script, and each of their steps is written.
+//! The command `run`: all agents of a topology play a script, and each of their steps is written, or how many there were.
 #![tactic(auto)]
 
 mod command;

@@ -68,7 +68,7 @@ fn bad_topologies_are_refused(rt: HostRuntime) -> Result<(), Fail> {
 }
 
 /// Words that name no command, or an option in no form of it.
-const WORDS: [&str; 36] = [
+const WORDS: [&str; 35] = [
     "",
     "run --workers 0",
     "run 3",
@@ -76,7 +76,6 @@ const WORDS: [&str; 36] = [
     "run --events",
     "run --events 0",
     "run --events=2000001",
-    "run --summary",
     "run run",
     "Provide",
     "provide provide",

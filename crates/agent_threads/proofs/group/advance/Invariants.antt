@@ -6,11 +6,11 @@ use Rattle.agent_threads.specs.Coming.{IsSettledBy}
 use Rattle.agent_threads.specs.Leaving.{LeavesNet}
 use Rattle.agent_threads.proofs.group.advance.Given as goal
 
-abbrev pub decreases-loop-alloc : goal.decreases-loop-alloc
-decreases-loop-alloc g l = left (seats l.nodes.items)
+abbrev pub decreases-loop-events : goal.decreases-loop-events
+decreases-loop-events g l = left (seats l.nodes.items)
 
-abbrev pub invariant-loop-alloc : goal.invariant-loop-alloc
-invariant-loop-alloc g l = record {
+abbrev pub invariant-loop-events : goal.invariant-loop-events
+invariant-loop-events g l = record {
   way : AtHomes l.fn.nodes.items (λ homes. (own : List Event) × (l.events.items ≡ l.fn.events.items ++ own) × IsSettledBy homes (seats l.fn.nodes.items) own (seats l.nodes.items));
   leaves : LeavesNet 0 l.fn.nodes.items l.nodes.items l.fn.events.items l.events.items;
   within : length l.events.items ≤ l.room;

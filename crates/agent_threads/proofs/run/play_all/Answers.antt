@@ -1,9 +1,9 @@
-use Rattle.std.proofs.Common.{ℕ, ◌<◌, ◌≤◌, ◌+◌, ◌++◌, ◌∙◌, inl, inr, sym, refl, ap, subst, arith, length, length-append, get_or, [], List, take, Err}
+use Rattle.std.proofs.Common.{ℕ, ◌<◌, ◌≤◌, ◌+◌, ◌++◌, ◌∙◌, inl, inr, sym, refl, ap, subst, arith, length, get_or, [], List, take, Err}
 use Rattle.std.proofs.lemmas.List.{take_all}
 use Rattle.std.proofs.lemmas.Result.{err_from_is_err_and}
 use Rattle.nsi_outside.specs.Stream.{WritesAll, WritesFront}
 use Rattle.nsi_agent.specs.Homes.{home_in}
-use Rattle.trace_text.specs.Lines.{text_of}
+use Rattle.agent_threads.specs.Reports.{written}
 use Rattle.nsi_script.specs.declared.script.Group.{Group}
 use Rattle.nsi_play.specs.Play.{asks_among}
 use Rattle.agent_threads.specs.declared.fault.RunFault.{RunFault}
@@ -13,11 +13,11 @@ use Rattle.agent_threads.specs.Coming.{IsPlayedBy, IsGroupOver, GroupPasses}
 use Rattle.agent_threads.specs.Promise.{AllCanBeDone}
 use Rattle.agent_threads.proofs.Same.{all_same, still_of, same_twice, are_calm, same_agents, same_agents_twice}
 use Rattle.agent_threads.proofs.Coming.{played_none, played_all, asks_later}
-use Rattle.agent_threads.proofs.Told.{on_err, writes_none, writes_more, script_passes, front_passes, group_more, some_of_play, can_at}
+use Rattle.agent_threads.proofs.Told.{on_err, how_many, more_totals, writes_none, writes_more, script_passes, front_passes, group_more, some_of_play, can_at}
 use Rattle.agent_threads.proofs.Causes.{same_error, if_err, write_cause, not_long, not_disk, if_writing}
 use Rattle.agent_threads.specs.Journals.{KeepGroup, KeepGroups}
 use Rattle.agent_threads.proofs.Keeping.{groups_none, groups_more, play_kept}
-use Rattle.agent_threads.specs.Bounds.{AreUpTo, AreOfOne}
+use Rattle.agent_threads.specs.Bounds.{AreUpTo, AreUnder, AreOfOne}
 use Rattle.quiet_rounds.specs.Bounded.{IsBounded}
 use Rattle.agent_threads.proofs.Bounding.{played_bounded}
 use Rattle.agent_threads.proofs.Going.{anyhow, up_to_later, still_numbered, rising_at}
@@ -25,15 +25,16 @@ use Rattle.agent_threads.proofs.run.play_all.Goals as goal
 
 pub loop-group-init : goal.loop-group-init
 loop-group-init g c = record {
-  way = ([], (λ t o routes r. played_none (home_in t routes) (seats c.args.nodes.now.items)), refl, writes_none c.args.topology.now (g.K.Sink.content c.args.out.now));
+  way = ([], (λ t o routes r. played_none (home_in t routes) (seats c.args.nodes.now.items)), c.none.ensures.totals c.args.topology.now, writes_none c.args.options.report c.args.topology.now (g.K.Sink.content c.args.out.now));
   net = c.requires.net;
   same = all_same c.args.nodes.now.items;
   keeps = groups_none c.args.nodes.now.items;
   told = λ none. none;
-  few = c.requires.ready.none;
+  few = subst (λ (n : ℕ). AreUnder n c.args.nodes.now.items) (sym (how_many (c.none.ensures.totals c.args.topology.now))) c.requires.ready.none;
   asks = omega arith;
   clocks = λ d h. up_to_later 0 (get_or c.args.groups.now 0 d).at c.args.nodes.now.items (omega arith) c.requires.ready.clocks;
-  within = omega arith;
+  within = omega (arith, how_many (c.none.ensures.totals c.args.topology.now));
+  counts = c.none.ensures.within;
   counted = refl;
 }
 
@@ -76,7 +77,7 @@ loop-group-preserved g c =
     let news = seats c.play_group.new.nodes.items in
     let h : l.group-index < length c.args.groups.now = omega (arith, c.loop-group-test.true) in
     let next = c.in_ok-text.ensures.next ∙ ap (λ (z : Group). l.progress.asks + asks_among z.acts) c.group-item.is in
-    let wrote : WritesAll (g.K.Sink.content l.out) (g.K.Sink.content c.write_text.new.out) (text_of c.args.topology.now u.0) =
+    let wrote : WritesAll (g.K.Sink.content l.out) (g.K.Sink.content c.write_text.new.out) (written c.args.options.report c.args.topology.now u.0) =
     subst (λ (bytes : List ℕ). WritesAll (g.K.Sink.content l.out) (g.K.Sink.content c.write_text.new.out) bytes) (c.deref.ensures.value ∙ u.3) c.in_ok-write_text.ensures.all in
     record {
       way = (
@@ -85,8 +86,8 @@ loop-group-preserved g c =
             subst (λ n. IsPlayedBy (home_in t routes) (take (l.group-index + 1) c.args.groups.now) start (w.0 ++ u.0) n news) (sym next)
             (group_more (home_in t routes) c.args.groups.now l.group-index d start w.0 l.progress.asks (seats l.nodes.items) u.0 news h (w.1 t o routes r)
             (subst (λ (z : Group). IsGroupOver (home_in t routes) z l.progress.asks (seats l.nodes.items) u.0 news) c.group-item.is (u.2 t (still_of t c.args.nodes.now.items l.nodes.items l.invariant.same o) routes r)))),
-        u.1 ∙ omega (arith, w.2, length-append w.0 u.0),
-        writes_more c.args.topology.now w.0 u.0 (g.K.Sink.content c.args.out.now) (g.K.Sink.content l.out) (g.K.Sink.content c.write_text.new.out) w.3 wrote,
+        more_totals c.args.topology.now w.0 u.0 l.progress.totals _ w.2 u.1,
+        writes_more c.args.options.report c.args.topology.now w.0 u.0 (g.K.Sink.content c.args.out.now) (g.K.Sink.content l.out) (g.K.Sink.content c.write_text.new.out) w.3 wrote,
       );
       net = c.in_ok-text.ensures.net;
       same = same_twice c.args.nodes.now.items l.nodes.items c.play_group.new.nodes.items l.invariant.same c.in_ok-text.ensures.same;
@@ -101,6 +102,7 @@ loop-group-preserved g c =
           subst (λ (z : Group). z.at ≤ (get_or c.args.groups.now (l.group-index + 1) e).at) (sym c.group-item.is) (rising_at c.args.groups.now l.group-index d e next c.requires.rising) in
           up_to_later d.at (get_or c.args.groups.now (l.group-index + 1) e).at c.play_group.new.nodes.items later c.in_ok-text.ensures.clocks;
       within = c.in_ok-text.ensures.within;
+      counts = c.in_ok-text.ensures.counted;
       counted = c.in_ok-write_text.ensures.quiet ∙ l.invariant.counted;
     }
 
@@ -113,16 +115,16 @@ returns-in_err-text-clause-long g c = λ e.
     let h : l.group-index < length c.args.groups.now = omega (arith, c.loop-group-test.true) in
     let p = err_from_is_err_and c.from_residual.result c.from_residual.ensures.1 in
     let is_long = ap (λ x. Err x) (same_error c.from_residual.result p.0 c.in_err-text.field-0.0 _ p.1 p.2 e) in
-    let passes : AtHomes c.args.nodes.now.items (λ homes. GroupPasses c.args.limit l.progress.events homes (get_or c.args.groups.now l.group-index d) l.progress.asks (seats l.nodes.items)) =
-    λ t o routes r. subst (λ (z : Group). GroupPasses c.args.limit l.progress.events (home_in t routes) z l.progress.asks (seats l.nodes.items)) c.group-item.is
+    let passes : AtHomes c.args.nodes.now.items (λ homes. GroupPasses c.args.options.limit l.progress.totals.events homes (get_or c.args.groups.now l.group-index d) l.progress.asks (seats l.nodes.items)) =
+    λ t o routes r. subst (λ (z : Group). GroupPasses c.args.options.limit l.progress.totals.events (home_in t routes) z l.progress.asks (seats l.nodes.items)) c.group-item.is
     (c.in_err-text.ensures.long t (still_of t c.args.nodes.now.items l.nodes.items l.invariant.same o) routes r is_long) in (
       l.group-index,
       w.0,
       seats l.nodes.items,
       (λ t o routes r. played_all (home_in t routes) (take l.group-index c.args.groups.now) start w.0 l.progress.asks (seats l.nodes.items) (w.1 t o routes r)),
-      (λ t o routes r. front_passes (home_in t routes) c.args.groups.now l.group-index d start w.0 l.progress.asks (seats l.nodes.items) c.args.limit l.progress.events h (w.1 t o routes r) w.2 (passes t o routes r)),
-      (λ t o routes r. script_passes (home_in t routes) c.args.groups.now l.group-index d start w.0 l.progress.asks (seats l.nodes.items) c.args.limit l.progress.events h (w.1 t o routes r) w.2 (passes t o routes r)),
-      omega (arith, w.2, l.invariant.within),
+      (λ t o routes r. front_passes (home_in t routes) c.args.groups.now l.group-index d start w.0 l.progress.asks (seats l.nodes.items) c.args.options.limit l.progress.totals.events h (w.1 t o routes r) (how_many w.2) (passes t o routes r)),
+      (λ t o routes r. script_passes (home_in t routes) c.args.groups.now l.group-index d start w.0 l.progress.asks (seats l.nodes.items) c.args.options.limit l.progress.totals.events h (w.1 t o routes r) (how_many w.2) (passes t o routes r)),
+      omega (arith, how_many w.2, l.invariant.within),
       w.3,
     )
 
@@ -131,8 +133,8 @@ returns-in_err-text-clause-front g c =
     let l = c.loop-group in
     let w = l.invariant.way in
     let h : l.group-index < length c.args.groups.now = omega (arith, c.loop-group-test.true) in
-    on_err c.from_residual.result _ (some_of_play c.args.topology.now c.args.groups.now l.group-index c.group-item.result c.args.nodes.now.items l.nodes.items w.0 l.progress.asks c.args.limit
-    (g.K.Sink.content c.args.out.now) (g.K.Sink.content l.out) (g.K.Sink.content l.out) h l.invariant.same w.1 (omega (arith, w.2, l.invariant.within)) w.3 (inl refl))
+    on_err c.from_residual.result _ (some_of_play c.args.topology.now c.args.groups.now l.group-index c.group-item.result c.args.nodes.now.items l.nodes.items w.0 l.progress.asks c.args.options
+    (g.K.Sink.content c.args.out.now) (g.K.Sink.content l.out) (g.K.Sink.content l.out) h l.invariant.same w.1 (omega (arith, how_many w.2, l.invariant.within)) w.3 (inl refl))
 
 pub returns-in_err-write_text-clause-long : goal.returns-in_err-write_text-clause-long
 returns-in_err-write_text-clause-long g c = λ e.
@@ -153,13 +155,13 @@ returns-in_err-write_text-clause-front g c =
     let u = c.in_ok-text.ensures.ok in
     let news = seats c.play_group.new.nodes.items in
     let h : l.group-index < length c.args.groups.now = omega (arith, c.loop-group-test.true) in
-    let front : WritesFront (g.K.Sink.content l.out) (g.K.Sink.content c.write_text.new.out) (text_of c.args.topology.now u.0) =
+    let front : WritesFront (g.K.Sink.content l.out) (g.K.Sink.content c.write_text.new.out) (written c.args.options.report c.args.topology.now u.0) =
     subst (λ (bytes : List ℕ). WritesFront (g.K.Sink.content l.out) (g.K.Sink.content c.write_text.new.out) bytes) (c.deref.ensures.value ∙ u.3) c.in_err-write_text.ensures.front in
     let over : AtHomes l.nodes.items (λ homes. IsGroupOver homes (get_or c.args.groups.now l.group-index c.group-item.result) l.progress.asks (seats l.nodes.items) u.0 news) =
     λ t o routes r. subst (λ (z : Group). IsGroupOver (home_in t routes) z l.progress.asks (seats l.nodes.items) u.0 news) c.group-item.is (u.2 t o routes r) in
-    let few : length w.0 + length u.0 ≤ c.args.limit = omega (arith, w.2, u.1, c.in_ok-text.ensures.within) in
-    on_err c.from_residual-in_err-write_text.result _ (some_of_play c.args.topology.now c.args.groups.now l.group-index c.group-item.result c.args.nodes.now.items l.nodes.items w.0 l.progress.asks c.args.limit
-    (g.K.Sink.content c.args.out.now) (g.K.Sink.content l.out) (g.K.Sink.content c.write_text.new.out) h l.invariant.same w.1 (omega (arith, w.2, l.invariant.within)) w.3 (inr (u.0, news, over, few, front)))
+    let few : length w.0 + length u.0 ≤ c.args.options.limit = omega (arith, how_many w.2, how_many u.1, c.in_ok-text.ensures.within) in
+    on_err c.from_residual-in_err-write_text.result _ (some_of_play c.args.topology.now c.args.groups.now l.group-index c.group-item.result c.args.nodes.now.items l.nodes.items w.0 l.progress.asks c.args.options
+    (g.K.Sink.content c.args.out.now) (g.K.Sink.content l.out) (g.K.Sink.content c.write_text.new.out) h l.invariant.same w.1 (omega (arith, how_many w.2, l.invariant.within)) w.3 (inr (u.0, news, over, few, front)))
 
 pub returns-clause-done : goal.returns-clause-done
 returns-clause-done g c =
@@ -173,7 +175,7 @@ returns-clause-done g c =
           subst (λ (gs : List Group). IsPlayedBy (home_in t routes) gs start w.0 l.progress.asks (seats l.nodes.items)) (take_all l.group-index c.args.groups.now (omega (arith, c.loop-group-test.false))) (w.1 t o routes r) in
           played_all (home_in t routes) c.args.groups.now start w.0 l.progress.asks (seats l.nodes.items) whole),
       w.2,
-      l.invariant.within,
+      omega (arith, how_many w.2, l.invariant.within),
       w.3,
     )
 
@@ -186,7 +188,7 @@ returns-in_err-text-clause-whole g c = λ a e.
       w.0,
       seats l.nodes.items,
       (λ t o routes r. played_all (home_in t routes) (take l.group-index c.args.groups.now) start w.0 l.progress.asks (seats l.nodes.items) (w.1 t o routes r)),
-      omega (arith, w.2, l.invariant.within),
+      omega (arith, how_many w.2, l.invariant.within),
       w.3,
     )
 

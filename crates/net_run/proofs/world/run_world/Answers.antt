@@ -18,10 +18,10 @@ returns-in-Err-clause-broken g c = λ a e.
     let start = subst
     (λ (f : RunFault). IsStartFault (length c.args.topology.now.agents) (g.H.Shelf.faults c.args.shelf.now) (g.H.Shelf.faults c.open_net.new.shelf) (g.H.Shelf.stops c.args.shelf.now) (g.H.Shelf.stops c.open_net.new.shelf) f)
     (same_fault c.in-Err.fault (RunFault.DiskFault a) e) c.in-Err.ensures.cause in
-    (start.0, no_groups c.args.topology.now c.args.limit c.args.script.now.groups (g.K.Sink.content c.args.out.now))
+    (start.0, no_groups c.args.topology.now c.args.options c.args.script.now.groups (g.K.Sink.content c.args.out.now))
 
 pub returns-in-Err-clause-front : goal.returns-in-Err-clause-front
-returns-in-Err-clause-front g c = nothing_of c.args.topology.now c.args.limit c.args.script.now.groups (g.K.Sink.content c.args.out.now)
+returns-in-Err-clause-front g c = nothing_of c.args.topology.now c.args.options c.args.script.now.groups (g.K.Sink.content c.args.out.now)
 
 pub play_all-played-requires-clause-can : goal.play_all-played-requires-clause-can
 play_all-played-requires-clause-can g c κs within =
@@ -45,12 +45,12 @@ close_net-requires g c = record {
 
 pub returns-clause-done : goal.returns-clause-done
 returns-clause-done g c =
-    done_of c.args.topology.now c.args.limit c.args.script.now.groups c.items.result.now c.in-Ok.nodes.items (g.K.Sink.content c.args.out.now) (g.K.Sink.content c.play_all-played.new.out) c.in-Ok.ensures.opened c.items.ensures
+    done_of c.args.topology.now c.args.options c.args.script.now.groups c.items.result.now c.in-Ok.nodes.items (g.K.Sink.content c.args.out.now) (g.K.Sink.content c.play_all-played.new.out) c.in-Ok.ensures.opened c.items.ensures
     c.play_all-played.result c.play_all-played.ensures.done
 
 pub returns-clause-long : goal.returns-clause-long
 returns-clause-long g c = λ e.
-    long_of c.args.topology.now c.args.limit c.args.script.now.groups c.items.result.now c.in-Ok.nodes.items (g.K.Sink.content c.args.out.now) (g.K.Sink.content c.play_all-played.new.out) c.in-Ok.ensures.opened c.items.ensures
+    long_of c.args.topology.now c.args.options c.args.script.now.groups c.items.result.now c.in-Ok.nodes.items (g.K.Sink.content c.args.out.now) (g.K.Sink.content c.play_all-played.new.out) c.in-Ok.ensures.opened c.items.ensures
     (c.play_all-played.ensures.long e)
 
 pub returns-clause-broken : goal.returns-clause-broken
@@ -59,13 +59,13 @@ returns-clause-broken g c = λ a e.
     let listed = listed_same (g.H.Shelf.listed c.open_net.new.shelf) c.args.topology.now c.in-Ok.nodes.items news c.play_all-played.ensures.agents c.in-Ok.ensures.listed in
     let failed = cause_in c.play_all-played.result (RunFault.DiskFault a) (λ (f : RunFault). HasRunCause f news) c.play_all-played.ensures.cause e in (
       failed_within a (g.H.Shelf.listed c.open_net.new.shelf) c.args.topology.now news listed failed,
-      groups_of c.args.topology.now c.args.limit c.args.script.now.groups c.items.result.now c.in-Ok.nodes.items (g.K.Sink.content c.args.out.now) (g.K.Sink.content c.play_all-played.new.out) c.in-Ok.ensures.opened c.items.ensures
+      groups_of c.args.topology.now c.args.options c.args.script.now.groups c.items.result.now c.in-Ok.nodes.items (g.K.Sink.content c.args.out.now) (g.K.Sink.content c.play_all-played.new.out) c.in-Ok.ensures.opened c.items.ensures
           (c.play_all-played.ensures.whole a e),
     )
 
 pub returns-clause-front : goal.returns-clause-front
 returns-clause-front g c =
-    some_of c.args.topology.now c.args.limit c.args.script.now.groups c.items.result.now c.in-Ok.nodes.items (g.K.Sink.content c.args.out.now) (g.K.Sink.content c.play_all-played.new.out) c.in-Ok.ensures.opened c.items.ensures
+    some_of c.args.topology.now c.args.options c.args.script.now.groups c.items.result.now c.in-Ok.nodes.items (g.K.Sink.content c.args.out.now) (g.K.Sink.content c.play_all-played.new.out) c.in-Ok.ensures.opened c.items.ensures
     c.play_all-played.result c.play_all-played.ensures.front
 
 pub returns-clause-disk : goal.returns-clause-disk

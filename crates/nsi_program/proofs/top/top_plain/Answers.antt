@@ -1,6 +1,7 @@
 use Rattle.std.proofs.Common.{◌≡◌, ℕ, List, Option, Some, map, sym, ◌∙◌, ap, subst}
 use Rattle.std.specs.Prelude.{string_bytes}
 use Rattle.nsi_program.specs.declared.words.Command.{Command}
+use Rattle.nsi_program.specs.RunsTo.{options_of}
 use Rattle.nsi_program.specs.Words.{command_of}
 use Rattle.nsi_program.specs.Promise.{promise_of, IsKept, IsComplete, IsSafe}
 use Rattle.nsi_program.proofs.Declared.{is_complete, is_safe, names_fault}
@@ -122,7 +123,7 @@ returns-in-Run-clause-unfinished g c = λ failed.
     (named_by (map string_bytes c.args.words.now) c.command_of.result c.in-Some.command (Command.Run c.in-Run.play) c.command_of.ensures c.in-Some.is c.in-Run.is) (c.run.ensures.unfinished failed)
 
 pub returns-in-Run-clause-bad_topology : goal.returns-in-Run-clause-bad_topology
-returns-in-Run-clause-bad_topology g c = λ _ told. run_names_fault c.in-Run.play.most _ _ _ _ (c.run.ensures.ends told)
+returns-in-Run-clause-bad_topology g c = λ _ told. run_names_fault (options_of c.in-Run.play) _ _ _ _ (c.run.ensures.ends told)
 
 pub returns-in-Run-clause-quiet_disk : goal.returns-in-Run-clause-quiet_disk
 returns-in-Run-clause-quiet_disk g c = λ told disks.

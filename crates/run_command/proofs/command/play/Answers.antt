@@ -1,4 +1,5 @@
-use Rattle.std.proofs.Common.{ℕ, Result, Err, ◌≡◌, ap}
+use Rattle.std.proofs.Common.{Result, Err, ◌≡◌, ap}
+use Rattle.run_totals.specs.declared.totals.Totals.{Totals}
 use Rattle.agent_threads.specs.declared.fault.RunFault.{RunFault}
 use Rattle.run_command.proofs.Running.{settled_run, failing_run, fails_not_done}
 use Rattle.run_command.proofs.Wholes.{PlayLaws, plays_run, fronts_run}
@@ -18,14 +19,14 @@ returns-in-Ok-clause-played g c =
       over = c.settled.ensures.each;
     }
     in
-    settled_run c.args.topology.now c.args.limit c.args.script.now.groups _ (g.K.Sink.content c.run_world.new.out) _ _ _ _ _ _ (c.in-Ok.ensures.quiet (λ e. cc)) c.tell_events.result
-    (plays_run laws c.args.limit c.args.topology.now c.args.script.now c.requires.limit c.facts.ensures c.laws.ensures c.requires.fits)
-    c.in-Ok.events c.in-Ok.ensures.done c.tell_events.ensures c.in-Ok.ensures.calm
+    settled_run c.args.topology.now c.args.options c.args.script.now.groups _ (g.K.Sink.content c.run_world.new.out) _ _ _ _ _ _ (c.in-Ok.ensures.quiet (λ e. cc)) c.tell_totals.result
+    (plays_run laws c.args.options.limit c.args.topology.now c.args.script.now c.requires.limit c.facts.ensures c.laws.ensures c.requires.fits)
+    c.in-Ok.totals c.in-Ok.ensures.done c.tell_totals.ensures c.in-Ok.ensures.calm
 
 pub returns-in-Ok-clause-journals : goal.returns-in-Ok-clause-journals
 returns-in-Ok-clause-journals g c = λ done. c.in-Ok.ensures.journals
 
-abbrev Failed : RunFault → Result ℕ RunFault
+abbrev Failed : RunFault → Result Totals RunFault
 Failed f = Err f
 
 same_fault : (f h : RunFault) → Failed f ≡ Failed h → f ≡ h
@@ -46,8 +47,8 @@ returns-in-Err-clause-played g c =
       over = c.settled.ensures.each;
     }
     in
-    failing_run c.args.topology.now c.args.limit c.args.script.now.groups _ (g.K.Sink.content c.run_world.new.out) _ _ _ _ _ _ c.fail.result
-    (fronts_run laws c.args.limit c.args.topology.now c.args.script.now c.requires.limit c.facts.ensures c.laws.ensures c.requires.fits)
+    failing_run c.args.topology.now c.args.options c.args.script.now.groups _ (g.K.Sink.content c.run_world.new.out) _ _ _ _ _ _ c.fail.result
+    (fronts_run laws c.args.options.limit c.args.topology.now c.args.script.now c.requires.limit c.facts.ensures c.laws.ensures c.requires.fits)
     c.in-Err.fault
     (record {
       long = λ e. o.long (ap (λ f. Err f) e);

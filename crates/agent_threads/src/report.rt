@@ -1,0 +1,43 @@
+//! What is written of a run.
+
+ghost use Rattle.std.specs.Prelude.{◌≡◌, IfOk};
+ghost use Rattle.std.specs.List.{All};
+ghost use Rattle.trace_text.specs.Lines.{HasLine};
+ghost use Rattle.agent_threads.specs.Reports.{written};
+
+use nsi_primitive::Event;
+use std::alloc::{AllocError, Global};
+use stp_topology::Topology;
+use trace_text::print_events;
+
+#[derive(Clone, Copy, Debug, PartialEq, Eq)]
+pub enum Report {
+    /// A line for each event.
+    Trace,
+    /// None of the events: they are only counted.
+    Summary,
+}
+
+/// How far a run may go, and what is written of it.
+#[derive(Clone, Copy, Debug, PartialEq, Eq)]
+pub struct RunOptions {
+    /// So many events at most.
+    pub limit: u64,
+    pub report: Report,
+}
+
+/// What is written of events.
+pub fn written(
+    alloc: Global,
+    report: Report,
+    topology: &Topology,
+    events: &[Event],
+) -> Result<Vec<u8>, AllocError>
+    requires { All (HasLine topology.now) events.now }
+    ensures { IfOk result (λ text. text.items ≡ written report topology.now events.now) }
+{
+    match report {
+        Report::Trace => print_events(alloc, topology, events),
+        Report::Summary => Ok(Vec::new(alloc)),
+    }
+}
