@@ -8,6 +8,3 @@ mod spelled;
 
 pub use ends::{Incoming, Outgoing, PushFault, link, meet};
 pub use plan::{How, LinkFault, ParcelKind, Pushed};
-
-#[cfg(test)]
-mod tests;

@@ -15,6 +15,3 @@ pub use journal::{Journal, JournalFault, keep};
 pub use payloads::{read_batch, read_payload, write_payload};
 pub use reading::read_entry;
 pub use writing::write_entry;
-
-#[cfg(test)]
-mod tests;

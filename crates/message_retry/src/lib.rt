@@ -14,6 +14,3 @@ pub use heard::HeardMessages;
 pub use outbox::{Outbox, is_of};
 pub use retry::Retry;
 pub use taken::TakenRequests;
-
-#[cfg(test)]
-mod tests;

@@ -16,6 +16,3 @@ pub use memory::MemoryDisk;
 pub use memory_shelf::{FailAt, MemoryShelf, NamedDisk};
 pub use plan::{Image, Stop};
 pub use shelf::{Shelf, ShelfError};
-
-#[cfg(test)]
-mod tests;

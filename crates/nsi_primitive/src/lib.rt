@@ -22,6 +22,3 @@ pub use message::{
 };
 pub use plane::Plane;
 pub use state::{Lsm, Machine, Psm, Rsm, Side};
-
-#[cfg(test)]
-mod tests;

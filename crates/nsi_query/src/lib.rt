@@ -13,6 +13,3 @@ pub use counted::{notifications, results};
 pub use nested::{nest, own_row};
 pub use rows::Rows;
 pub use summaries::{add_own, summary, summary_of};
-
-#[cfg(test)]
-mod tests;

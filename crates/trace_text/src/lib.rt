@@ -6,6 +6,3 @@ mod printing;
 
 pub use merging::merge;
 pub use printing::{print_event, print_events, push_event};
-
-#[cfg(test)]
-mod tests;
