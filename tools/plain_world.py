@@ -203,9 +203,8 @@ def read_topology(lines):
 class Script:
     """Groups (second, acts), and what becomes of parcels: (from, to, kind, n) is lost or comes twice."""
 
-    def __init__(self, topology, serves_all):
+    def __init__(self, topology):
         self.topology = topology
-        self.serves_all = serves_all
         self.plan = {}
         self.groups = []
         self.asks = 0
@@ -230,8 +229,6 @@ class Script:
         demand_form(kind in KINDS or kind == "ack")
         key = (sender, to, kind, number(nth, 1, 2**64 - 1))
         demand_form(key not in self.plan)
-        if not self.serves_all:
-            raise Fault("Unbuilt")
         if sender not in self.topology.agents or to not in self.topology.neighbours(sender):
             raise Fault("Agent")
         self.plan[key] = how
@@ -294,8 +291,8 @@ class Script:
         return what, label, source, dest, *schedule, *version
 
 
-def read_script(lines, first_line, topology, serves_all):
-    script = Script(topology, serves_all)
+def read_script(lines, first_line, topology):
+    script = Script(topology)
     for place, line in enumerate(lines, first_line):
         try:
             if not is_skipped(line):
@@ -437,7 +434,7 @@ def play(nodes, groups, limit):
     return written, False
 
 
-def run(text, limit=MOST_EVENTS, serves_all=False):
+def run(text, limit=MOST_EVENTS):
     """The status and the lines that are written."""
     if len(text) > LONGEST_INPUT:
         return STATUS["Long"], ["fault long"]
@@ -447,7 +444,7 @@ def run(text, limit=MOST_EVENTS, serves_all=False):
     except Fault as fault:
         return STATUS["BadTopology"], ["fault topology {} {}".format(*fault.args)]
     try:
-        script = read_script(lines[length:], length + 1, topology, serves_all)
+        script = read_script(lines[length:], length + 1, topology)
     except Fault as fault:
         return STATUS["BadScript"], ["fault script {} {}".format(*fault.args)]
     written, is_long = play(nodes_of(topology, script), script.groups, limit)

@@ -1,26 +1,27 @@
 -- Agents that were begun one after another.
 use Rattle.std.proofs.Common.{ℕ, suc, ◌+◌, ◌<◌, ◌≡◌, Bool, true, List, [], ◌∷◌, ◌++◌, refl, sym, ap, ap₂, ◌∙◌, subst, arith, length, map, add-one}
-use Rattle.std.specs.List.{range_with_len}
+use Rattle.std.specs.List.{All, range_with_len}
 use Rattle.stp_topology.specs.declared.network.Network.{Network}
 use Rattle.stp_topology.specs.Network.{name_of}
 use Rattle.agent_link.specs.Link.{Half, OutHalf}
 use Rattle.agent_node.specs.Doors.{Plug, others, plug_to, crossed}
 use Rattle.agent_node.specs.Seat.{Seat}
-use Rattle.agent_node.specs.Openings.{empty_door, others_of, seat_of, nothing_planned}
+use Rattle.agent_link.specs.Plans.{Plan}
+use Rattle.agent_node.specs.Openings.{Plans, opened, others_of, seat_of}
 use Rattle.agent_node.specs.Kept.{Kept, plug, plugs_of, AreLinked, IsSameAgent}
 use Rattle.agent_threads.specs.Nets.{seats, numbers, AreOf, AreUsable, IsAbsent, AreApart, IsLinkedToAll, AreWired, EachIs}
 use Rattle.net_run.specs.declared.joints.Joint.{Joint}
-use Rattle.net_run.specs.Joints.{wires, ArePaired, AreOwn}
+use Rattle.net_run.specs.Joints.{wires, ArePaired, IsPlannedJoint, ArePlannable, AreOwn}
 use Rattle.net_run.specs.Begun.{IsBegun, IsFresh, AreBegun, AreListed, AreOpened, faults_among, stops_among}
 
 pub begun_of : (t : Network) (a : ℕ) (outs : List OutHalf) (incs : List Half) (rest left all : List Joint) (k : Kept) → AreOwn t a outs incs rest left → ((b : ℕ) → wires a b left ≡ wires a b all)
-    → IsFresh t a (plugs_of (others_of t a) outs incs) k → IsBegun t all a k
-begun_of t a outs incs rest left all k o w f = record {
-  seat = f.seat;
+    → ((plans : Plans) → All (IsPlannedJoint plans) all → All (IsPlannedJoint plans) left) → ArePlannable all
+    → IsFresh t a outs (plugs_of (others_of t a) outs incs) k → IsBegun t all a k
+begun_of t a outs incs rest left all k o w behind some f = record {
+  number = ap (λ (s : Seat). s.number) (f.seat some.0 (o.planned some.0 (behind some.0 some.1)));
+  seat = λ plans p. f.seat plans (o.planned plans (behind plans p));
   network = f.network;
-  plugs = λ b.
-      ap (λ (s : Seat). plug_to b k.plugs) f.seat
-      ∙ (ap (λ (ps : List Plug). plug_to b ps) f.plugs ∙ (o.own b ∙ w b));
+  plugs = λ b. ap (λ (ps : List Plug). plug_to b ps) f.plugs ∙ (o.own b ∙ w b);
   fault = f.fault;
   faults = f.faults;
   stops = f.stops;
@@ -32,13 +33,13 @@ begun_more t all a [] k bs b = (subst (λ (n : ℕ). IsBegun t all n k) (let e :
 begun_more t all a (x ∷ xs) k bs b = (bs.0, begun_more t all (suc a) xs k bs.1 (subst (λ (n : ℕ). IsBegun t all n k) (let e : a + suc (length xs) ≡ suc a + length xs = omega arith in e) b))
 
 pub number_is : (t : Network) (all : List Joint) (a : ℕ) (k : Kept) → IsBegun t all a k → k.seat.number ≡ a
-number_is t all a k b = ap (λ (s : Seat). s.number) b.seat
+number_is t all a k b = b.number
 
 ---- All of them
 
-seats_are : (t : Network) (all : List Joint) (a : ℕ) (ks : List Kept) → AreBegun t all a ks → seats ks ≡ map (seat_of t nothing_planned) (range_with_len a (length ks))
-seats_are t all a [] bs = refl
-seats_are t all a (k ∷ ks) bs = ap₂ (λ (s : Seat) (ss : List Seat). s ∷ ss) bs.0.seat (seats_are t all (suc a) ks bs.1 ∙ ap (λ n. map (seat_of t nothing_planned) (range_with_len n (length ks))) (sym (add-one a)))
+seats_are : (t : Network) (plans : Plans) (all : List Joint) (a : ℕ) (ks : List Kept) → All (IsPlannedJoint plans) all → AreBegun t all a ks → seats ks ≡ map (seat_of t plans) (range_with_len a (length ks))
+seats_are t plans all a [] p bs = refl
+seats_are t plans all a (k ∷ ks) p bs = ap₂ (λ (s : Seat) (ss : List Seat). s ∷ ss) (bs.0.seat plans p) (seats_are t plans all (suc a) ks p bs.1 ∙ ap (λ n. map (seat_of t plans) (range_with_len n (length ks))) (sym (add-one a)))
 
 of_are : (t : Network) (all : List Joint) (a : ℕ) (ks : List Kept) → AreBegun t all a ks → AreOf t ks
 of_are t all a [] bs = tt
@@ -60,17 +61,17 @@ later : (t : Network) (all : List Joint) (n a : ℕ) (ks : List Kept) → n < a 
 later t all n a [] h bs = tt
 later t all n a (k ∷ ks) h bs = (λ q. absurd (omega (arith, h, q, number_is t all a k bs.0)), later t all n (suc a) ks (omega (arith, h)) bs.1)
 
-others_are : (ns : List ℕ) → others (map empty_door ns) ≡ ns
-others_are [] = refl
-others_are (n ∷ ns) = ap (λ ms. n ∷ ms) (others_are ns)
+others_are : (plans : ℕ → Plan) (ns : List ℕ) → others (map (opened plans) ns) ≡ ns
+others_are plans [] = refl
+others_are plans (n ∷ ns) = ap (λ ms. n ∷ ms) (others_are plans ns)
 
-apart_are : (t : Network) (all : List Joint) (a : ℕ) (ks : List Kept) → AreBegun t all a ks → AreApart (seats ks)
-apart_are t all a [] bs = tt
-apart_are t all a (k ∷ ks) bs = (
+apart_are : (t : Network) (plans : Plans) (all : List Joint) (a : ℕ) (ks : List Kept) → All (IsPlannedJoint plans) all → AreBegun t all a ks → AreApart (seats ks)
+apart_are t plans all a [] p bs = tt
+apart_are t plans all a (k ∷ ks) p bs = (
   subst (λ (n : ℕ). IsAbsent n (numbers (seats ks))) (sym (number_is t all a k bs.0)) (later t all a (suc a) ks (omega arith) bs.1),
   (
-    subst (λ (s : Seat). IsAbsent s.number (others s.doors)) (sym bs.0.seat) (subst (λ (ns : List ℕ). IsAbsent a ns) (sym (others_are (others_of t a))) bs.0.alone),
-    apart_are t all (suc a) ks bs.1,
+    subst (λ (s : Seat). IsAbsent s.number (others s.doors)) (sym (bs.0.seat plans p)) (subst (λ (ns : List ℕ). IsAbsent a ns) (sym (others_are (plans a) (others_of t a))) bs.0.alone),
+    apart_are t plans all (suc a) ks p bs.1,
   ),
 )
 
@@ -87,10 +88,10 @@ wired_are : (t : Network) (all : List Joint) (a : ℕ) (ks : List Kept) → AreP
 wired_are t all a [] p bs = tt
 wired_are t all a (k ∷ ks) p bs = (linked_all t all a (suc a) k ks p bs.0 bs.1, wired_are t all (suc a) ks p bs.1)
 
-pub opened_are : (t : Network) (all : List Joint) (ks : List Kept) → ArePaired all → AreBegun t all 0 ks → length ks ≡ length t.agents → AreOpened t ks
-opened_are t all ks p bs e = record {
-  seats = seats_are t all 0 ks bs ∙ ap (λ n. map (seat_of t nothing_planned) (range_with_len 0 n)) e;
-  net = record { usable = usable_are t all 0 ks bs; apart = apart_are t all 0 ks bs; wired = wired_are t all 0 ks p bs };
+pub opened_are : (t : Network) (plans : Plans) (all : List Joint) (ks : List Kept) → ArePaired all → All (IsPlannedJoint plans) all → AreBegun t all 0 ks → length ks ≡ length t.agents → AreOpened t plans ks
+opened_are t plans all ks p q bs e = record {
+  seats = seats_are t plans all 0 ks q bs ∙ ap (λ n. map (seat_of t plans) (range_with_len 0 n)) e;
+  net = record { usable = usable_are t all 0 ks bs; apart = apart_are t plans all 0 ks q bs; wired = wired_are t all 0 ks p bs };
   of = of_are t all 0 ks bs;
   faults = none_failed t all 0 ks bs;
   stops = none_stopped t all 0 ks bs;

@@ -15,7 +15,7 @@ use Rattle.stp_topology.specs.Network.{agent_of, name_of}
 use Rattle.stp_topology.specs.Laws.{IsWellFormed}
 use Rattle.nsi_script.specs.declared.script.Group.{Group}
 use Rattle.nsi_agent.specs.Homes.{home_in}
-use Rattle.agent_node.specs.Openings.{seat_of, nothing_planned}
+use Rattle.agent_node.specs.Openings.{Plans, seat_of}
 use Rattle.agent_node.specs.Kept.{Kept, IsSameAgent}
 use Rattle.nsi_play.specs.Rounds.{Net, events_of}
 use Rattle.nsi_play.specs.Play.{IsPlayFrom}
@@ -67,17 +67,17 @@ journal_is a es on = journals empty a es on
 
 ---- Before anything has happened
 
-none_told : (t : Network) (ns : List ℕ) → events_of (map (seat_of t nothing_planned) ns) ≡ []
-none_told t [] = refl
-none_told t (n ∷ ns) = none_told t ns
+none_told : (t : Network) (plans : Plans) (ns : List ℕ) → events_of (map (seat_of t plans) ns) ≡ []
+none_told t plans [] = refl
+none_told t plans (n ∷ ns) = none_told t plans ns
 
-none_fresh : (t : Network) (ns : List ℕ) → AllSynced (map (seat_of t nothing_planned) ns)
-none_fresh t [] = tt
-none_fresh t (n ∷ ns) = (refl, none_fresh t ns)
+none_fresh : (t : Network) (plans : Plans) (ns : List ℕ) → AllSynced (map (seat_of t plans) ns)
+none_fresh t plans [] = tt
+none_fresh t plans (n ∷ ns) = (refl, none_fresh t plans ns)
 
-numbers_are : (t : Network) (ns : List ℕ) → numbers (map (seat_of t nothing_planned) ns) ≡ ns
-numbers_are t [] = refl
-numbers_are t (n ∷ ns) = ap (λ (xs : List ℕ). n ∷ xs) (numbers_are t ns)
+numbers_are : (t : Network) (plans : Plans) (ns : List ℕ) → numbers (map (seat_of t plans) ns) ≡ ns
+numbers_are t plans [] = refl
+numbers_are t plans (n ∷ ns) = ap (λ (xs : List ℕ). n ∷ xs) (numbers_are t plans ns)
 
 ---- What their journals keep
 
@@ -181,27 +181,27 @@ same_numbers (x ∷ xs) (y ∷ ys) s = ap₂ ◌∷◌ s.0.number (same_numbers 
 
 ---- A run
 
-module _ (t : Network) (old new : List ℕ → Option (List ℕ)) (listed : List ℕ → Bool) (olds news : List Kept) (formed : IsWellFormed t) (opened : AreOpened t olds) (named : AreListed listed t olds) (none : AreEmpty t old olds) (usable : AreUsable news)
+module _ (t : Network) (plans : Plans) (old new : List ℕ → Option (List ℕ)) (listed : List ℕ → Bool) (olds news : List Kept) (formed : IsWellFormed t) (opened : AreOpened t plans olds) (named : AreListed listed t olds) (none : AreEmpty t old olds) (usable : AreUsable news)
     (same : EachIs IsSameAgent olds news) (returned : AreToReturn t news → AreRead t new news) where
   holds_of : (events : List Event) → HaveTaken events olds news → AllSynced (seats news) → AreTold t old → HoldsOf t new events
   holds_of events taken synced told = λ a h.
-      let kept : AreKept events news = are_kept t old listed events olds news told named none (subst AllSynced (sym opened.seats) (none_fresh t (range_with_len 0 (length t.agents)))) synced taken.each in
+      let kept : AreKept events news = are_kept t old listed events olds news told named none (subst AllSynced (sym opened.seats) (none_fresh t plans (range_with_len 0 (length t.agents)))) synced taken.each in
       let read : AreRead t new news = returned (record { usable = usable; tell = kept_tell events news kept; apart = named_apart t formed listed olds news named same opened.net.apart }) in
-      let are : numbers (seats news) ≡ range_with_len 0 (length t.agents) = same_numbers olds news same ∙ (ap numbers opened.seats ∙ numbers_are t (range_with_len 0 (length t.agents))) in
+      let are : numbers (seats news) ≡ range_with_len 0 (length t.agents) = same_numbers olds news same ∙ (ap numbers opened.seats ∙ numbers_are t plans (range_with_len 0 (length t.agents))) in
       let held : HoldsAt t new events a = held_at t new events (length t.agents) 0 a (subst (AllHeld t new events) are (all_held t new events news kept read)) (omega arith) (omega (arith, h)) in
       (held.0, held.1, held.2 ∙ ap (λ (es : List Entry). Ok es) (sym (journal_is a events taken.on)))
 
-  holds_journals : OnePlay → RoutesExist → (script : List Group) → KeepPlay script olds news → HoldsJournals t script old new
+  holds_journals : OnePlay → RoutesExist → (script : List Group) → KeepPlay script olds news → HoldsJournals t plans script old new
   holds_journals one exist script p = λ events last play told.
       let r = exist t in
       let k = p.2 t opened.of r.0 r.1 in
-      let start : events_of (seats olds) ≡ [] = ap events_of opened.seats ∙ none_told t (range_with_len 0 (length t.agents)) in
-      let synced : AllSynced (seats olds) = subst AllSynced (sym opened.seats) (none_fresh t (range_with_len 0 (length t.agents))) in
-      let played : IsPlayFrom script (home_in t r.0) (opening t) p.0 p.1 = subst (λ (net : Net). IsPlayFrom script (home_in t r.0) net p.0 p.1) opened.seats k.0 in
-      let same : p.0 ≡ events = (one script (home_in t r.0) (opening t) p.0 events p.1 last played (play r.0 r.1)).0 in
+      let start : events_of (seats olds) ≡ [] = ap events_of opened.seats ∙ none_told t plans (range_with_len 0 (length t.agents)) in
+      let synced : AllSynced (seats olds) = subst AllSynced (sym opened.seats) (none_fresh t plans (range_with_len 0 (length t.agents))) in
+      let played : IsPlayFrom script (home_in t r.0) (opening t plans) p.0 p.1 = subst (λ (net : Net). IsPlayFrom script (home_in t r.0) net p.0 p.1) opened.seats k.0 in
+      let same : p.0 ≡ events = (one script (home_in t r.0) (opening t plans) p.0 events p.1 last played (play r.0 r.1)).0 in
       subst (λ (es : List Event). HoldsOf t new es) same (holds_of p.0 (k.1 start) (k.2 synced) told)
 
-pub run_holds : OnePlay → RoutesExist → (t : Network) (old new : List ℕ → Option (List ℕ)) (listed : List ℕ → Bool) (gs hs : List Group) (olds news : List Kept) (r : Result Totals RunFault) → hs ≡ gs → IsWellFormed t → AreOpened t olds → AreListed listed t olds → AreEmpty t old olds
-    → EachIs IsSameAgent olds news → (AreToReturn t news → AreRead t new news) → OnOk r (AreUsable news) → OnOk r (KeepPlay hs olds news) → OnOk r (HoldsJournals t gs old new)
-run_holds one exist t old new listed gs hs olds news (Ok n) e formed opened named none same returned usable p = subst (λ (xs : List Group). HoldsJournals t xs old new) e (holds_journals t old new listed olds news formed opened named none usable same returned one exist hs p)
-run_holds one exist t old new listed gs hs olds news (Err f) e formed opened named none same returned usable p = tt
+pub run_holds : OnePlay → RoutesExist → (t : Network) (plans : Plans) (old new : List ℕ → Option (List ℕ)) (listed : List ℕ → Bool) (gs hs : List Group) (olds news : List Kept) (r : Result Totals RunFault) → hs ≡ gs → IsWellFormed t → AreOpened t plans olds → AreListed listed t olds → AreEmpty t old olds
+    → EachIs IsSameAgent olds news → (AreToReturn t news → AreRead t new news) → OnOk r (AreUsable news) → OnOk r (KeepPlay hs olds news) → OnOk r (HoldsJournals t plans gs old new)
+run_holds one exist t plans old new listed gs hs olds news (Ok n) e formed opened named none same returned usable p = subst (λ (xs : List Group). HoldsJournals t plans xs old new) e (holds_journals t plans old new listed olds news formed opened named none usable same returned one exist hs p)
+run_holds one exist t plans old new listed gs hs olds news (Err f) e formed opened named none same returned usable p = tt

@@ -3,7 +3,7 @@ use Rattle.std.proofs.Common.{ℕ, ◌≡◌, Bool, List, [], ◌∷◌, ◌++�
 use Rattle.nsi_primitive.specs.declared.entry.Event.{Event}
 use Rattle.stp_topology.specs.declared.network.Network.{Network}
 use Rattle.agent_node.specs.Seat.{Seat}
-use Rattle.agent_node.specs.Openings.{agents, seat_of, nothing_planned}
+use Rattle.agent_node.specs.Openings.{Plans, agents, seat_of}
 use Rattle.agent_node.specs.Kept.{Kept}
 use Rattle.nsi_play.specs.Rounds.{Net, events_of}
 use Rattle.quiet_rounds.specs.Bounded.{IsBounded}
@@ -17,12 +17,12 @@ record AreBlank (ks : List Kept) : Type 0 where
   clocks : AreUpTo 0 ks
   told : events_of (seats ks) ≡ []
 
-blank_seats : (t : Network) (ns : List ℕ) (ks : List Kept) → seats ks ≡ map (seat_of t nothing_planned) ns → AreBlank ks
-blank_seats t ns [] e = record { none = tt; clocks = tt; told = refl }
-blank_seats t [] (k ∷ ks) e = absurd (cc)
-blank_seats t (n ∷ ns) (k ∷ ks) e =
-    let is : k.seat ≡ seat_of t nothing_planned n = cc in
-    let rest = blank_seats t ns ks (cc) in
+blank_seats : (t : Network) (plans : Plans) (ns : List ℕ) (ks : List Kept) → seats ks ≡ map (seat_of t plans) ns → AreBlank ks
+blank_seats t plans ns [] e = record { none = tt; clocks = tt; told = refl }
+blank_seats t plans [] (k ∷ ks) e = absurd (cc)
+blank_seats t plans (n ∷ ns) (k ∷ ks) e =
+    let is : k.seat ≡ seat_of t plans n = cc in
+    let rest = blank_seats t plans ns ks (cc) in
     let taken : k.seat.state.base.taken ≡ 0 = ap (λ (s : Seat). s.state.base.taken) is in
     let now : k.seat.state.base.now ≡ 0 = ap (λ (s : Seat). s.state.base.now) is in
     record {
@@ -35,8 +35,8 @@ numbered : (listed : List ℕ → Bool) (t : Network) (ks : List Kept) → AreLi
 numbered listed t [] l = tt
 numbered listed t (k ∷ ks) l = (l.0.0, numbered listed t ks l.1)
 
-pub ready_of : OpeningsAreBounded → (listed : List ℕ → Bool) (t : Network) (ks : List Kept) → AreOpened t ks → AreListed listed t ks → AreReady t ks
-ready_of bounded listed t ks o l =
-    let blank = blank_seats t (agents t) ks o.seats in
-    let few : IsBounded (seats ks) = subst (λ (net : Net). IsBounded net) (sym o.seats) (bounded t) in
+pub ready_of : OpeningsAreBounded → (listed : List ℕ → Bool) (t : Network) (plans : Plans) (ks : List Kept) → AreOpened t plans ks → AreListed listed t ks → AreReady t ks
+ready_of bounded listed t plans ks o l =
+    let blank = blank_seats t plans (agents t) ks o.seats in
+    let few : IsBounded (seats ks) = subst (λ (net : Net). IsBounded net) (sym o.seats) (bounded t plans) in
     record { numbers = numbered listed t ks l; none = blank.none; clocks = blank.clocks; told = blank.told; bounded = few }

@@ -1,16 +1,17 @@
 -- An agent's ends among all.
 use Rattle.std.proofs.Common.{ℕ, ◌≡◌, ◌==◌, ◌&&◌, Bool, true, false, cond, List, [], ◌∷◌, ◌++◌, append_assoc, append-nil, Option, Some, None, refl, sym, ap, ap₂, ◌∙◌, subst, arith, length, length-append, eqb-true, ne_eqb}
 use Rattle.std.specs.List.{All}
+use Rattle.std.proofs.lemmas.List.{map_push}
 use Rattle.std.proofs.lemmas.List.Elements.{All-nil, All-push, All-head, All-tail}
 use Rattle.stp_topology.specs.declared.network.Network.{Network}
 use Rattle.agent_link.specs.Link.{Half, OutHalf, Wire}
 use Rattle.agent_link.specs.Plans.{Plan}
 use Rattle.agent_node.specs.Doors.{plug_to}
-use Rattle.agent_node.specs.Openings.{others_of, nothing_planned}
-use Rattle.agent_node.specs.Kept.{AreEnds, IsShut, KnowsNone, ArePlanned, plugs_of}
+use Rattle.agent_node.specs.Openings.{others_of}
+use Rattle.agent_node.specs.Kept.{AreEnds, IsShut, KnowsNone, ArePlanned, plan_of, plugs_of}
 use Rattle.agent_threads.specs.Nets.{IsAbsent}
 use Rattle.net_run.specs.declared.joints.Joint.{Joint}
-use Rattle.net_run.specs.Joints.{wires, ends_of, IsPlain, IsShutJoint, or_else, IsSplit, AreOwn}
+use Rattle.net_run.specs.Joints.{wires, ends_of, IsShutJoint, IsPlannedJoint, or_else, IsSplit, AreOwn}
 use Rattle.net_run.proofs.Joining.{cond_or, cond_step, or_assoc, or_none, wires_append}
 use Rattle.net_run.proofs.Ends.{ends_append}
 
@@ -33,7 +34,7 @@ none_own b o = refl
 pub split_none : (a : ℕ) (all : List Joint) → All IsShutJoint all → IsSplit a [] [] [] [] all all
 split_none a all s = record {
   ends = record { outs = refl; incs = refl; shut = All-nil IsShut; known = All-nil KnowsNone };
-  plain = All-nil IsPlain;
+  planned = λ plans p. record { own = refl; left = All-nil (IsPlannedJoint plans); behind = p };
   own = λ b. none_own b (wires a b all);
   left = λ b c n. refl;
   shut = All-nil IsShutJoint;
@@ -52,7 +53,14 @@ split_own a j os hs is rest todo all e s = record {
     shut = All-push IsShut hs j.out s.ends.shut (All-head IsShutJoint j todo s.behind).out;
     known = All-push KnowsNone is j.inc s.ends.known (All-head IsShutJoint j todo s.behind).inc;
   };
-  plain = All-push IsPlain hs j.out s.plain (All-head IsShutJoint j todo s.behind).plain;
+  planned = λ plans p.
+      let q = s.planned plans p in
+      let here : j.out.plan ≡ plans a j.other = All-head (IsPlannedJoint plans) j todo q.behind ∙ ap (λ n. plans n j.other) (eqb-true j.at a e) in
+      record {
+        own = map_push plan_of hs j.out ∙ (ap₂ (λ (ps qs : List Plan). ps ++ qs) q.own (ap (λ (z : Plan). z ∷ []) here) ∙ sym (map_push (plans a) os j.other));
+        left = q.left;
+        behind = All-tail (IsPlannedJoint plans) j todo q.behind;
+      };
   own = λ b.
       let w : Wire × Wire = (j.out.wire, j.inc.wire) in
       let P = plug_to b (plugs_of os hs is) in
@@ -78,7 +86,13 @@ pub split_rest : (a : ℕ) (j : Joint) (os : List ℕ) (hs : List OutHalf) (is :
     → IsSplit a os hs is (rest ++ j ∷ []) todo all
 split_rest a j os hs is rest todo all e s = record {
   ends = s.ends;
-  plain = s.plain;
+  planned = λ plans p.
+      let q = s.planned plans p in
+      record {
+        own = q.own;
+        left = All-push (IsPlannedJoint plans) rest j q.left (All-head (IsPlannedJoint plans) j todo q.behind);
+        behind = All-tail (IsPlannedJoint plans) j todo q.behind;
+      };
   own = λ b.
       let w : Wire × Wire = (j.out.wire, j.inc.wire) in
       ap (λ o. or_else (plug_to b (plugs_of os hs is)) o) (ap (λ (z : Bool). cond (z && (j.other == b)) (Some w) (wires a b todo)) (sym e)) ∙ s.own b;
@@ -96,18 +110,12 @@ split_rest a j os hs is rest todo all e s = record {
       ∙ (ap (λ (ns : List ℕ). ends_of b rest ++ ns) (sym (ends_append b (j ∷ []) todo)) ∙ s.of_others b n));
 }
 
--- nothing is planned for any of them
-planned_none : (a : ℕ) (os : List ℕ) (hs : List OutHalf) → length hs ≡ length os → All IsPlain hs → ArePlanned (nothing_planned a) os hs
-planned_none a [] [] e all = refl
-planned_none a [] (h ∷ hs) e all = absurd (omega (arith, e))
-planned_none a (o ∷ os) [] e all = absurd (omega (arith, e))
-planned_none a (o ∷ os) (h ∷ hs) e all = ap₂ (λ (p : Plan) (ps : List Plan). p ∷ ps) (All-head IsPlain h hs all) (planned_none a os hs (omega (arith, e)) (All-tail IsPlain h hs all))
-
 pub own_of : (t : Network) (a : ℕ) (os : List ℕ) (hs : List OutHalf) (is : List Half) (rest all : List Joint) → IsSplit a os hs is rest [] all → os ≡ others_of t a → IsAbsent a (others_of t a)
     → AreOwn t a hs is rest all
 own_of t a os hs is rest all s e n = record {
   ends = subst (λ (ns : List ℕ). AreEnds ns hs is) e s.ends;
-  planned = subst (λ (ns : List ℕ). ArePlanned (nothing_planned a) ns hs) e (planned_none a os hs s.ends.outs s.plain);
+  planned = λ plans p. subst (λ (ns : List ℕ). ArePlanned (plans a) ns hs) e (s.planned plans p).own;
+  left_planned = λ plans p. (s.planned plans p).left;
   own = λ b. ap (λ (ns : List ℕ). plug_to b (plugs_of ns hs is)) (sym e) ∙ (sym (or_none (plug_to b (plugs_of os hs is))) ∙ s.own b);
   left = λ b c m. sym (or_none (wires b c rest)) ∙ s.left b c m;
   shut = s.shut;

@@ -1,19 +1,22 @@
 -- Agents that were begun on the disks of a shelf.
+use Rattle.std.specs.List.{All}
 use Rattle.std.specs.Prelude.{ℕ, suc, ◌≡◌, ◌<◌, ◌+◌, true, Bool, List, [], ◌∷◌, length, None}
 use Rattle.stp_topology.specs.declared.network.Network.{Network}
 use Rattle.stp_topology.specs.Network.{name_of}
-use Rattle.agent_node.specs.Openings.{others_of, seat_of, nothing_planned}
+use Rattle.agent_link.specs.Link.{OutHalf}
+use Rattle.agent_node.specs.Openings.{Plans, others_of, seat_of}
 use Rattle.disk_journal.specs.declared.opening.StartCause.{StartCause}
-use Rattle.agent_node.specs.Kept.{Kept, Plug, plug}
+use Rattle.agent_node.specs.Kept.{Kept, Plug, ArePlanned, plug}
 use Rattle.nsi_play.specs.Openings.{opening}
 use Rattle.agent_threads.specs.Nets.{seats, AreOf, AreNet, IsAbsent}
 use Rattle.agent_threads.specs.declared.fault.RunFault.{RunFault}
 use Rattle.net_run.specs.declared.joints.Joint.{Joint}
-use Rattle.net_run.specs.Joints.{wires}
+use Rattle.net_run.specs.Joints.{IsPlannedJoint, wires}
 
 -- an agent that has taken nothing, with ends from among these
 pub record IsBegun (t : Network) (all : List Joint) (a : ℕ) (k : Kept) : Type 0 where
-  pub seat : k.seat ≡ seat_of t nothing_planned a
+  pub number : k.seat.number ≡ a
+  pub seat : (plans : Plans) → All (IsPlannedJoint plans) all → k.seat ≡ seat_of t plans a
   pub network : k.network ≡ t
   pub plugs : (b : ℕ) → plug k b ≡ wires a b all
   pub fault : k.fault ≡ None
@@ -41,17 +44,17 @@ abbrev pub stops_among : List Kept → ℕ
 stops_among [] = 0
 stops_among (k ∷ ks) = k.meter.stops + stops_among ks
 
--- all agents of a topology before anything has happened
-pub record AreOpened (t : Network) (ks : List Kept) : Type 0 where
-  pub seats : seats ks ≡ opening t
+-- all agents of a topology before anything has happened, where this is planned for their links
+pub record AreOpened (t : Network) (plans : Plans) (ks : List Kept) : Type 0 where
+  pub seats : seats ks ≡ opening t plans
   pub net : AreNet ks
   pub of : AreOf t ks
   pub faults : faults_among ks ≡ 0
   pub stops : stops_among ks ≡ 0
 
--- an agent that has taken nothing, with these wires
-pub record IsFresh (t : Network) (a : ℕ) (made : List Plug) (k : Kept) : Type 0 where
-  pub seat : k.seat ≡ seat_of t nothing_planned a
+-- an agent that has taken nothing, with these ends of its links and their wires
+pub record IsFresh (t : Network) (a : ℕ) (outs : List OutHalf) (made : List Plug) (k : Kept) : Type 0 where
+  pub seat : (plans : Plans) → ArePlanned (plans a) (others_of t a) outs → k.seat ≡ seat_of t plans a
   pub network : k.network ≡ t
   pub plugs : k.plugs ≡ made
   pub fault : k.fault ≡ None

@@ -4,7 +4,7 @@ use Rattle.std.specs.List.{All, range_with_len}
 use Rattle.stp_topology.specs.declared.network.Network.{Network}
 use Rattle.agent_link.specs.Link.{Half, OutHalf, Wire}
 use Rattle.agent_node.specs.Doors.{plug_to, crossed}
-use Rattle.agent_node.specs.Openings.{are_linked, others_of, nothing_planned}
+use Rattle.agent_node.specs.Openings.{Plans, are_linked, others_of}
 use Rattle.agent_node.specs.Kept.{AreEnds, ArePlanned, plugs_of}
 use Rattle.agent_threads.specs.Nets.{IsAbsent}
 use Rattle.net_run.specs.declared.joints.Joint.{Joint}
@@ -40,14 +40,24 @@ ends_when linked n b = if nat_lt b n then filter (linked b) (range_with_len 0 n)
 abbrev pub AreJoined : Network → ℕ → List Joint → Type 0
 AreJoined t n js = (b : ℕ) → ends_of b js ≡ ends_when (are_linked t) n b
 
-abbrev pub IsPlain : OutHalf → Type 0
-IsPlain o = o.plan ≡ []
-
--- nothing went through, and nothing is planned
+-- nothing went through
 pub record IsShutJoint (j : Joint) : Type 0 where
   pub out : j.out.parcels ≡ []
   pub inc : j.inc.parcels ≡ []
-  pub plain : IsPlain j.out
+
+-- this is planned for what is put on it
+abbrev pub IsPlannedJoint : Plans → Joint → Type 0
+IsPlannedJoint plans j = j.out.plan ≡ plans j.at j.other
+
+-- something is planned for them
+abbrev pub ArePlannable : List Joint → Type 0
+ArePlannable js = (plans : Plans) × All (IsPlannedJoint plans) js
+
+-- where so it is for all, an agent's ends have its plans, and the others those of others
+pub record IsPlannedSplit (plans : Plans) (a : ℕ) (others : List ℕ) (outs : List OutHalf) (rest todo : List Joint) : Type 0 where
+  pub own : ArePlanned (plans a) others outs
+  pub left : All (IsPlannedJoint plans) rest
+  pub behind : All (IsPlannedJoint plans) todo
 
 -- the first of two that is there
 abbrev pub or_else : Option (Wire × Wire) → Option (Wire × Wire) → Option (Wire × Wire)
@@ -57,7 +67,7 @@ or_else (Some w) o = Some w
 -- An agent's ends were taken away, as far as these are still to be looked at.
 pub record IsSplit (a : ℕ) (others : List ℕ) (outs : List OutHalf) (incs : List Half) (rest todo all : List Joint) : Type 0 where
   pub ends : AreEnds others outs incs
-  pub plain : All IsPlain outs
+  pub planned : (plans : Plans) → All (IsPlannedJoint plans) all → IsPlannedSplit plans a others outs rest todo
   pub own : (b : ℕ) → or_else (plug_to b (plugs_of others outs incs)) (wires a b todo) ≡ wires a b all
   pub left : (b c : ℕ) → (b ≡ a → ⊥) → or_else (wires b c rest) (wires b c todo) ≡ wires b c all
   pub shut : All IsShutJoint rest
@@ -68,7 +78,8 @@ pub record IsSplit (a : ℕ) (others : List ℕ) (outs : List OutHalf) (incs : L
 -- these are an agent's ends, in the order of those that it has links to; the rest are those of others
 pub record AreOwn (t : Network) (a : ℕ) (outs : List OutHalf) (incs : List Half) (rest all : List Joint) : Type 0 where
   pub ends : AreEnds (others_of t a) outs incs
-  pub planned : ArePlanned (nothing_planned a) (others_of t a) outs
+  pub planned : (plans : Plans) → All (IsPlannedJoint plans) all → ArePlanned (plans a) (others_of t a) outs
+  pub left_planned : (plans : Plans) → All (IsPlannedJoint plans) all → All (IsPlannedJoint plans) rest
   pub own : (b : ℕ) → plug_to b (plugs_of (others_of t a) outs incs) ≡ wires a b all
   pub left : (b c : ℕ) → (b ≡ a → ⊥) → wires b c rest ≡ wires b c all
   pub shut : All IsShutJoint rest

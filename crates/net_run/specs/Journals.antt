@@ -8,6 +8,7 @@ use Rattle.stp_topology.specs.declared.network.Network.{Network}
 use Rattle.stp_topology.specs.Network.{name_of}
 use Rattle.nsi_script.specs.declared.script.Group.{Group}
 use Rattle.agent_node.specs.Kept.{Kept}
+use Rattle.nsi_play.specs.Openings.{Plans}
 use Rattle.nsi_play.specs.Rounds.{Net}
 use Rattle.nsi_play.specs.Play.{IsPlay}
 use Rattle.nsi_world.specs.Worlds.{empty}
@@ -67,5 +68,5 @@ HoldsOf t holds events =
     (a : ℕ) → a < length t.agents → (file : List ℕ) × (holds (name_of t a) ≡ Some file) × (recovers batch_of file ≡ Ok ((world_after empty events).journal a))
 
 -- Where the shelf told what it held, it holds each agent's journal of the play of the script.
-abbrev pub HoldsJournals : Network → List Group → (old new : List ℕ → Option (List ℕ)) → Type 0
-HoldsJournals t script old new = (events : List Event) (last : Net) → IsPlay t script events last → AreTold t old → HoldsOf t new events
+abbrev pub HoldsJournals : Network → Plans → List Group → (old new : List ℕ → Option (List ℕ)) → Type 0
+HoldsJournals t plans script old new = (events : List Event) (last : Net) → IsPlay t plans script events last → AreTold t old → HoldsOf t new events

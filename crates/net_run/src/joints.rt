@@ -3,11 +3,13 @@
 ghost use Rattle.std.specs.Prelude.{◌≡◌, ◌+◌, ◌≤◌, ◌<◌, ◌++◌, ℕ, [], length, IfOk, OnOk};
 ghost use Rattle.std.specs.List.{All};
 ghost use Rattle.agent_node.specs.Openings.{others_of};
-ghost use Rattle.net_run.specs.Joints.{ArePaired, AreJoined, IsShutJoint, IsSplit, AreOwn, ends_of, two};
+ghost use Rattle.nsi_play.specs.Openings.{plans_of};
+ghost use Rattle.net_run.specs.Joints.{ArePaired, AreJoined, IsShutJoint, IsPlannedJoint, IsSplit, AreOwn, ends_of, two};
 
-use agent_link::{Incoming, Outgoing, link};
+use agent_link::{Incoming, LinkFault, Outgoing, link};
 use agent_node::opening::others;
 use nsi_base::{AgentNo, List};
+use nsi_script::PlanLine;
 use std::alloc::{AllocError, Global};
 use stp_topology::Topology;
 
@@ -31,18 +33,46 @@ pub fn agent_at(place: usize) -> AgentNo
     }
 }
 
-/// Makes a link of each way between two agents.
-fn join(alloc: Global, a: AgentNo, b: AgentNo, joints: &mut Vec<Joint>) -> Result<(), AllocError>
+/// What the lines plan for the link from an agent to another one.
+fn plan_between(
+    alloc: Global,
+    lines: &[PlanLine],
+    from: AgentNo,
+    to: AgentNo,
+) -> Result<List<LinkFault>, AllocError>
+    ensures { IfOk result (λ plan. plan ≡ plans_of lines.now from to) }
+{
+    let mut plan = List::new(alloc);
+    for line in lines {
+        if line.from == from && line.to == to {
+            plan.push(line.fault)?;
+        }
+    }
+    Ok(plan)
+}
+
+/// Makes a link of each way between two agents, for which the lines plan what is lost and what comes twice.
+fn join(
+    alloc: Global,
+    lines: &[PlanLine],
+    a: AgentNo,
+    b: AgentNo,
+    joints: &mut Vec<Joint>,
+) -> Result<(), AllocError>
     requires apart { b < a }
     requires paired { ArePaired joints.old.items }
     requires shut { All IsShutJoint joints.old.items }
+    requires planned { All (IsPlannedJoint (plans_of lines.now)) joints.old.items }
     ensures paired { OnOk result (ArePaired joints.new.items) }
     ensures shut { OnOk result (All IsShutJoint joints.new.items) }
+    ensures planned { OnOk result (All (IsPlannedJoint (plans_of lines.now)) joints.new.items) }
     ensures ends { OnOk result ((c : ℕ) →
         ends_of c joints.new.items ≡ ends_of c joints.old.items ++ two a b c) }
 {
-    let (there, known_there) = link(alloc, List::new(alloc))?;
-    let (back, known_back) = link(alloc, List::new(alloc))?;
+    let plan_there = plan_between(alloc, lines, a, b)?;
+    let plan_back = plan_between(alloc, lines, b, a)?;
+    let (there, known_there) = link(alloc, plan_there)?;
+    let (back, known_back) = link(alloc, plan_back)?;
     joints.push(Joint {
         at: a,
         other: b,
@@ -62,36 +92,45 @@ fn join(alloc: Global, a: AgentNo, b: AgentNo, joints: &mut Vec<Joint>) -> Resul
 fn join_earlier(
     alloc: Global,
     topology: &Topology,
+    lines: &[PlanLine],
     agent: AgentNo,
     joints: &mut Vec<Joint>,
 ) -> Result<(), AllocError>
     requires within { agent < length topology.now.agents }
     requires paired { ArePaired joints.old.items }
     requires shut { All IsShutJoint joints.old.items }
+    requires planned { All (IsPlannedJoint (plans_of lines.now)) joints.old.items }
     requires joined { AreJoined topology.now agent joints.old.items }
     ensures paired { OnOk result (ArePaired joints.new.items) }
     ensures shut { OnOk result (All IsShutJoint joints.new.items) }
+    ensures planned { OnOk result (All (IsPlannedJoint (plans_of lines.now)) joints.new.items) }
     ensures joined { OnOk result (AreJoined topology.now (agent + 1) joints.new.items) }
 {
     topology.laws();
     for other in others(alloc, topology, agent)? {
         if other.get() < agent.get() {
-            join(alloc, agent, other, joints)?;
+            join(alloc, lines, agent, other, joints)?;
         }
     }
     Ok(())
 }
 
 /// Joins each two agents that have a link.
-pub fn join_all(alloc: Global, topology: &Topology) -> Result<Vec<Joint>, AllocError>
+pub fn join_all(
+    alloc: Global,
+    topology: &Topology,
+    lines: &[PlanLine],
+) -> Result<Vec<Joint>, AllocError>
     ensures paired { IfOk result (λ joints. ArePaired joints.items) }
     ensures shut { IfOk result (λ joints. All IsShutJoint joints.items) }
+    ensures planned { IfOk result
+        (λ joints. All (IsPlannedJoint (plans_of lines.now)) joints.items) }
     ensures joined { IfOk result
         (λ joints. AreJoined topology.now (length topology.now.agents) joints.items) }
 {
     let mut joints = Vec::new(alloc);
     for place in 0..topology.agents() {
-        join_earlier(alloc, topology, agent_at(place), &mut joints)?;
+        join_earlier(alloc, topology, lines, agent_at(place), &mut joints)?;
     }
     Ok(joints)
 }

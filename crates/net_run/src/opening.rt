@@ -3,9 +3,10 @@
 ghost use Rattle.std.specs.Prelude.{◌≡◌, ◌≤◌, ◌<◌, List, ℕ, true, [], length, Some, IfOk, IfErr, IfSome, OnOk};
 ghost use Rattle.std.specs.List.{All};
 ghost use Rattle.stp_topology.specs.Network.{name_of};
-ghost use Rattle.agent_node.specs.Openings.{others_of, nothing_planned};
-ghost use Rattle.agent_node.specs.Kept.{AreEnds, ArePlanned, plugs_of};
-ghost use Rattle.net_run.specs.Joints.{IsShutJoint, AreJoined};
+ghost use Rattle.agent_node.specs.Openings.{others_of};
+ghost use Rattle.agent_node.specs.Kept.{AreEnds, plugs_of};
+ghost use Rattle.nsi_play.specs.Openings.{plans_of};
+ghost use Rattle.net_run.specs.Joints.{IsShutJoint, ArePlannable, AreJoined};
 ghost use Rattle.net_run.specs.Begun.{IsFresh, AreBegun, AreListed, AreOpened, fault_of};
 ghost use Rattle.net_run.specs.Journals.{no_entries, AreEmpty};
 ghost use Rattle.net_run.specs.Shelves.{IsStartFault};
@@ -18,6 +19,7 @@ use agent_threads::RunFault;
 use disk_journal::{DiskJournal, StartCause};
 use nsi_base::{AgentNo, List};
 use nsi_disk::{Shelf, ShelfError};
+use nsi_script::PlanLine;
 use std::alloc::Global;
 use stp_topology::Topology;
 
@@ -43,8 +45,7 @@ where
     H::Disk: Drop,
     requires within { agent < length topology.now.agents }
     requires ends { AreEnds (others_of topology.now agent) outgoing incoming }
-    requires planned { ArePlanned (nothing_planned agent) (others_of topology.now agent) outgoing }
-    ensures fresh { IfOk result (λ n. IsFresh topology.now agent
+    ensures fresh { IfOk result (λ n. IsFresh topology.now agent outgoing
         (plugs_of (others_of topology.now agent) outgoing incoming) n) }
     ensures empty { IfOk result (λ n. IfSome (H.holds shelf.old (name_of topology.now agent))
         (λ bytes. n.kept ≡ Some no_entries)) }
@@ -83,6 +84,7 @@ where
     H::Disk: Drop,
     requires none { nodes.old.items ≡ [] }
     requires shut { All IsShutJoint joints.items }
+    requires planned { ArePlannable joints.items }
     requires joined { AreJoined topology.now (length topology.now.agents) joints.items }
     ensures begun { AreBegun topology.now joints.items 0 nodes.new.items }
     ensures few { length nodes.new.items ≤ length topology.now.agents }
@@ -111,16 +113,18 @@ where
     Ok(())
 }
 
-/// Begins the agents of a topology, each on the disk of its name, which is emptied, and joins them by links. On a fault each disk
-/// that was fetched is given back.
+/// Begins the agents of a topology, each on the disk of its name, which is emptied, and joins them by links, for which the lines plan
+/// what is lost and what comes twice. On a fault each disk that was fetched is given back.
 pub fn open_net<'t, H: Shelf>(
     alloc: Global,
     topology: &'t Topology,
+    lines: &[PlanLine],
     shelf: &mut H,
 ) -> Result<Vec<Node<'t, DiskJournal<H::Disk>>>, RunFault>
 where
     H::Disk: Drop,
-    ensures opened { IfOk result (λ nodes. AreOpened topology.now nodes.items) }
+    ensures opened { IfOk result
+        (λ nodes. AreOpened topology.now (plans_of lines.now) nodes.items) }
     ensures empty { IfOk result (λ nodes. AreEmpty topology.now (H.holds shelf.old) nodes.items) }
     ensures listed { IfOk result
         (λ nodes. AreListed (H.listed shelf.new) topology.now nodes.items) }
@@ -129,7 +133,7 @@ where
     ensures cause { IfErr result (IsStartFault (length topology.now.agents)
         (H.faults shelf.old) (H.faults shelf.new) (H.stops shelf.old) (H.stops shelf.new)) }
 {
-    let joints = join_all(alloc, topology)?;
+    let joints = join_all(alloc, topology, lines)?;
     let mut nodes = Vec::new(alloc);
     match begin_all(alloc, topology, joints, &mut nodes, shelf) {
         Ok(()) => Ok(nodes),

@@ -2,6 +2,7 @@
 
 ghost use Rattle.std.specs.Prelude.{◌≡◌, ◌≤◌, ◌<◌, ℕ, length, IfOk, OnOk, OnErr, IsErrOf};
 ghost use Rattle.nsi_script.specs.Fits.{Fits};
+ghost use Rattle.nsi_play.specs.Openings.{plans_of};
 ghost use Rattle.net_run.specs.Worlds.{WritesPlay, WritesTooLong, WritesGroups, WritesSomeOfPlay};
 ghost use Rattle.net_run.specs.Journals.{HoldsJournals};
 ghost use Rattle.net_run.specs.Shelves.{HasBroken, IsQuiet};
@@ -19,8 +20,8 @@ use run_totals::Totals;
 use std::thread::Threads;
 use stp_topology::Topology;
 
-/// Plays the groups of a script with the agents of a topology, each round by so many workers at most. Their journals are kept on the
-/// disks of their names, and begin empty. What is wanted of each group is written in its end. It answers the numbers of
+/// Plays the groups of a script with the agents of a topology, each round by so many workers at most. Their links lose and repeat what
+/// the script plans. Their journals are kept on the disks of their names, and begin empty. What is wanted of each group is written in its end. It answers the numbers of
 /// all. The disks are given back, however the run ends.
 pub fn run_world<R: Threads + Sync, K: Sink, H: Shelf>(
     resources: &Resources<'_, R>,
@@ -36,18 +37,22 @@ where
     requires fits { Fits topology.now script.now }
 
     // What is wanted of the play is written.
-    ensures done { IfOk result (λ n. WritesPlay topology.now options script.now.groups
+    ensures done { IfOk result (λ n. WritesPlay topology.now options
+        (plans_of script.now.lose) script.now.groups
         (K.content out.old) (K.content out.new) n) }
 
     // It is too long only where the play passes the limit, and then the groups that fit were written.
-    ensures long { IsErrOf result RunFault.Long → WritesTooLong topology.now options script.now.groups
+    ensures long { IsErrOf result RunFault.Long → WritesTooLong topology.now options
+        (plans_of script.now.lose) script.now.groups
         (K.content out.old) (K.content out.new) }
 
     // Another fault comes only from outside. Where a disk has failed, whole groups were written; else a front of them.
     ensures broken { (a : ℕ) → IsErrOf result (RunFault.DiskFault a) →
-        (a < length topology.now.agents) × WritesGroups topology.now options script.now.groups
+        (a < length topology.now.agents) × WritesGroups topology.now options
+        (plans_of script.now.lose) script.now.groups
         (K.content out.old) (K.content out.new) }
-    ensures front { OnErr result (WritesSomeOfPlay topology.now options script.now.groups
+    ensures front { OnErr result (WritesSomeOfPlay topology.now options
+        (plans_of script.now.lose) script.now.groups
         (K.content out.old) (K.content out.new)) }
     ensures disk { (a : ℕ) → IsErrOf result (RunFault.DiskFault a) →
         HasBroken (H.faults shelf.old) (H.faults shelf.new)
@@ -61,14 +66,15 @@ where
         K.faults out.new ≡ K.faults out.old }
 
     // The disk of each agent reads as its journal of the play.
-    ensures journals { OnOk result (HoldsJournals topology.now script.now.groups
+    ensures journals { OnOk result (HoldsJournals topology.now
+        (plans_of script.now.lose) script.now.groups
         (H.holds shelf.old) (H.holds shelf.new)) }
 {
     topology.laws();
     routes_exist();
     one_play();
     nets_are_bounded();
-    let mut nodes = match open_net(resources.alloc, topology, shelf) {
+    let mut nodes = match open_net(resources.alloc, topology, script.lose.items(), shelf) {
         Ok(nodes) => nodes,
         Err(fault) => return Err(fault),
     };

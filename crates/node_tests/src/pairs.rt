@@ -173,7 +173,7 @@ fn ask_at<J: Journal + Drop>(
 }
 
 /// A reserve, until both are quiet.
-#[tactic(auto, using(crate::proofs::Pairing::linked_still))]
+#[tactic(auto, using(agent_node::proofs::Pairing::linked_still))]
 fn play<'t, J: Journal + Drop>(
     alloc: Global,
     topology: &Topology,

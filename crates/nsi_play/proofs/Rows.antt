@@ -10,6 +10,7 @@ use Rattle.nsi_primitive.specs.declared.entry.Event.{Event}
 use Rattle.nsi_primitive.specs.declared.entry.Happening.{Happening}
 use Rattle.nsi_primitive.specs.declared.entry.Input.{Input}
 use Rattle.nsi_primitive.specs.declared.kind.Directionality.{Directionality}
+use Rattle.nsi_primitive.specs.declared.kind.Kind.{Kind}
 use Rattle.nsi_primitive.specs.declared.message.Body.{Body}
 use Rattle.nsi_primitive.specs.declared.message.Message.{Message}
 use Rattle.nsi_primitive.specs.declared.state.Machine.{Machine}
@@ -17,6 +18,8 @@ use Rattle.reserve_machine.specs.Table.{step as reservation_row}
 use Rattle.provision_machine.specs.Table.{step as provision_row}
 use Rattle.lifecycle_machine.specs.Table.{step as lifecycle_row}
 use Rattle.dataplane_state.specs.Plane.{status, joined, announces}
+use Rattle.agent_link.specs.declared.plan.How.{How}
+use Rattle.agent_link.specs.declared.plan.ParcelKind.{ParcelKind}
 use Rattle.message_retry.specs.Retry.{is_heard, with_heard, is_old, saw, is_waiting, without}
 use Rattle.message_retry.specs.Taken.{is_taken, with_taken}
 use Rattle.capacity_calendar.specs.Lack.{lack_at, first_from, first_lack_by}
@@ -38,6 +41,7 @@ use Rattle.requester_agent.specs.Steps.{find_view, answers, asks_at, asks_new, a
 use Rattle.requester_agent.specs.Views.{asks_if_free, asks_if_known}
 use Rattle.nsi_script.specs.declared.script.Act.{Act}
 use Rattle.nsi_script.specs.declared.script.Group.{Group}
+use Rattle.nsi_script.specs.declared.script.PlanLine.{PlanLine}
 use Rattle.nsi_agent.specs.Homes.{Routes, home_in}
 use Rattle.nsi_agent.specs.Steps.{after_as, is_new, waits}
 use Rattle.agent_node.specs.Doors.{change_first, passes, says_all, let_through}
@@ -45,7 +49,7 @@ use Rattle.agent_node.specs.Seat.{enters, enters_if}
 use Rattle.agent_node.specs.Turns.{takes, takes_all, works_off, syncs_if, turn_with}
 use Rattle.agent_node.specs.Acts.{ticked, is_quiet}
 use Rattle.agent_node.specs.Meetings.{met}
-use Rattle.nsi_play.specs.Openings.{opening}
+use Rattle.nsi_play.specs.Openings.{nothing_planned, plans_of, opening}
 use Rattle.nsi_play.specs.Rounds.{meets_each, round}
 use Rattle.nsi_play.specs.Play.{Played, settles, asks_among, acts, begins, group, plays}
 
@@ -138,7 +142,18 @@ abbrev ticks_alone : List Event
 ticks_alone = took 0 Input.Tick ∷ took 1 Input.Tick ∷ synced 0 1 ∷ synced 1 1 ∷ []
 
 abbrev played : ℕ → List Group → Routes → Played
-played most script routes = plays most script 0 (home_in t1 routes) (opening t1)
+played most script routes = plays most script 0 (home_in t1 routes) (opening t1 nothing_planned)
+
+-- the requester's first reserve is lost
+abbrev loses : List PlanLine
+loses = record { from = 1; to = 0; fault = record { of = ParcelKind.Message Kind.Reserve; nth = 1; how = How.Lose } } ∷ []
+
+-- the provider's first confirmation comes twice
+abbrev repeats : List PlanLine
+repeats = record { from = 0; to = 1; fault = record { of = ParcelKind.Message Kind.ReserveConfirmed; nth = 1; how = How.Repeat } } ∷ []
+
+abbrev played_by : List PlanLine → ℕ → List Group → Routes → Played
+played_by lines most script routes = plays most script 0 (home_in t1 routes) (opening t1 (plans_of lines))
 
 pub record IsRow (routes : Routes) : Type 0 where
   pub nothing_is_played : (played 0 [] routes).events ≡ []
@@ -147,6 +162,10 @@ pub record IsRow (routes : Routes) : Type 0 where
   pub one_round_is_a_front : (played 1 one_ask routes).events ≡ first
   pub four_rounds_are_the_whole : (played 4 one_ask routes).events ≡ whole
   pub and_end_it : (played 4 one_ask routes).is_over ≡ true
+  pub a_lost_reserve_is_not_got : (played_by loses 1 one_ask routes).events ≡ first
+  pub and_nobody_waits_for_it : (played_by loses 1 one_ask routes).is_over ≡ true
+  pub a_repeat_changes_nothing : (played_by repeats 4 one_ask routes).events ≡ whole
+  pub and_ends_as_soon : (played_by repeats 4 one_ask routes).is_over ≡ true
 
 pub row : (routes : Routes) → IsRow routes
 unfolding kind_number connection_of named_connection reservation_row provision_row lifecycle_row status joined announces is_heard with_heard is_old saw is_waiting without is_taken with_taken lack_at first_from first_lack_by places asks_child request_about reserve_for ask_refusal reserve_refusal hears is_kind open_request reservation_closing provision_closing closes moves requested is_provisioning is_terminating first_machine provided record_waits record_work tells_plane record_tells record_ticks demand provision_event provisions lifecycle_event lives event_of hold_end is_live is_working record_worked record_reserves has_row is_in_place unnamed_refusal modification_refusal refusal lacking capacities_among works forces ticks_all provider_ticks receives provider_step provider_after find_view answers asks_at asks_new asks_found reserves asked_of requester_asked hears_if acked requester_ticks requester_step requester_after asks_if_free asks_if_known home_in after_as is_new waits enters enters_if change_first passes says_all takes takes_all works_off syncs_if turn_with ticked is_quiet let_through met meets_each round settles asks_among acts begins group plays
@@ -157,4 +176,8 @@ row routes = record {
   one_round_is_a_front = refl;
   four_rounds_are_the_whole = refl;
   and_end_it = refl;
+  a_lost_reserve_is_not_got = refl;
+  and_nobody_waits_for_it = refl;
+  a_repeat_changes_nothing = refl;
+  and_ends_as_soon = refl;
 }

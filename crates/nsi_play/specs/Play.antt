@@ -7,7 +7,7 @@ use Rattle.nsi_script.specs.declared.script.Group.{Group}
 use Rattle.nsi_agent.specs.Homes.{Routes, AreRoutes, home_in}
 use Rattle.agent_node.specs.Seat.{Seat}
 use Rattle.agent_node.specs.Acts.{asked, forced, ticked}
-use Rattle.nsi_play.specs.Openings.{opening}
+use Rattle.nsi_play.specs.Openings.{Plans, opening}
 use Rattle.nsi_play.specs.Rounds.{Net, Homes, round, events_of, emptied, all_quiet}
 
 -- how far a play has come: its events, the agents after them, and whether it stands at an end
@@ -95,14 +95,15 @@ ended events net = record { events = events; net = net; is_over = true }
 abbrev pub IsPlayFrom : List Group → Homes → Net → List Event → Net → Type 0
 IsPlayFrom script homes net events last = (most : ℕ) × (plays most script 0 homes net ≡ ended events last)
 
--- these are the events of the play of the script, and the agents in its end, whichever legs are those of the least paths
-abbrev pub IsPlay : Network → List Group → List Event → Net → Type 0
-IsPlay t script events last = (routes : Routes) → AreRoutes t routes → IsPlayFrom script (home_in t routes) (opening t) events last
+-- these are the events of the play of the script, where this is planned for the links, and the agents in its end, whichever legs are those of the
+-- least paths
+abbrev pub IsPlay : Network → Plans → List Group → List Event → Net → Type 0
+IsPlay t plans script events last = (routes : Routes) → AreRoutes t routes → IsPlayFrom script (home_in t routes) (opening t plans) events last
 
 -- some front of what these agents play has more events
 abbrev pub PassesFrom : ℕ → List Group → Homes → Net → Type 0
 PassesFrom limit script homes net = (most : ℕ) × (limit < length (plays most script 0 homes net).events)
 
 -- the play has more events, whichever legs are those of the least paths
-abbrev pub Passes : ℕ → Network → List Group → Type 0
-Passes limit t script = (routes : Routes) → AreRoutes t routes → PassesFrom limit script (home_in t routes) (opening t)
+abbrev pub Passes : ℕ → Network → Plans → List Group → Type 0
+Passes limit t plans script = (routes : Routes) → AreRoutes t routes → PassesFrom limit script (home_in t routes) (opening t plans)

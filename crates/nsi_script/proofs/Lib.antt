@@ -1,5 +1,6 @@
 pub mod SortLemmas
 pub mod PlanLemmas
+pub mod PlanLines
 pub mod LabelLemmas
 pub mod ActLemmas
 pub mod DraftLemmas

@@ -1,11 +1,12 @@
 -- Scripts and what they say, computed by the definitions.
-use Rattle.std.proofs.Common.{◌≡◌, [], ◌∷◌, None, Some, Ok, Err, true, false, refl, codes}
+use Rattle.std.proofs.Common.{ℕ, ◌≡◌, [], ◌∷◌, ◌++◌, None, Some, Ok, Err, true, false, refl, codes}
 use Rattle.nsi_base.specs.Lines.{lines_to}
 use Rattle.nsi_base.specs.Digits.{value_from, number_of}
 use Rattle.nsi_base.specs.Words.{words_of}
 use Rattle.nsi_primitive.specs.Kinds.{kind_name, kind_named, kind_number, first_named}
-use Rattle.agent_link.specs.declared.plan.How.TheVariants.{Lose}
-use Rattle.agent_link.specs.declared.plan.ParcelKind.TheVariants.{Message}
+use Rattle.agent_link.specs.declared.plan.How.TheVariants.{Lose, Repeat}
+use Rattle.agent_link.specs.declared.plan.ParcelKind.{ParcelKind}
+use Rattle.agent_link.specs.declared.plan.ParcelKind.TheVariants.{Message, Ack}
 use Rattle.nsi_disk.specs.declared.plan.Image.TheVariants.{Old}
 use Rattle.nsi_primitive.specs.declared.kind.Kind.TheVariants.{Reserve}
 use Rattle.nsi_primitive.specs.declared.ask.Ask.{Ask}
@@ -78,9 +79,7 @@ words = (refl, refl, refl, refl, refl, refl, refl, refl, refl, refl, refl, refl,
 
 -- lines that aren't served, whatever comes behind that
 unbuilt :
-    (script_of pair 6 (codes "lose r1 p1 reserve 1") ≡ Err (6, Unbuilt))
-    × (script_of pair 6 (codes "repeat r9 p9 ack 1") ≡ Err (6, Unbuilt))
-    × (script_of pair 6 (codes "stop p9 1 torn") ≡ Err (6, Unbuilt))
+    (script_of pair 6 (codes "stop p9 1 torn") ≡ Err (6, Unbuilt))
     × (script_of pair 6 (codes "restart p9") ≡ Err (6, Unbuilt))
     × (script_of pair 6 (codes "ask r9 summary") ≡ Err (6, Unbuilt))
     × (script_of pair 6 (codes "ask r1 summary c1") ≡ Err (6, Unbuilt))
@@ -89,11 +88,13 @@ unbuilt :
     × (script_of pair 6 (codes "ask r1 recursive c1") ≡ Err (6, Unbuilt))
     × (script_of pair 6 (codes "ask r1 results c1 1") ≡ Err (6, Word))
 unfolding lines_to value_from number_of words_of kind_name kind_named first_named labelled_in summary_in numbers_in version_in reserve_in plain_named ask_by_verb known_agent add_at put_act put_ask ask_of add_force add_restart add_plan add_stop by_verb of_line read_lines
-unbuilt = (refl, refl, refl, refl, refl, refl, refl, refl, refl, refl)
+unbuilt = (refl, refl, refl, refl, refl, refl, refl, refl)
 
 -- the agent first, then the time, then the label
 agents_and_times :
     (script_of pair 6 (codes "ask p1 commit c1") ≡ Err (6, Agent))
+    × (script_of pair 6 (codes "repeat r9 p9 ack 1") ≡ Err (6, Agent))
+    × (script_of pair 6 (codes "lose p1 p1 reserve 1") ≡ Err (6, Agent))
     × (script_of pair 6 (codes "ask r9 commit c1") ≡ Err (6, Agent))
     × (script_of pair 6 (codes "force r1 0") ≡ Err (6, Agent))
     × (script_of pair 6 (codes "force p9 0") ≡ Err (6, Agent))
@@ -102,7 +103,7 @@ agents_and_times :
     × (script_of pair 6 (codes "at 0\n# more\nask r1 commit c1") ≡ Err (8, Label))
     × (script_of pair 6 (codes "at 0\nask r1 reserve c1 A B 1 0 1\nask r1 commit c2") ≡ Err (8, Label))
 unfolding lines_to value_from number_of words_of kind_name kind_named first_named labelled_in summary_in numbers_in version_in reserve_in plain_named ask_by_verb known_agent add_at put_act put_ask ask_of add_force add_restart add_plan add_stop by_verb of_line read_lines
-agents_and_times = (refl, refl, refl, refl, refl, refl, refl, refl)
+agents_and_times = (refl, refl, refl, refl, refl, refl, refl, refl, refl, refl)
 
 -- an aggregator with its requester and its child
 abbrev tree : Network
@@ -133,17 +134,22 @@ planned = record {
   groups = [];
 }
 
+-- a further line of a plan
+abbrev and_repeat : (from to : ℕ) → ParcelKind → ℕ → Script
+and_repeat from to of nth = record planned { lose = planned.lose ++ record { from = from; to = to; fault = record { of = of; nth = nth; how = Repeat } } ∷ [] }
+
 -- a line may not plan what an earlier one plans
 repeated :
     (of_line tree planned (codes "repeat r2 p1 reserve 1") ≡ Err Word)
-    × (of_line tree planned (codes "repeat r2 p1 reserve 2") ≡ Err Unbuilt)
-    × (of_line tree planned (codes "repeat p1 r2 reserve 1") ≡ Err Unbuilt)
-    × (of_line tree planned (codes "repeat r2 p1 ack 1") ≡ Err Unbuilt)
+    × (of_line tree planned (codes "repeat r2 p1 reserve 2") ≡ Ok (and_repeat 3 0 (Message Reserve) 2))
+    × (of_line tree planned (codes "repeat p1 r2 reserve 1") ≡ Ok (and_repeat 0 3 (Message Reserve) 1))
+    × (of_line tree planned (codes "repeat r2 p1 ack 1") ≡ Ok (and_repeat 3 0 Ack 1))
+    × (of_line tree planned (codes "repeat r2 a1 ack 1") ≡ Err Agent)
     × (of_line tree planned (codes "stop p1 3 new") ≡ Err Word)
     × (of_line tree planned (codes "stop p1 4 new") ≡ Err Unbuilt)
     × (of_line tree planned (codes "stop a1 3 new") ≡ Err Unbuilt)
 unfolding lines_to value_from number_of words_of kind_name kind_named first_named labelled_in summary_in numbers_in version_in reserve_in plain_named ask_by_verb known_agent add_at put_act put_ask ask_of add_force add_restart add_plan add_stop by_verb of_line read_lines kind_number
-repeated = (refl, refl, refl, refl, refl, refl, refl)
+repeated = (refl, refl, refl, refl, refl, refl, refl, refl)
 
 -- the first pair of the load of number 0
 first_pair :

@@ -36,6 +36,7 @@ greatest_asks = 100000
 -- which lines are served; the others have the fault `Unbuilt`
 abbrev pub is_served : Form → Bool
 is_served forms.Request = true
+is_served forms.Plan = true
 is_served form = false
 
 -- whether an agent is of the sort

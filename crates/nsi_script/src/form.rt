@@ -34,7 +34,7 @@ pub enum Sort {
 pub fn is_served(form: Form) -> bool
     ensures { result ≡ is_served form }
 {
-    matches!(form, Form::Request)
+    matches!(form, Form::Request | Form::Plan)
 }
 
 pub fn form_of(what: &What) -> Form

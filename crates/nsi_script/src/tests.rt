@@ -73,7 +73,7 @@ fn have_faults(alloc: Global, topology: &Topology, rows: &[(&str, u32, ScriptFau
     true
 }
 
-const ONE_FAULT: [(&str, u32, ScriptFault); 14] = [
+const ONE_FAULT: [(&str, u32, ScriptFault); 16] = [
     ("at 5\nat 4\n", 7, ScriptFault::Time),
     ("ask r1 commit c1", 6, ScriptFault::Time),
     ("force p1 0", 6, ScriptFault::Time),
@@ -85,12 +85,18 @@ const ONE_FAULT: [(&str, u32, ScriptFault); 14] = [
         ScriptFault::Word,
     ),
     ("at 0\nlose r1 p1 reserve 1", 7, ScriptFault::Word),
-    ("lose r1 p1 reserve 1", 6, ScriptFault::Unbuilt),
     (
-        "repeat p1 r1 ack 18446744073709551615",
-        6,
-        ScriptFault::Unbuilt,
+        "lose r1 p1 reserve 1\nrepeat r1 p1 reserve 1",
+        7,
+        ScriptFault::Word,
     ),
+    (
+        "repeat p1 r1 ack 18446744073709551616",
+        6,
+        ScriptFault::Word,
+    ),
+    ("lose p1 p1 reserve 1", 6, ScriptFault::Agent),
+    ("repeat p1 r9 ack 1", 6, ScriptFault::Agent),
     ("stop p1 21 torn", 6, ScriptFault::Unbuilt),
     ("at 0\nrestart p1", 7, ScriptFault::Unbuilt),
     ("at 0\nask r1 summary", 7, ScriptFault::Unbuilt),
@@ -193,6 +199,38 @@ fn reads_whole(alloc: Global, topology: &Topology) -> bool {
     }
 }
 
+const PLANNED: &str = "lose r1 p1 reserve 1\nrepeat p1 r1 ack 18446744073709551615\nat 7\n";
+
+/// Both lines, in their order.
+fn has_both(lines: &[PlanLine]) -> bool {
+    let [first, second] = lines else {
+        return false;
+    };
+    first.from.get() == 1
+        && first.to.get() == 0
+        && first.fault
+            == LinkFault {
+                of: ParcelKind::Message(Kind::Reserve),
+                nth: 1,
+                how: How::Lose,
+            }
+        && second.from.get() == 0
+        && second.to.get() == 1
+        && second.fault
+            == LinkFault {
+                of: ParcelKind::Ack,
+                nth: u64::MAX,
+                how: How::Repeat,
+            }
+}
+
+fn reads_plans(alloc: Global, topology: &Topology) -> bool {
+    match read(alloc, topology, PLANNED.as_bytes()) {
+        Ok(script) => has_both(script.lose.items()) && script.groups.items().len() == 1,
+        Err(_) => false,
+    }
+}
+
 fn reads_nothing(alloc: Global, topology: &Topology) -> bool {
     match read(alloc, topology, b"") {
         Ok(script) => script.groups.items().is_empty(),
@@ -206,6 +244,7 @@ fn reads_scripts(rt: HostRuntime) {
         Some(topology) => {
             assert!(rt; reads_whole(rt.alloc(), &topology));
             assert!(rt; reads_nothing(rt.alloc(), &topology));
+            assert!(rt; reads_plans(rt.alloc(), &topology));
         }
         None => assert!(rt; false),
     }

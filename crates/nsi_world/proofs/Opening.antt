@@ -11,8 +11,9 @@ use Rattle.nsi_agent.specs.Homes.{Home, Routes, role_in, home_in}
 use Rattle.nsi_agent.specs.Told.{goes_on, told}
 use Rattle.nsi_script.specs.declared.script.Act.{Act}
 use Rattle.nsi_script.specs.declared.script.Group.{Group}
-use Rattle.agent_node.specs.Openings.{agents, others_of, empty_door, seat_of, nothing_planned}
-use Rattle.nsi_play.specs.Openings.{opening}
+use Rattle.agent_link.specs.Plans.{Plan}
+use Rattle.agent_node.specs.Openings.{agents, others_of, opened, seat_of}
+use Rattle.nsi_play.specs.Openings.{Plans, opening}
 use Rattle.nsi_world.specs.Worlds.{Homes, empty, IsAgent, synced_part}
 use Rattle.nsi_world.specs.Runs.{is_provider, is_requester}
 use Rattle.nsi_world.specs.Heard.{IsFair, IsHeard}
@@ -40,9 +41,9 @@ unfolding AreDistinct
 range_distinct a zero = tt
 range_distinct a (suc n) = (All-weaker (λ b. a + 1 ≤ b × (b < a + 1 + n)) (λ b. b ≢ a) (λ b h. above a b h.0) (range_with_len (a + 1) n) (ranged (a + 1) n), range_distinct (a + 1) n)
 
-pub numbers_of : (t : Network) (ns : List ℕ) → numbers (map (seat_of t nothing_planned) ns) ≡ ns
-numbers_of t [] = refl
-numbers_of t (n ∷ ns) = ap (λ xs. n ∷ xs) (numbers_of t ns)
+pub numbers_of : (t : Network) (plans : Plans) (ns : List ℕ) → numbers (map (seat_of t plans) ns) ≡ ns
+numbers_of t plans [] = refl
+numbers_of t plans (n ∷ ns) = ap (λ xs. n ∷ xs) (numbers_of t plans ns)
 
 ---- Seats
 
@@ -53,43 +54,43 @@ told_none h = refl
 is_agent : (t : Network) (routes : Routes) (a : ℕ) → IsWellFormed t → a < length t.agents → IsAgent (home_in t routes) a
 is_agent t routes a wf lt = ap (λ f. f (home_in t routes a).name) (home_leads t routes a) ∙ (ap (agent_of t) (home_name t routes a) ∙ wf.agents a lt)
 
-no_parcels : (homes : Homes) (a b : ℕ) → IsDoor homes empty a (empty_door b)
-no_parcels homes a b = record { inc = All-nil (MayGo homes empty (synced_part empty) b a); out = All-nil (MayGo homes empty (synced_part empty) a b); queue = All-nil (MayGo homes empty empty.journal a b) }
+no_parcels : (homes : Homes) (plans : ℕ → Plan) (a b : ℕ) → IsDoor homes empty a (opened plans b)
+no_parcels homes plans a b = record { inc = All-nil (MayGo homes empty (synced_part empty) b a); out = All-nil (MayGo homes empty (synced_part empty) a b); queue = All-nil (MayGo homes empty empty.journal a b) }
 
-no_doors : (homes : Homes) (a : ℕ) (bs : List ℕ) → All (IsDoor homes empty a) (map empty_door bs)
-no_doors homes a [] = All-nil (IsDoor homes empty a)
-no_doors homes a (b ∷ bs) = All-cons (IsDoor homes empty a) (empty_door b) (map empty_door bs) (no_parcels homes a b) (no_doors homes a bs)
+no_doors : (homes : Homes) (plans : ℕ → Plan) (a : ℕ) (bs : List ℕ) → All (IsDoor homes empty a) (map (opened plans) bs)
+no_doors homes plans a [] = All-nil (IsDoor homes empty a)
+no_doors homes plans a (b ∷ bs) = All-cons (IsDoor homes empty a) (opened plans b) (map (opened plans) bs) (no_parcels homes plans a b) (no_doors homes plans a bs)
 
-seat_stands : (t : Network) (routes : Routes) (a : ℕ) → IsWellFormed t → a < length t.agents → Stands (home_in t routes) 0 empty (seat_of t nothing_planned a)
+seat_stands : (t : Network) (routes : Routes) (plans : Plans) (a : ℕ) → IsWellFormed t → a < length t.agents → Stands (home_in t routes) 0 empty (seat_of t plans a)
 unfolding goes_on
-seat_stands t routes a wf lt = record {
+seat_stands t routes plans a wf lt = record {
   agent = is_agent t routes a wf lt;
   journal = refl;
   synced = refl;
   state = refl;
   unsaid = refl;
-  doors = no_doors (home_in t routes) a (others_of t a);
+  doors = no_doors (home_in t routes) (plans a) a (others_of t a);
   in_time = omega arith;
 }
 
-seats_stand : (t : Network) (routes : Routes) (ns : List ℕ) → IsWellFormed t → All (λ a. 0 ≤ a × (a < 0 + length t.agents)) ns → All (Stands (home_in t routes) 0 empty) (map (seat_of t nothing_planned) ns)
-seats_stand t routes [] wf all = All-nil (Stands (home_in t routes) 0 empty)
-seats_stand t routes (n ∷ ns) wf all =
+seats_stand : (t : Network) (routes : Routes) (plans : Plans) (ns : List ℕ) → IsWellFormed t → All (λ a. 0 ≤ a × (a < 0 + length t.agents)) ns → All (Stands (home_in t routes) 0 empty) (map (seat_of t plans) ns)
+seats_stand t routes plans [] wf all = All-nil (Stands (home_in t routes) 0 empty)
+seats_stand t routes plans (n ∷ ns) wf all =
     let lt = (All-head (λ a. 0 ≤ a × (a < 0 + length t.agents)) n ns all).1 in
-    All-cons (Stands (home_in t routes) 0 empty) (seat_of t nothing_planned n) (map (seat_of t nothing_planned) ns) (seat_stands t routes n wf (omega (arith, lt))) (seats_stand t routes ns wf (All-tail (λ a. 0 ≤ a × (a < 0 + length t.agents)) n ns all))
+    All-cons (Stands (home_in t routes) 0 empty) (seat_of t plans n) (map (seat_of t plans) ns) (seat_stands t routes plans n wf (omega (arith, lt))) (seats_stand t routes plans ns wf (All-tail (λ a. 0 ≤ a × (a < 0 + length t.agents)) n ns all))
 
-seats_told : (t : Network) (ns : List ℕ) → All IsTold (map (seat_of t nothing_planned) ns)
-seats_told t [] = All-nil IsTold
-seats_told t (n ∷ ns) = All-cons IsTold (seat_of t nothing_planned n) (map (seat_of t nothing_planned) ns) refl (seats_told t ns)
+seats_told : (t : Network) (plans : Plans) (ns : List ℕ) → All IsTold (map (seat_of t plans) ns)
+seats_told t plans [] = All-nil IsTold
+seats_told t plans (n ∷ ns) = All-cons IsTold (seat_of t plans n) (map (seat_of t plans) ns) refl (seats_told t plans ns)
 
 empty_fair : (homes : Homes) → IsFair homes empty
 empty_fair homes = record { within = λ a. omega arith; heard = λ a. All-nil (IsHeard homes empty a) }
 
-pub opening_stands : (t : Network) (routes : Routes) → IsWellFormed t → AllStand (home_in t routes) 0 empty (opening t)
-opening_stands t routes wf = record {
-  distinct = subst AreDistinct (sym (numbers_of t (agents t))) (range_distinct 0 (length t.agents));
-  told = seats_told t (agents t);
-  stand = seats_stand t routes (agents t) wf (ranged 0 (length t.agents));
+pub opening_stands : (t : Network) (routes : Routes) (plans : Plans) → IsWellFormed t → AllStand (home_in t routes) 0 empty (opening t plans)
+opening_stands t routes plans wf = record {
+  distinct = subst AreDistinct (sym (numbers_of t plans (agents t))) (range_distinct 0 (length t.agents));
+  told = seats_told t plans (agents t);
+  stand = seats_stand t routes plans (agents t) wf (ranged 0 (length t.agents));
   fair = empty_fair (home_in t routes);
 }
 

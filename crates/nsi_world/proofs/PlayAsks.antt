@@ -8,7 +8,7 @@ use Rattle.stp_topology.specs.declared.network.Network.{Network}
 use Rattle.nsi_script.specs.declared.script.Act.{Act}
 use Rattle.nsi_script.specs.declared.script.Group.{Group}
 use Rattle.agent_node.specs.Openings.{agents}
-use Rattle.nsi_play.specs.Openings.{opening}
+use Rattle.nsi_play.specs.Openings.{Plans, opening}
 use Rattle.nsi_play.specs.Rounds.{Net}
 use Rattle.nsi_play.specs.Play.{Played, asks_among, group, plays}
 use Rattle.nsi_play.proofs.Settling.{plays_cons, plays_nil, then_over, then_stopped}
@@ -69,13 +69,13 @@ range_here n a lt =
     same : 0 + a ≡ a
     same = omega arith
 
-agent_here : (t : Network) (a : ℕ) → a < length t.agents → Contains (numbers (opening t)) a
-agent_here t a lt = subst (λ ns. Contains ns a) (sym (numbers_of t (agents t))) (range_here (length t.agents) a lt)
+agent_here : (t : Network) (plans : Plans) (a : ℕ) → a < length t.agents → Contains (numbers (opening t plans)) a
+agent_here t plans a lt = subst (λ ns. Contains ns a) (sym (numbers_of t plans (agents t))) (range_here (length t.agents) a lt)
 
-act_here : (t : Network) (act : Act) → IsActOf t act → IsHere (numbers (opening t)) act
-act_here t (Act.Ask a ask) h = agent_here t a h.0
-act_here t (Act.Force a n) h = tt
-act_here t (Act.Restart a) h = tt
+act_here : (t : Network) (plans : Plans) (act : Act) → IsActOf t act → IsHere (numbers (opening t plans)) act
+act_here t plans (Act.Ask a ask) h = agent_here t plans a h.0
+act_here t plans (Act.Force a n) h = tt
+act_here t plans (Act.Restart a) h = tt
 
-pub all_here : (t : Network) (gs : List Group) → All (IsGroupOf t) gs → All (AreHere (numbers (opening t))) gs
-all_here t gs all = All-weaker (IsGroupOf t) (AreHere (numbers (opening t))) (λ g k. All-weaker (IsActOf t) (IsHere (numbers (opening t))) (act_here t) g.acts k) gs all
+pub all_here : (t : Network) (plans : Plans) (gs : List Group) → All (IsGroupOf t) gs → All (AreHere (numbers (opening t plans))) gs
+all_here t plans gs all = All-weaker (IsGroupOf t) (AreHere (numbers (opening t plans))) (λ g k. All-weaker (IsActOf t) (IsHere (numbers (opening t plans))) (act_here t plans) g.acts k) gs all

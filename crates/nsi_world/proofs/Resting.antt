@@ -13,8 +13,9 @@ use Rattle.nsi_script.specs.declared.script.Group.{Group}
 use Rattle.agent_node.specs.Doors.{all_idle}
 use Rattle.agent_node.specs.Seat.{Seat}
 use Rattle.agent_node.specs.Acts.{is_quiet}
-use Rattle.agent_node.specs.Openings.{agents, others_of, empty_door, seat_of, nothing_planned}
-use Rattle.nsi_play.specs.Openings.{opening}
+use Rattle.agent_link.specs.Plans.{Plan}
+use Rattle.agent_node.specs.Openings.{agents, others_of, opened, seat_of}
+use Rattle.nsi_play.specs.Openings.{Plans, opening}
 use Rattle.nsi_play.specs.Rounds.{Net, round, emptied, is_quiet_in, all_quiet}
 use Rattle.nsi_play.specs.Play.{Played, settles, asks_among, begins, group, plays}
 use Rattle.nsi_play.proofs.Settling.{settle_quiet, settle_more, settle_stop, group_is, plays_cons, plays_nil, then_over, then_stopped}
@@ -66,20 +67,20 @@ no_work (provides setting stp_of) = refl
 no_work (aggregates setting) = refl
 no_work (requests setting) = refl
 
-no_parcels : (bs : List ℕ) → all_idle (map empty_door bs) ≡ true
-no_parcels [] = refl
-no_parcels (b ∷ bs) = no_parcels bs
+no_parcels : (plans : ℕ → Plan) (bs : List ℕ) → all_idle (map (opened plans) bs) ≡ true
+no_parcels plans [] = refl
+no_parcels plans (b ∷ bs) = no_parcels plans bs
 
-seat_quiet : (homes : Homes) (t : Network) (a : ℕ) → is_quiet_in homes (seat_of t nothing_planned a) ≡ true
+seat_quiet : (homes : Homes) (t : Network) (plans : Plans) (a : ℕ) → is_quiet_in homes (seat_of t plans a) ≡ true
 unfolding is_quiet
-seat_quiet homes t a = ap (λ b. b && all_idle (map empty_door (others_of t a))) (no_work (homes a).role) ∙ no_parcels (others_of t a)
+seat_quiet homes t plans a = ap (λ b. b && all_idle (map (opened (plans a)) (others_of t a))) (no_work (homes a).role) ∙ no_parcels (plans a) (others_of t a)
 
-seats_quiet : (homes : Homes) (t : Network) (ns : List ℕ) → all_quiet homes (map (seat_of t nothing_planned) ns) ≡ true
-seats_quiet homes t [] = refl
-seats_quiet homes t (n ∷ ns) = ap (λ b. b && all_quiet homes (map (seat_of t nothing_planned) ns)) (seat_quiet homes t n) ∙ seats_quiet homes t ns
+seats_quiet : (homes : Homes) (t : Network) (plans : Plans) (ns : List ℕ) → all_quiet homes (map (seat_of t plans) ns) ≡ true
+seats_quiet homes t plans [] = refl
+seats_quiet homes t plans (n ∷ ns) = ap (λ b. b && all_quiet homes (map (seat_of t plans) ns)) (seat_quiet homes t plans n) ∙ seats_quiet homes t plans ns
 
-pub opening_quiet : (t : Network) (routes : Routes) → all_quiet (home_in t routes) (opening t) ≡ true
-opening_quiet t routes = seats_quiet (home_in t routes) t (agents t)
+pub opening_quiet : (t : Network) (routes : Routes) (plans : Plans) → all_quiet (home_in t routes) (opening t plans) ≡ true
+opening_quiet t routes plans = seats_quiet (home_in t routes) t plans (agents t)
 
 ---- What that says of a world
 

@@ -34,48 +34,48 @@ pub round_runs : AreLaws → RoundRuns
 round_runs laws t routes clock w net h = round_goes (home_in t routes) (given_in laws t routes) clock w net h
 
 pub play_runs : AreLaws → PlayRuns
-play_runs laws t routes most groups wf rising acts few =
+play_runs laws t routes plans most groups wf rising acts few =
     let homes = home_in t routes in
     let given = given_in laws t routes in
     let rise = rise_from groups rising in
     let of = groups_of t groups acts in
     let may = may_act_all t routes groups of in
-    let stand = opening_stands t routes wf in
-    let p = plays_come homes given empty most groups 0 0 (opening t) rise may stand in
-    let q = plays_ask homes given empty most groups 0 0 (opening t) rise may (all_here t groups of) stand in
+    let stand = opening_stands t routes plans wf in
+    let p = plays_come homes given empty most groups 0 0 (opening t plans) rise may stand in
+    let q = plays_ask homes given empty most groups 0 0 (opening t plans) rise may (all_here t plans groups of) stand in
     record {
-      allowed = allowed_of_free homes empty (plays most groups 0 homes (opening t)).events (λ a. omega (arith, few)) p.goes.free;
+      allowed = allowed_of_free homes empty (plays most groups 0 homes (opening t plans)).events (λ a. omega (arith, few)) p.goes.free;
       wishes = q.wishes;
       asked = q.asked;
     }
 
 pub play_is_run : AreLaws → PlayIsRun
-play_is_run laws t routes groups events last wf rising acts play few =
-    subst (λ (p : Played). length p.events ≤ most_entries → IsRun (home_in t routes) p.events) play.1 (play_runs laws t routes play.0 groups wf rising acts) few
+play_is_run laws t routes plans groups events last wf rising acts play few =
+    subst (λ (p : Played). length p.events ≤ most_entries → IsRun (home_in t routes) p.events) play.1 (play_runs laws t routes plans play.0 groups wf rising acts) few
 
 pub play_stands : AreLaws → PlayStands
-play_stands laws t routes groups events last wf rising acts play =
+play_stands laws t routes plans groups events last wf rising acts play =
     let homes = home_in t routes in
-    let p = plays_come homes (given_in laws t routes) empty play.0 groups 0 0 (opening t) (rise_from groups rising) (may_act_all t routes groups (groups_of t groups acts)) (opening_stands t routes wf) in
-    let end : StandInTheEnd t routes (plays play.0 groups 0 homes (opening t)).events (plays play.0 groups 0 homes (opening t)).net = record {
+    let p = plays_come homes (given_in laws t routes) empty play.0 groups 0 0 (opening t plans) (rise_from groups rising) (may_act_all t routes groups (groups_of t groups acts)) (opening_stands t routes plans wf) in
+    let end : StandInTheEnd t routes (plays play.0 groups 0 homes (opening t plans)).events (plays play.0 groups 0 homes (opening t plans)).net = record {
       clock = p.clock;
-      numbers = p.goes.numbers ∙ numbers_of t (agents t);
+      numbers = p.goes.numbers ∙ numbers_of t plans (agents t);
       stand = p.goes.stand;
     } in
     subst (λ (x : Played). StandInTheEnd t routes x.events x.net) play.1 end
 
 pub play_rests : AreLaws → PlayRests
-play_rests laws t routes groups events last wf rising acts play a lt =
+play_rests laws t routes plans groups events last wf rising acts play a lt =
     let homes = home_in t routes in
-    let end = play_stands laws t routes groups events last wf rising acts play in
+    let end = play_stands laws t routes plans groups events last wf rising acts play in
     let over = ap (λ (p : Played). p.is_over) play.1 in
-    let quiet = plays_quiet play.0 groups 0 homes (opening t) (opening_quiet t routes) over in
+    let quiet = plays_quiet play.0 groups 0 homes (opening t plans) (opening_quiet t routes plans) over in
     let rest = all_rest homes end.clock (world_after empty events) last end.stand (ap (λ (p : Played). all_quiet homes p.net) (sym play.1) ∙ quiet) in
     All-contains (IsAtRest homes (world_after empty events)) (agents t) a (subst (All (IsAtRest homes (world_after empty events))) end.numbers rest) (range_here (length t.agents) a lt)
 
 pub asks_whole : AreLaws → AsksWhole
-asks_whole laws t routes groups events last wf rising acts play =
+asks_whole laws t routes plans groups events last wf rising acts play =
     let homes = home_in t routes in
     let of = groups_of t groups acts in
-    let q = plays_ask homes (given_in laws t routes) empty play.0 groups 0 0 (opening t) (rise_from groups rising) (may_act_all t routes groups of) (all_here t groups of) (opening_stands t routes wf) in
+    let q = plays_ask homes (given_in laws t routes) empty play.0 groups 0 0 (opening t plans) (rise_from groups rising) (may_act_all t routes groups of) (all_here t plans groups of) (opening_stands t routes plans wf) in
     sym (ap (λ (p : Played). asks_of p.events) play.1) ∙ (q.asked ∙ ap (numbered 0) (q.whole (ap (λ (p : Played). p.is_over) play.1)))

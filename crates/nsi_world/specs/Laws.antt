@@ -14,7 +14,7 @@ use Rattle.nsi_script.specs.declared.script.Group.{Group}
 use Rattle.agent_node.specs.Openings.{agents}
 use Rattle.agent_node.specs.Seat.{Seat}
 use Rattle.agent_node.specs.Turns.{turned}
-use Rattle.nsi_play.specs.Openings.{opening}
+use Rattle.nsi_play.specs.Openings.{Plans, opening}
 use Rattle.nsi_play.specs.Rounds.{Net, round, events_of, emptied}
 use Rattle.nsi_play.specs.Play.{plays, IsPlayFrom}
 use Rattle.nsi_world.specs.Worlds.{Homes, World, empty, IsSent}
@@ -45,7 +45,7 @@ RequestsAreOne =
     IsSent (home_in t routes) (world_after empty events) m → IsSent (home_in t routes) (world_after empty events) n → is_request m.body ≡ true → is_request n.body ≡ true →
     n.header ≡ m.header → n ≡ m
 
----- Plays
+---- Plays, whatever is planned for the links
 
 -- a turn goes on by events that are allowed, and then what lies at its doors was said
 abbrev pub TurnRuns : Type 0
@@ -62,15 +62,15 @@ RoundRuns =
 -- each front of a play of no more events than an agent takes entries is a run
 abbrev pub PlayRuns : Type 0
 PlayRuns =
-    (t : Network) (routes : Routes) (most : ℕ) (groups : List Group) → IsWellFormed t → IsRising (seconds_of groups) → All (IsActOf t) (acts_of groups) →
-    length (plays most groups 0 (home_in t routes) (opening t)).events ≤ most_entries →
-    IsRun (home_in t routes) (plays most groups 0 (home_in t routes) (opening t)).events
+    (t : Network) (routes : Routes) (plans : Plans) (most : ℕ) (groups : List Group) → IsWellFormed t → IsRising (seconds_of groups) → All (IsActOf t) (acts_of groups) →
+    length (plays most groups 0 (home_in t routes) (opening t plans)).events ≤ most_entries →
+    IsRun (home_in t routes) (plays most groups 0 (home_in t routes) (opening t plans)).events
 
 -- so is the play
 abbrev pub PlayIsRun : Type 0
 PlayIsRun =
-    (t : Network) (routes : Routes) (groups : List Group) (events : List Event) (last : Net) → IsWellFormed t → IsRising (seconds_of groups) → All (IsActOf t) (acts_of groups) →
-    IsPlayFrom groups (home_in t routes) (opening t) events last → length events ≤ most_entries → IsRun (home_in t routes) events
+    (t : Network) (routes : Routes) (plans : Plans) (groups : List Group) (events : List Event) (last : Net) → IsWellFormed t → IsRising (seconds_of groups) → All (IsActOf t) (acts_of groups) →
+    IsPlayFrom groups (home_in t routes) (opening t plans) events last → length events ≤ most_entries → IsRun (home_in t routes) events
 
 -- the agents at the end of a play stand as they should in the world that its events make
 pub record StandInTheEnd (t : Network) (routes : Routes) (events : List Event) (last : Net) : Type 0 where
@@ -80,8 +80,8 @@ pub record StandInTheEnd (t : Network) (routes : Routes) (events : List Event) (
 
 abbrev pub PlayStands : Type 0
 PlayStands =
-    (t : Network) (routes : Routes) (groups : List Group) (events : List Event) (last : Net) → IsWellFormed t → IsRising (seconds_of groups) → All (IsActOf t) (acts_of groups) →
-    IsPlayFrom groups (home_in t routes) (opening t) events last → StandInTheEnd t routes events last
+    (t : Network) (routes : Routes) (plans : Plans) (groups : List Group) (events : List Event) (last : Net) → IsWellFormed t → IsRising (seconds_of groups) → All (IsActOf t) (acts_of groups) →
+    IsPlayFrom groups (home_in t routes) (opening t plans) events last → StandInTheEnd t routes events last
 
 -- its journal is synced whole, and no work waits
 pub record IsAtRest (homes : Homes) (w : World) (a : ℕ) : Type 0 where
@@ -91,11 +91,11 @@ pub record IsAtRest (homes : Homes) (w : World) (a : ℕ) : Type 0 where
 -- so is each agent at the end of a play
 abbrev pub PlayRests : Type 0
 PlayRests =
-    (t : Network) (routes : Routes) (groups : List Group) (events : List Event) (last : Net) → IsWellFormed t → IsRising (seconds_of groups) → All (IsActOf t) (acts_of groups) →
-    IsPlayFrom groups (home_in t routes) (opening t) events last → (a : ℕ) → a < length t.agents → IsAtRest (home_in t routes) (world_after empty events) a
+    (t : Network) (routes : Routes) (plans : Plans) (groups : List Group) (events : List Event) (last : Net) → IsWellFormed t → IsRising (seconds_of groups) → All (IsActOf t) (acts_of groups) →
+    IsPlayFrom groups (home_in t routes) (opening t plans) events last → (a : ℕ) → a < length t.agents → IsAtRest (home_in t routes) (world_after empty events) a
 
 -- a play asks the whole script, in order
 abbrev pub AsksWhole : Type 0
 AsksWhole =
-    (t : Network) (routes : Routes) (groups : List Group) (events : List Event) (last : Net) → IsWellFormed t → IsRising (seconds_of groups) → All (IsActOf t) (acts_of groups) →
-    IsPlayFrom groups (home_in t routes) (opening t) events last → asks_of events ≡ numbered 0 (wishes_of groups)
+    (t : Network) (routes : Routes) (plans : Plans) (groups : List Group) (events : List Event) (last : Net) → IsWellFormed t → IsRising (seconds_of groups) → All (IsActOf t) (acts_of groups) →
+    IsPlayFrom groups (home_in t routes) (opening t plans) events last → asks_of events ≡ numbered 0 (wishes_of groups)

@@ -141,4 +141,4 @@ plays_end script homes net limit h =
     by_end script homes net limit (q.rounds + 0) (q.ends 0)
 
 pub scripts_end : ScriptsEnd
-scripts_end t routes script limit = plays_end script (home_in t routes) (opening t) limit (openings_are_bounded t)
+scripts_end t routes plans script limit = plays_end script (home_in t routes) (opening t plans) limit (openings_are_bounded t plans)

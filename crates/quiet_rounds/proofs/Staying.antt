@@ -11,8 +11,9 @@ use Rattle.nsi_agent.specs.Homes.{Home}
 use Rattle.agent_node.specs.Doors.{HasMet, others}
 use Rattle.agent_node.specs.Seat.{Seat, now_at, enters}
 use Rattle.agent_node.specs.Acts.{overdue, ticked, asked, forced}
-use Rattle.agent_node.specs.Openings.{agents, are_linked, others_of, empty_door, seat_of, nothing_planned}
-use Rattle.nsi_play.specs.Openings.{opening}
+use Rattle.agent_link.specs.Plans.{Plan}
+use Rattle.agent_node.specs.Openings.{agents, are_linked, others_of, opened, seat_of}
+use Rattle.nsi_play.specs.Openings.{Plans, opening}
 use Rattle.nsi_play.specs.Play.{does, acted, ticked_in}
 use Rattle.nsi_play.specs.Rounds.{Net, Homes, tells, emptied}
 use Rattle.quiet_rounds.specs.Bounded.{numbers, IsFew, LeadsTo, IsBoundedIn, IsBounded}
@@ -71,17 +72,17 @@ steps_keep_bounds homes net h = record {
 
 ---- Before anything has happened
 
-opened_others : (bs : List ℕ) → others (map empty_door bs) ≡ bs
-opened_others [] = refl
-opened_others (b ∷ bs) = ap (λ ns. b ∷ ns) (opened_others bs)
+opened_others : (plans : ℕ → Plan) (bs : List ℕ) → others (map (opened plans) bs) ≡ bs
+opened_others plans [] = refl
+opened_others plans (b ∷ bs) = ap (λ ns. b ∷ ns) (opened_others plans bs)
 
-opened_met : (bs : List ℕ) → All HasMet (map empty_door bs)
-opened_met [] = All-nil HasMet
-opened_met (b ∷ bs) = All-cons HasMet (empty_door b) (map empty_door bs) refl (opened_met bs)
+opened_met : (plans : ℕ → Plan) (bs : List ℕ) → All HasMet (map (opened plans) bs)
+opened_met plans [] = All-nil HasMet
+opened_met plans (b ∷ bs) = All-cons HasMet (opened plans b) (map (opened plans) bs) refl (opened_met plans bs)
 
-opened_few : (bs : List ℕ) → All IsFew (map empty_door bs)
-opened_few [] = All-nil IsFew
-opened_few (b ∷ bs) = All-cons IsFew (empty_door b) (map empty_door bs) zero-le (opened_few bs)
+opened_few : (plans : ℕ → Plan) (bs : List ℕ) → All IsFew (map (opened plans) bs)
+opened_few plans [] = All-nil IsFew
+opened_few plans (b ∷ bs) = All-cons IsFew (opened plans b) (map (opened plans) bs) zero-le (opened_few plans bs)
 
 all_apart : (n : ℕ) → AllPairs (λ a b. b ≢ a) (range_with_len 0 n)
 all_apart n i j d lt inside e =
@@ -92,21 +93,21 @@ all_apart n i j d lt inside e =
     let same : 0 + j ≡ 0 + i = sym at_j ∙ (e ∙ at_i) in
     omega (arith, lt, same)
 
-seat_opened : (t : Network) (a : ℕ) → IsBoundedIn (agents t) (seat_of t nothing_planned a)
-seat_opened t a = record {
-  met = opened_met (others_of t a);
-  few = opened_few (others_of t a);
-  apart = subst (AllPairs (λ a b. b ≢ a)) (sym (opened_others (others_of t a))) (AllPairs-filter (λ a b. b ≢ a) (are_linked t a) (agents t) (all_apart (length t.agents)));
-  lead = All-map (LeadsTo (agents t)) empty_door (others_of t a) (All-filter (are_linked t a) (Contains (agents t)) (agents t) (All-contains_itself (agents t)));
+seat_opened : (t : Network) (plans : Plans) (a : ℕ) → IsBoundedIn (agents t) (seat_of t plans a)
+seat_opened t plans a = record {
+  met = opened_met (plans a) (others_of t a);
+  few = opened_few (plans a) (others_of t a);
+  apart = subst (AllPairs (λ a b. b ≢ a)) (sym (opened_others (plans a) (others_of t a))) (AllPairs-filter (λ a b. b ≢ a) (are_linked t a) (agents t) (all_apart (length t.agents)));
+  lead = All-map (LeadsTo (agents t)) (opened (plans a)) (others_of t a) (All-filter (are_linked t a) (Contains (agents t)) (agents t) (All-contains_itself (agents t)));
 }
 
-opened : (t : Network) (ns : List ℕ) → All (IsBoundedIn (agents t)) (map (seat_of t nothing_planned) ns)
-opened t [] = All-nil (IsBoundedIn (agents t))
-opened t (n ∷ ns) = All-cons (IsBoundedIn (agents t)) (seat_of t nothing_planned n) (map (seat_of t nothing_planned) ns) (seat_opened t n) (opened t ns)
+all_opened : (t : Network) (plans : Plans) (ns : List ℕ) → All (IsBoundedIn (agents t)) (map (seat_of t plans) ns)
+all_opened t plans [] = All-nil (IsBoundedIn (agents t))
+all_opened t plans (n ∷ ns) = All-cons (IsBoundedIn (agents t)) (seat_of t plans n) (map (seat_of t plans) ns) (seat_opened t plans n) (all_opened t plans ns)
 
-opened_numbers : (t : Network) (ns : List ℕ) → numbers (map (seat_of t nothing_planned) ns) ≡ ns
-opened_numbers t [] = refl
-opened_numbers t (n ∷ ns) = ap (λ ms. n ∷ ms) (opened_numbers t ns)
+opened_numbers : (t : Network) (plans : Plans) (ns : List ℕ) → numbers (map (seat_of t plans) ns) ≡ ns
+opened_numbers t plans [] = refl
+opened_numbers t plans (n ∷ ns) = ap (λ ms. n ∷ ms) (opened_numbers t plans ns)
 
 pub openings_are_bounded : OpeningsAreBounded
-openings_are_bounded t = subst (λ ns. All (IsBoundedIn ns) (opening t)) (sym (opened_numbers t (agents t))) (opened t (agents t))
+openings_are_bounded t plans = subst (λ ns. All (IsBoundedIn ns) (opening t plans)) (sym (opened_numbers t plans (agents t))) (all_opened t plans (agents t))

@@ -5,7 +5,7 @@ use Rattle.stp_topology.specs.declared.network.Network.{Network}
 use Rattle.nsi_agent.specs.Homes.{Routes, home_in}
 use Rattle.nsi_script.specs.declared.script.Act.{Act}
 use Rattle.nsi_script.specs.declared.script.Group.{Group}
-use Rattle.nsi_play.specs.Openings.{opening}
+use Rattle.nsi_play.specs.Openings.{Plans, opening}
 use Rattle.nsi_play.specs.Play.{Played, settles, begins, plays, acted, ticked_in, IsPlayFrom, PassesFrom}
 use Rattle.nsi_play.specs.Rounds.{Net, Homes, round, events_of, emptied, all_quiet}
 use Rattle.quiet_rounds.specs.Bounded.{IsBounded}
@@ -16,7 +16,7 @@ use Rattle.quiet_rounds.specs.Enough.{enough}
 
 -- before anything has happened a net is bounded
 abbrev pub OpeningsAreBounded : Type 0
-OpeningsAreBounded = (t : Network) → IsBounded (opening t)
+OpeningsAreBounded = (t : Network) (plans : Plans) → IsBounded (opening t plans)
 
 -- ticks, an act, a round keep a net bounded, and so it stays where what has happened is taken away
 pub record StaysBounded (homes : Homes) (net : Net) : Type 0 where
@@ -79,8 +79,8 @@ PlaysEnd =
     (script : List Group) (homes : Homes) (net : Net) (limit : ℕ) → IsBounded net →
     ((events : List Event) × (last : Net) × IsPlayFrom script homes net events last) ⊎ PassesFrom limit script homes net
 
--- so it is of every script in every topology, whatever the legs of the ways
+-- so it is of every script in every topology, whatever the legs of the ways and whatever is planned for the links
 abbrev pub ScriptsEnd : Type 0
 ScriptsEnd =
-    (t : Network) (routes : Routes) (script : List Group) (limit : ℕ) →
-    ((events : List Event) × (last : Net) × IsPlayFrom script (home_in t routes) (opening t) events last) ⊎ PassesFrom limit script (home_in t routes) (opening t)
+    (t : Network) (routes : Routes) (plans : Plans) (script : List Group) (limit : ℕ) →
+    ((events : List Event) × (last : Net) × IsPlayFrom script (home_in t routes) (opening t plans) events last) ⊎ PassesFrom limit script (home_in t routes) (opening t plans)

@@ -9,10 +9,9 @@ use Rattle.stp_topology.specs.declared.fault.TopologyFault.{TopologyFault}
 use Rattle.stp_topology.specs.Network.{nothing}
 use Rattle.stp_topology.specs.Text.{read_lines}
 use Rattle.nsi_script.specs.declared.fault.ScriptFault.{ScriptFault}
-use Rattle.nsi_script.specs.declared.script.Group.{Group}
 use Rattle.nsi_script.specs.declared.script.Script.{Script}
 use Rattle.nsi_script.specs.Text.{script_of}
-use Rattle.nsi_play.specs.Openings.{opening}
+use Rattle.nsi_play.specs.Openings.{plans_of, opening}
 use Rattle.nsi_play.specs.Play.{plays}
 use Rattle.fault_lines.specs.Lines.{topology_fault, script_fault, long_line}
 use Rattle.agent_threads.specs.Reports.{written}
@@ -65,24 +64,24 @@ module _ (options : RunOptions) (bytes : List ℕ) (few : length bytes ≤ great
     ---- A script that is played
 
     module _ (script : Script) (e : script_of d.topology (d.lines + 1) d.behind.now ≡ Ok script) where
-      pub are_read : AreRead bytes d.topology script.groups
-      are_read = record { lines = d.lines; whole = script; topology = is.read; behind = script_is (Ok script) e; groups = refl }
+      pub are_read : AreRead bytes d.topology script
+      are_read = record { lines = d.lines; topology = is.read; behind = script_is (Ok script) e }
 
-      plays_runs : (end : RunEnd) (text : List ℕ) → Plays options d.topology script.groups end text → Runs options bytes end text
+      plays_runs : (end : RunEnd) (text : List ℕ) → Plays options d.topology script end text → Runs options bytes end text
       plays_runs end text p =
           let P : Result Script (ℕ × ScriptFault) → Type 0 = λ r. RunsScript options d.topology r end text in
           runs_behind end text (subst P (sym (script_is (Ok script) e)) p)
 
-      starts_begins : (text : List ℕ) → BeginsPlay options d.topology script.groups text → Begins options bytes text
+      starts_begins : (text : List ℕ) → BeginsPlay options d.topology script text → Begins options bytes text
       starts_begins text (inl p) = inl (p.0, plays_runs p.0 text p.1)
-      starts_begins text (inr p) = inr (d.topology, script.groups, are_read, p)
+      starts_begins text (inr p) = inr (d.topology, script, are_read, p)
 
-      breaks_breaks : (text : List ℕ) → BreaksPlay options d.topology script.groups text → Breaks options bytes text
-      breaks_breaks text p = (d.topology, script.groups, are_read, p)
+      breaks_breaks : (text : List ℕ) → BreaksPlay options d.topology script text → Breaks options bytes text
+      breaks_breaks text p = (d.topology, script, are_read, p)
 
-      pub played_read : (old new : Option (List ℕ)) (before after : Counts) (b a : ℕ) (end : RunEnd) → HasPlayed options d.topology script.groups old new before after b a end → HasRead options bytes old new before after b a end
+      pub played_read : (old new : Option (List ℕ)) (before after : Counts) (b a : ℕ) (end : RunEnd) → HasPlayed options d.topology script old new before after b a end → HasRead options bytes old new before after b a end
       played_read old new before after b a end k =
-          run_along (Plays options d.topology script.groups) (Runs options bytes) (BeginsPlay options d.topology script.groups) (Begins options bytes) (BreaksPlay options d.topology script.groups) (Breaks options bytes)
+          run_along (Plays options d.topology script) (Runs options bytes) (BeginsPlay options d.topology script) (Begins options bytes) (BreaksPlay options d.topology script) (Breaks options bytes)
           old new before after b a end plays_runs starts_begins breaks_breaks k
 
     pub bad_script_read : (old new : Option (List ℕ)) (counts : Counts) (b a : ℕ) (end : RunEnd) (n : ℕ) (fault : ScriptFault) → script_of d.topology (d.lines + 1) d.behind.now ≡ Err (n, fault)
@@ -111,10 +110,10 @@ none_written Report.Trace t = refl
 none_written Report.Summary t = refl
 
 -- nothing is played yet
-nothing_starts : NothingRuns → (options : RunOptions) (t : Network) (script : List Group) → StartsPlay options t script no_text []
+nothing_starts : NothingRuns → (options : RunOptions) (t : Network) (script : Script) → StartsPlay options t script no_text []
 unfolding plays
 nothing_starts none options t script =
-    record { groups = 0; events = []; first = record { last = opening t; play = λ routes r. (0, refl); run = λ routes r. none t routes; within = omega arith }; spelled = none_written options.report t }
+    record { groups = 0; events = []; first = record { last = opening t (plans_of script.lose); play = λ routes r. (0, refl); run = λ routes r. none t routes; within = omega arith }; spelled = none_written options.report t }
 
 -- every input begins with some text
 pub some_begins : NothingRuns → (options : RunOptions) (bytes : List ℕ) → (text : List ℕ) × Begins options bytes text
@@ -138,7 +137,7 @@ some_begins none options bytes = by_size (leb (length bytes) greatest_input) ref
                 let Q : Result Script (ℕ × ScriptFault) → Type 0 = λ r. RunsScript options t r RunEnd.BadScript (script_fault x.0 x.1) in
                 (script_fault x.0 x.1, inl (RunEnd.BadScript, within RunEnd.BadScript (script_fault x.0 x.1) (subst P (sym h) (subst Q (sym s) (refl, refl)))))
             by_script (Ok script) s =
-                ([], inr (t, script.groups, record { lines = n; whole = script; topology = h; behind = s; groups = refl }, nothing_starts none options t script.groups))
+                ([], inr (t, script, record { lines = n; topology = h; behind = s }, nothing_starts none options t script))
     by_size false e = let P : Bool → Type 0 = λ b. RunsIf b options bytes RunEnd.Long long_line in (long_line, inl (RunEnd.Long, subst P (sym e) (refl, refl)))
 
 -- nothing was written, for want of memory

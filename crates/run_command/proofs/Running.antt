@@ -3,13 +3,14 @@ use Rattle.std.proofs.Common.{◌≡◌, ◌<◌, ◌⊎◌, inl, inr, ℕ, List
 use Rattle.nsi_outside.specs.Stream.{WritesAll, WritesFront}
 use Rattle.stp_topology.specs.declared.network.Network.{Network}
 use Rattle.stp_topology.specs.Network.{name_of}
-use Rattle.nsi_script.specs.declared.script.Group.{Group}
+use Rattle.nsi_script.specs.declared.script.Script.{Script}
 use Rattle.run_totals.specs.declared.totals.Totals.{Totals}
 use Rattle.fault_lines.specs.Lines.{disk_fault_line, long_line}
 use Rattle.agent_threads.specs.declared.fault.RunFault.{RunFault}
 use Rattle.agent_threads.specs.Reports.{written}
 use Rattle.agent_threads.specs.declared.report.RunOptions.{RunOptions}
 use Rattle.net_run.specs.Worlds.{WritesPlay, WritesTooLong, WritesGroups, WritesSomeOfPlay}
+use Rattle.nsi_play.specs.Openings.{plans_of}
 use Rattle.run_command.specs.declared.command.RunEnd.{RunEnd}
 use Rattle.run_command.specs.Runs.{Plays, BeginsPlay, BreaksPlay, no_text, closing_line}
 use Rattle.run_command.proofs.Wholes.{PlaysRun, FrontsRun}
@@ -127,11 +128,11 @@ run_along T U F G B D old new before after b a end f g h k =
 
 ---- Plays
 
-module _ (t : Network) (options : RunOptions) (script : List Group) (old mid new : Option (List ℕ)) (before after : Counts) (b m a : ℕ) (same : m ≡ b) (end : RunEnd) where
+module _ (t : Network) (options : RunOptions) (script : Script) (old mid new : Option (List ℕ)) (before after : Counts) (b m a : ℕ) (same : m ≡ b) (end : RunEnd) where
   closes_from : (line : List ℕ) (own : RunEnd) → Closes line own end mid new m a → Closes line own end mid new b a
   closes_from line own k = let P : ℕ → Type 0 = λ x. Closes line own end mid new x a in subst P same k
 
-  pub settled_run : PlaysRun options.limit t script → (n : Totals) → WritesPlay t options script old mid n → Closes (closing_line options.report n) RunEnd.Done end mid new m a → IsQuiet before after → HasPlayed options t script old new before after b a end
+  pub settled_run : PlaysRun options.limit t script → (n : Totals) → WritesPlay t options (plans_of script.lose) script.groups old mid n → Closes (closing_line options.report n) RunEnd.Done end mid new m a → IsQuiet before after → HasPlayed options t script old new before after b a end
   settled_run runs n w k q =
       let events = w.0 in
       let base = written options.report t events in
@@ -141,14 +142,14 @@ module _ (t : Network) (options : RunOptions) (script : List Group) (old mid new
       told_run (Plays options t script) (BeginsPlay options t script) (BreaksPlay options t script) old mid new before after b a base line end w.5
       RunEnd.Done (closes_from line RunEnd.Done k) refl is (inl (RunEnd.Done, is)) (λ _. q)
 
-  pub too_long_run : FrontsRun options.limit t script → WritesTooLong t options script old mid → Closes long_line RunEnd.Long end mid new m a → HasPlayed options t script old new before after b a end
+  pub too_long_run : FrontsRun options.limit t script → WritesTooLong t options (plans_of script.lose) script.groups old mid → Closes long_line RunEnd.Long end mid new m a → HasPlayed options t script old new before after b a end
   too_long_run fronts w k =
       let text = written options.report t w.1 ++ long_line in
       let is : Plays options t script RunEnd.Long text = record { groups = w.0; events = w.1; first = record { last = w.2; play = w.3; run = fronts w.0 w.1 w.2 w.3 w.4; within = w.4 }; passes = w.5; spelled = refl } in
       told_run (Plays options t script) (BeginsPlay options t script) (BreaksPlay options t script) old mid new before after b a (written options.report t w.1) long_line end w.6
       RunEnd.Long (closes_from long_line RunEnd.Long k) refl is (inl (RunEnd.Long, is)) (λ n. absurd (n refl))
 
-  pub failed_run : FrontsRun options.limit t script → (agent : ℕ) → WritesGroups t options script old mid → Closes (disk_fault_line (name_of t agent)) RunEnd.DiskFault end mid new m a → HasDiskFault before after → HasPlayed options t script old new before after b a end
+  pub failed_run : FrontsRun options.limit t script → (agent : ℕ) → WritesGroups t options (plans_of script.lose) script.groups old mid → Closes (disk_fault_line (name_of t agent)) RunEnd.DiskFault end mid new m a → HasDiskFault before after → HasPlayed options t script old new before after b a end
   failed_run fronts agent w k d =
       let line = disk_fault_line (name_of t agent) in
       let is : BreaksPlay options t script (written options.report t w.1 ++ line) = (agent, record { groups = w.0; events = w.1; first = record { last = w.2; play = w.3; run = fronts w.0 w.1 w.2 w.3 w.4; within = w.4 }; spelled = refl }) in
@@ -158,14 +159,14 @@ module _ (t : Network) (options : RunOptions) (script : List Group) (old mid new
 ---- Plays that have failed
 
 -- a front of some groups stands, and nothing more is written
-module _ (t : Network) (options : RunOptions) (script : List Group) (old new : Option (List ℕ)) (before after : Counts) (b a : ℕ) where
-  begun_front : FrontsRun options.limit t script → WritesSomeOfPlay t options script old new → WritesSomeFront (BeginsPlay options t script) old new
+module _ (t : Network) (options : RunOptions) (script : Script) (old new : Option (List ℕ)) (before after : Counts) (b a : ℕ) where
+  begun_front : FrontsRun options.limit t script → WritesSomeOfPlay t options (plans_of script.lose) script.groups old new → WritesSomeFront (BeginsPlay options t script) old new
   begun_front fronts w =
       let text = written options.report t w.1 ++ no_text t in
       let is : BeginsPlay options t script text = inr (record { groups = w.0; events = w.1; first = record { last = w.2; play = w.3; run = fronts w.0 w.1 w.2 w.3 w.4; within = w.4 }; spelled = refl }) in
       some_front (BeginsPlay options t script) old new text is (subst (WritesFront old new) (sym (append-nil (written options.report t w.1))) w.5)
 
-  silent_run : FrontsRun options.limit t script → (end : RunEnd) → (end ≡ RunEnd.WriteFault → b < a) → ((end ≡ RunEnd.WriteFault → ⊥) → a ≡ b) → (end ≡ RunEnd.WriteFault) ⊎ (end ≡ RunEnd.NoMemory) → WritesSomeOfPlay t options script old new
+  silent_run : FrontsRun options.limit t script → (end : RunEnd) → (end ≡ RunEnd.WriteFault → b < a) → ((end ≡ RunEnd.WriteFault → ⊥) → a ≡ b) → (end ≡ RunEnd.WriteFault) ⊎ (end ≡ RunEnd.NoMemory) → WritesSomeOfPlay t options (plans_of script.lose) script.groups old new
       → HasPlayed options t script old new before after b a end
   silent_run fronts end w q k f =
       record {
@@ -192,24 +193,24 @@ module _ (t : Network) (options : RunOptions) (script : List Group) (old new : O
       not_reading (inr e) o = cc
 
 -- what the call of a play promises of its fault
-pub record Failing (t : Network) (options : RunOptions) (script : List Group) (old mid : Option (List ℕ)) (before after : Counts) (b m : ℕ) (fault : RunFault) : Type 0 where
-  pub long : fault ≡ RunFault.Long → WritesTooLong t options script old mid
-  pub broken : (agent : ℕ) → fault ≡ RunFault.DiskFault agent → WritesGroups t options script old mid
+pub record Failing (t : Network) (options : RunOptions) (script : Script) (old mid : Option (List ℕ)) (before after : Counts) (b m : ℕ) (fault : RunFault) : Type 0 where
+  pub long : fault ≡ RunFault.Long → WritesTooLong t options (plans_of script.lose) script.groups old mid
+  pub broken : (agent : ℕ) → fault ≡ RunFault.DiskFault agent → WritesGroups t options (plans_of script.lose) script.groups old mid
   pub disk : (agent : ℕ) → fault ≡ RunFault.DiskFault agent → HasDiskFault before after
-  pub front : WritesSomeOfPlay t options script old mid
+  pub front : WritesSomeOfPlay t options (plans_of script.lose) script.groups old mid
   pub write : fault ≡ RunFault.WriteFault → b < m
   pub quiet : (fault ≡ RunFault.WriteFault → ⊥) → m ≡ b
 
-module _ (t : Network) (options : RunOptions) (script : List Group) (old mid new : Option (List ℕ)) (before after : Counts) (b m a : ℕ) (end : RunEnd) where
+module _ (t : Network) (options : RunOptions) (script : Script) (old mid new : Option (List ℕ)) (before after : Counts) (b m a : ℕ) (end : RunEnd) where
   pub failing_run : FrontsRun options.limit t script → (fault : RunFault) → Failing t options script old mid before after b m fault → FailsAs t fault end mid new m a → HasPlayed options t script old new before after b a end
   failing_run fronts RunFault.Long f k = too_long_run t options script old mid new before after b m a (f.quiet (λ e. cc)) end fronts (f.long refl) k
   failing_run fronts (RunFault.DiskFault agent) f k = failed_run t options script old mid new before after b m a (f.quiet (λ e. cc)) end fronts agent (f.broken agent refl) k (f.disk agent refl)
   failing_run fronts RunFault.WriteFault f k =
       let r = f.write refl in
-      let P : Option (List ℕ) → Type 0 = λ o. WritesSomeOfPlay t options script old o in
+      let P : Option (List ℕ) → Type 0 = λ o. WritesSomeOfPlay t options (plans_of script.lose) script.groups old o in
       silent_run t options script old new before after b a fronts end (λ _. subst (λ x. b < x) (sym k.still) r) (λ n. absurd (n k.is)) (inl k.is) (subst P (sym k.same) f.front)
   failing_run fronts RunFault.NoMemory f k =
-      let P : Option (List ℕ) → Type 0 = λ o. WritesSomeOfPlay t options script old o in
+      let P : Option (List ℕ) → Type 0 = λ o. WritesSomeOfPlay t options (plans_of script.lose) script.groups old o in
       let e = k.is in
       silent_run t options script old new before after b a fronts end (λ w. cc) (λ _. k.still ∙ f.quiet (λ w. cc)) (inr k.is) (subst P (sym k.same) f.front)
 

@@ -12,6 +12,7 @@ use Rattle.nsi_script.specs.declared.script.Script.{Script}
 use Rattle.nsi_script.specs.Fits.{Fits, IsActOf, IsRising}
 use Rattle.nsi_script.specs.Scripts.{acts_of, seconds_of}
 use Rattle.nsi_agent.specs.Homes.{Routes, AreRoutes, home_in}
+use Rattle.nsi_play.specs.Openings.{plans_of}
 use Rattle.nsi_play.specs.Rounds.{Net}
 use Rattle.nsi_play.specs.Play.{IsPlay}
 use Rattle.nsi_world.specs.Worlds.{World, empty}
@@ -27,9 +28,9 @@ use Rattle.settled_play.specs.Settled.{PlayLeavesNone}
 use Rattle.run_command.specs.Runs.{IsSafeRun, IsWholeRun}
 
 -- a play of no more events than that is such a run
-abbrev pub PlaysRun : ℕ → Network → List Group → Type 0
+abbrev pub PlaysRun : ℕ → Network → Script → Type 0
 PlaysRun limit t script =
-    (events : List Event) (last : Net) → IsPlay t script events last → length events ≤ limit → (routes : Routes) → AreRoutes t routes → IsWholeRun t routes script events
+    (events : List Event) (last : Net) → IsPlay t (plans_of script.lose) script.groups events last → length events ≤ limit → (routes : Routes) → AreRoutes t routes → IsWholeRun t routes script events
 
 -- the laws of plays
 pub record PlayLaws : Type 0 where
@@ -57,15 +58,15 @@ safe_run laws t routes events sound well are run safe =
     front : (earlier later : List Event) → events ≡ earlier ++ later → AreAllowed (home_in t routes) empty earlier
     front earlier later e = allowed_front (home_in t routes) empty earlier later (subst (AreAllowed (home_in t routes) empty) e run.allowed)
 
-pub plays_run : PlayLaws → (limit : ℕ) (t : Network) (s : Script) → limit ≤ 2000000 → IsSound t → IsWellFormed t → Fits t s → PlaysRun limit t s.groups
+pub plays_run : PlayLaws → (limit : ℕ) (t : Network) (s : Script) → limit ≤ 2000000 → IsSound t → IsWellFormed t → Fits t s → PlaysRun limit t s
 plays_run laws limit t s few sound well fits = λ events last play within routes r.
     record {
       run = safe_run laws t routes events sound well r
-          (laws.is_run t routes s.groups events last well fits.rising fits.acts (play routes r) (omega (arith, few, within)))
-          (laws.safe t routes s.groups events last well fits.rising fits.acts (play routes r) (omega (arith, few, within)));
-      asks = laws.asks t routes s.groups events last well fits.rising fits.acts (play routes r);
-      rests = laws.rests t routes s.groups events last well fits.rising fits.acts (play routes r);
-      over = laws.over t routes s.groups events last sound well r fits.rising fits.acts (play routes r);
+          (laws.is_run t routes (plans_of s.lose) s.groups events last well fits.rising fits.acts (play routes r) (omega (arith, few, within)))
+          (laws.safe t routes (plans_of s.lose) s.groups events last well fits.rising fits.acts (play routes r) (omega (arith, few, within)));
+      asks = laws.asks t routes (plans_of s.lose) s.groups events last well fits.rising fits.acts (play routes r);
+      rests = laws.rests t routes (plans_of s.lose) s.groups events last well fits.rising fits.acts (play routes r);
+      over = λ none. laws.over t routes (plans_of s.lose) s.groups events last none sound well r fits.rising fits.acts (play routes r);
     }
 
 ---- Some first groups
@@ -88,17 +89,17 @@ module _ (P : Act → Type 0) where
   acts_take (suc n) (g ∷ gs) h = let p = parts g.acts (acts_of gs) h in All-append P g.acts (acts_of (take n gs)) p.0 (acts_take n gs p.1)
 
 -- the play of some first groups is a safe run
-abbrev pub FrontsRun : ℕ → Network → List Group → Type 0
+abbrev pub FrontsRun : ℕ → Network → Script → Type 0
 FrontsRun limit t script =
-    (groups : ℕ) (events : List Event) (last : Net) → IsPlay t (take groups script) events last → length events ≤ limit → (routes : Routes) → AreRoutes t routes → IsSafeRun t routes events
+    (groups : ℕ) (events : List Event) (last : Net) → IsPlay t (plans_of script.lose) (take groups script.groups) events last → length events ≤ limit → (routes : Routes) → AreRoutes t routes → IsSafeRun t routes events
 
-pub fronts_run : PlayLaws → (limit : ℕ) (t : Network) (s : Script) → limit ≤ 2000000 → IsSound t → IsWellFormed t → Fits t s → FrontsRun limit t s.groups
+pub fronts_run : PlayLaws → (limit : ℕ) (t : Network) (s : Script) → limit ≤ 2000000 → IsSound t → IsWellFormed t → Fits t s → FrontsRun limit t s
 fronts_run laws limit t s few sound well fits = λ groups events last play within routes r.
     let rising = rising_take groups s.groups fits.rising in
     let acts = acts_take (IsActOf t) groups s.groups fits.acts in
     safe_run laws t routes events sound well r
-    (laws.is_run t routes (take groups s.groups) events last well rising acts (play routes r) (omega (arith, few, within)))
-    (laws.safe t routes (take groups s.groups) events last well rising acts (play routes r) (omega (arith, few, within)))
+    (laws.is_run t routes (plans_of s.lose) (take groups s.groups) events last well rising acts (play routes r) (omega (arith, few, within)))
+    (laws.safe t routes (plans_of s.lose) (take groups s.groups) events last well rising acts (play routes r) (omega (arith, few, within)))
 
 ---- No events
 

@@ -4,7 +4,7 @@ use Rattle.nsi_disk.specs.ShelfCounts.{Raised}
 use Rattle.nsi_outside.specs.Stream.{WritesAll, WritesFront}
 use Rattle.stp_topology.specs.declared.network.Network.{Network}
 use Rattle.stp_topology.specs.Network.{name_of}
-use Rattle.nsi_script.specs.declared.script.Group.{Group}
+use Rattle.nsi_script.specs.declared.script.Script.{Script}
 use Rattle.fault_lines.specs.Lines.{disk_fault_line, long_line, read_fault_line}
 use Rattle.agent_threads.specs.declared.fault.RunFault.{RunFault}
 use Rattle.agent_threads.specs.declared.report.RunOptions.{RunOptions}
@@ -106,7 +106,7 @@ pub record HasRun (Texts : RunEnd → List ℕ → Type 0) (Fronts Broken : List
   pub read : end ≡ RunEnd.ReadFault → ⊥
 
 -- a script is played
-abbrev pub HasPlayed : RunOptions → Network → List Group → (old new : Option (List ℕ)) → (before after : Counts) → (faults_before faults_after : ℕ) → RunEnd → Type 0
+abbrev pub HasPlayed : RunOptions → Network → Script → (old new : Option (List ℕ)) → (before after : Counts) → (faults_before faults_after : ℕ) → RunEnd → Type 0
 HasPlayed options t script = HasRun (Plays options t script) (BeginsPlay options t script) (BreaksPlay options t script)
 
 -- an input is read

@@ -9,10 +9,10 @@ use Rattle.stp_topology.specs.declared.network.Network.{Network}
 use Rattle.stp_topology.specs.Network.{nothing, name_of}
 use Rattle.stp_topology.specs.Text.{read_lines, behind_lines}
 use Rattle.nsi_script.specs.declared.fault.ScriptFault.{ScriptFault}
-use Rattle.nsi_script.specs.declared.script.Group.{Group}
 use Rattle.nsi_script.specs.declared.script.Script.{Script}
 use Rattle.nsi_script.specs.Text.{script_of}
 use Rattle.nsi_agent.specs.Homes.{Routes, AreRoutes, home_in}
+use Rattle.nsi_play.specs.Openings.{plans_of}
 use Rattle.nsi_play.specs.Play.{IsPlay, Passes}
 use Rattle.nsi_play.specs.Rounds.{Net}
 use Rattle.nsi_world.specs.Worlds.{empty, said}
@@ -21,7 +21,7 @@ use Rattle.nsi_world.specs.Scripts.{wishes_of}
 use Rattle.nsi_world.specs.Laws.{IsAtRest}
 use Rattle.safe_runs.specs.Safe.{InEachWorld, IsSafeAtEachAgent}
 use Rattle.circuit_laws.specs.Backed.{EachViewIsBacked, EachViewRises, EachCircuitStands}
-use Rattle.settled_play.specs.Settled.{IsDone}
+use Rattle.settled_play.specs.Settled.{LoseNothing, IsDone}
 use Rattle.run_totals.specs.Totals.{totals_of}
 use Rattle.run_totals.specs.declared.totals.Totals.{Totals}
 use Rattle.agent_threads.specs.Reports.{written}
@@ -57,64 +57,64 @@ pub record IsSafeRun (t : Network) (routes : Routes) (events : List Event) : Typ
   pub circuits : InEachWorld events (EachCircuitStands (home_in t routes))
 
 -- the play of some first groups of a script, which has no more events than that, and is such a run whichever legs are those of the least paths
-pub record IsTextOf (options : RunOptions) (t : Network) (script : List Group) (groups : ℕ) (events : List Event) : Type 0 where
+pub record IsTextOf (options : RunOptions) (t : Network) (script : Script) (groups : ℕ) (events : List Event) : Type 0 where
   pub last : Net
-  pub play : IsPlay t (take groups script) events last
+  pub play : IsPlay t (plans_of script.lose) (take groups script.groups) events last
   pub run : (routes : Routes) → AreRoutes t routes → IsSafeRun t routes events
   pub within : length events ≤ options.limit
 
 -- These events are a safe run that asks the whole script, in order. In the world that they make each journal is synced whole, no work
--- waits, and each message that was said was got and acknowledged.
-pub record IsWholeRun (t : Network) (routes : Routes) (script : List Group) (events : List Event) : Type 0 where
+-- waits, and where the script plans no loss each message that was said was got and acknowledged.
+pub record IsWholeRun (t : Network) (routes : Routes) (script : Script) (events : List Event) : Type 0 where
   pub run : IsSafeRun t routes events
-  pub asks : asks_of events ≡ numbered 0 (wishes_of script)
+  pub asks : asks_of events ≡ numbered 0 (wishes_of script.groups)
   pub rests : (a : ℕ) → a < length t.agents → IsAtRest (home_in t routes) (world_after empty events) a
-  pub over : (a : ℕ) → a < length t.agents → All (IsDone t (home_in t routes) (world_after empty events) a) (said (home_in t routes) (world_after empty events) a)
+  pub over : LoseNothing (plans_of script.lose) → (a : ℕ) → a < length t.agents → All (IsDone t (home_in t routes) (world_after empty events) a) (said (home_in t routes) (world_after empty events) a)
 
 -- what is wanted of the whole play, which is such a run whichever legs are those of the least paths, and behind it its numbers
-pub record IsSettled (options : RunOptions) (t : Network) (script : List Group) (text : List ℕ) : Type 0 where
+pub record IsSettled (options : RunOptions) (t : Network) (script : Script) (text : List ℕ) : Type 0 where
   pub events : List Event
   pub last : Net
-  pub play : IsPlay t script events last
+  pub play : IsPlay t (plans_of script.lose) script.groups events last
   pub run : (routes : Routes) → AreRoutes t routes → IsWholeRun t routes script events
   pub within : length events ≤ options.limit
   pub spelled : text ≡ written options.report t events ++ closing_line options.report (totals_of t events)
 
 -- as many groups as make no more events than that, and behind them that there are more
-pub record IsTooLong (options : RunOptions) (t : Network) (script : List Group) (text : List ℕ) : Type 0 where
+pub record IsTooLong (options : RunOptions) (t : Network) (script : Script) (text : List ℕ) : Type 0 where
   pub groups : ℕ
   pub events : List Event
   pub first : IsTextOf options t script groups events
-  pub passes : Passes options.limit t (take (groups + 1) script)
+  pub passes : Passes options.limit t (plans_of script.lose) (take (groups + 1) script.groups)
   pub spelled : text ≡ written options.report t events ++ long_line
 
 -- some first groups of the play, and that text behind them
-pub record StartsPlay (options : RunOptions) (t : Network) (script : List Group) (behind : Network → List ℕ) (text : List ℕ) : Type 0 where
+pub record StartsPlay (options : RunOptions) (t : Network) (script : Script) (behind : Network → List ℕ) (text : List ℕ) : Type 0 where
   pub groups : ℕ
   pub events : List Event
   pub first : IsTextOf options t script groups events
   pub spelled : text ≡ written options.report t events ++ behind t
 
 -- some first groups of the play, and behind them whose disk has failed
-abbrev pub BreaksPlay : RunOptions → Network → List Group → List ℕ → Type 0
+abbrev pub BreaksPlay : RunOptions → Network → Script → List ℕ → Type 0
 BreaksPlay options t script text = (agent : ℕ) × StartsPlay options t script (λ u. disk_fault_line (name_of u agent)) text
 
 abbrev pub no_text : Network → List ℕ
 no_text t = []
 
-abbrev pub Plays : RunOptions → Network → List Group → RunEnd → List ℕ → Type 0
+abbrev pub Plays : RunOptions → Network → Script → RunEnd → List ℕ → Type 0
 Plays options t script RunEnd.Done text = IsSettled options t script text
 Plays options t script RunEnd.Long text = IsTooLong options t script text
 Plays options t script end text = ⊥
 
 -- all that a play writes, or some first groups of it
-abbrev pub BeginsPlay : RunOptions → Network → List Group → List ℕ → Type 0
+abbrev pub BeginsPlay : RunOptions → Network → Script → List ℕ → Type 0
 BeginsPlay options t script text = ((end : RunEnd) × Plays options t script end text) ⊎ StartsPlay options t script no_text text
 
 ---- Inputs
 
 abbrev pub RunsScript : RunOptions → Network → Result Script (ℕ × ScriptFault) → RunEnd → List ℕ → Type 0
-RunsScript options t (Ok script) end text = Plays options t script.groups end text
+RunsScript options t (Ok script) end text = Plays options t script end text
 RunsScript options t (Err e) end text = (end ≡ RunEnd.BadScript) × (text ≡ script_fault e.0 e.1)
 
 -- the script stands behind the topology's lines
@@ -136,16 +136,14 @@ Runs options bytes end text = RunsIf (nat_le (length bytes) greatest_input) opti
 ---- Runs that were cut short
 
 -- the bytes are a topology and a script
-pub record AreRead (bytes : List ℕ) (t : Network) (script : List Group) : Type 0 where
+pub record AreRead (bytes : List ℕ) (t : Network) (script : Script) : Type 0 where
   pub lines : ℕ
-  pub whole : Script
   pub topology : read_lines nothing 0 (lines_of bytes) ≡ Ok (t, lines)
-  pub behind : script_behind bytes (t, lines) ≡ Ok whole
-  pub groups : whole.groups ≡ script
+  pub behind : script_behind bytes (t, lines) ≡ Ok script
 
 -- where the bytes are a topology and a script, something of these
-abbrev pub OfRead : List ℕ → (Network → List Group → Type 0) → Type 0
-OfRead bytes P = (t : Network) × (script : List Group) × AreRead bytes t script × P t script
+abbrev pub OfRead : List ℕ → (Network → Script → Type 0) → Type 0
+OfRead bytes P = (t : Network) × (script : Script) × AreRead bytes t script × P t script
 
 -- some first groups of the play, and behind them whose disk has failed
 abbrev pub Breaks : RunOptions → List ℕ → List ℕ → Type 0
@@ -159,4 +157,4 @@ Begins options bytes text = ((end : RunEnd) × Runs options bytes end text) ⊎ 
 
 -- the bytes are a topology and a script, and what is held under the name of each agent reads as its journal of the play
 abbrev pub KeepsRun : List ℕ → (old new : List ℕ → Option (List ℕ)) → Type 0
-KeepsRun bytes old new = OfRead bytes (λ t script. HoldsJournals t script old new)
+KeepsRun bytes old new = OfRead bytes (λ t script. HoldsJournals t (plans_of script.lose) script.groups old new)

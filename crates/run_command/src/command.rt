@@ -5,6 +5,7 @@ ghost use Rattle.nsi_base.specs.Range.{greatest_input};
 ghost use Rattle.nsi_outside.specs.Stream.{WritesAll};
 ghost use Rattle.stp_topology.specs.Network.{name_of};
 ghost use Rattle.nsi_script.specs.Fits.{Fits};
+ghost use Rattle.nsi_play.specs.Openings.{plans_of};
 ghost use Rattle.fault_lines.specs.Lines.{topology_fault, script_fault, disk_fault_line, read_fault_line};
 ghost use Rattle.run_command.specs.Ends.{is_told, WritesSome, IsCutShort, IsQuiet, HasDiskFault, IsTold, Closes, IsOfAgent, FailsAs, HasPlayed, HasRead, counted};
 ghost use Rattle.run_command.specs.Reading.{IsDeclared};
@@ -131,13 +132,13 @@ where
     H::Disk: Drop + Send,
     requires limit { options.limit ≤ 2000000 }
     requires fits { Fits topology.now script.now }
-    ensures played { HasPlayed options topology.now script.now.groups
+    ensures played { HasPlayed options topology.now script.now
         (K.content out.old) (K.content out.new)
         (counted 0 (H.faults shelf.old) (H.stops shelf.old))
         (counted 0 (H.faults shelf.new) (H.stops shelf.new))
         (K.faults out.old) (K.faults out.new) result }
-    ensures journals { result ≡ RunEnd.Done → HoldsJournals topology.now script.now.groups
-        (H.holds shelf.old) (H.holds shelf.new) }
+    ensures journals { result ≡ RunEnd.Done → HoldsJournals topology.now
+        (plans_of script.now.lose) script.now.groups (H.holds shelf.old) (H.holds shelf.new) }
 {
     topology.facts();
     topology.laws();

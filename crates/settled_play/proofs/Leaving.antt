@@ -113,15 +113,15 @@ settled_in t routes given past net w r quiet is =
     }
 
 pub play_settles : WhatIsSaidIsItsOwn → NoneIsQuery → PlayRests → PlaySettles
-play_settles own plain rests t routes groups events last sound formed routed rise may p =
+play_settles own plain rests t routes plans groups events last none sound formed routed rise may p =
     let given : Given t routes = record { own = own; plain = plain; sound = sound; formed = formed; routed = routed } in
     let homes : Homes = home_in t routes in
-    let e : Ends t routes [] (plays p.0 groups 0 homes (opening t)) = plays_end t routes given [] p.0 groups 0 (opening t) (opening_rests t routes) (opening_quiet t routes) (ap (λ (z : Played). z.is_over) p.1) in
+    let e : Ends t routes [] (plays p.0 groups 0 homes (opening t plans)) = plays_end t routes given [] p.0 groups 0 (opening t plans) (opening_rests t routes plans none) (opening_quiet t routes plans) (ap (λ (z : Played). z.is_over) p.1) in
     let end = subst (Ends t routes []) p.1 e in
     let w : World = world_after empty events in
     settled_in t routes given events last w end.rests end.quiet (record {
       journal = λ a. journal_after a empty events end.rests.goes_on;
-      synced = λ a lt. (rests t routes groups events last formed rise may p a lt).synced;
+      synced = λ a lt. (rests t routes plans groups events last formed rise may p a lt).synced;
     })
 
 ---- Each message
@@ -142,5 +142,5 @@ each_done t homes w h a lt k d within =
     (to.0, to.1, to.2, both.0, both.1)
 
 pub play_leaves_none : WhatIsSaidIsItsOwn → NoneIsQuery → PlayRests → PlayLeavesNone
-play_leaves_none own plain rests t routes groups events last sound formed routed rise may p a lt =
-    each_done t (home_in t routes) (world_after empty events) (play_settles own plain rests t routes groups events last sound formed routed rise may p) a lt
+play_leaves_none own plain rests t routes plans groups events last none sound formed routed rise may p a lt =
+    each_done t (home_in t routes) (world_after empty events) (play_settles own plain rests t routes plans groups events last none sound formed routed rise may p) a lt

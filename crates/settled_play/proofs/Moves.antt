@@ -28,7 +28,8 @@ use Rattle.agent_node.specs.Turns.{cleared, takes, takes_all, work_then, works_o
 use Rattle.agent_node.specs.Acts.{asked, forced, is_overdue, overdue, tick_at, ticked}
 use Rattle.nsi_play.specs.Play.{changes, does}
 use Rattle.settled_play.proofs.Finding.{door_to, door_all, none_there, first_there, later_there, first_or_later, change_doors, map_door, others_map, lies_there, with_leads, queued_there, queue_keeps, says_keeps, said_there, others_change}
-use Rattle.settled_play.proofs.Putting.{IsRepeat, LosesNone, passes_keep, passes_lose}
+use Rattle.settled_play.specs.Settled.{IsRepeat, LosesNone}
+use Rattle.settled_play.proofs.Putting.{passes_keep, passes_lose}
 use Rattle.settled_play.proofs.Waiting.{acked_before}
 use Rattle.nsi_world.proofs.Names.{home_leads}
 use Rattle.settled_play.proofs.Links.{Given, Goes, IsLinked, Way, said_goes}

@@ -10,13 +10,14 @@ use Rattle.nsi_agent.specs.Told.{goes_on, told}
 use Rattle.nsi_script.specs.declared.script.Act.{Act}
 use Rattle.nsi_script.specs.declared.script.Group.{Group}
 use Rattle.agent_node.specs.Doors.{Door, others}
-use Rattle.agent_node.specs.Openings.{agents, others_of, empty_door, doors_of, seat_of, nothing_planned}
-use Rattle.nsi_play.specs.Openings.{opening}
+use Rattle.agent_link.specs.Plans.{Plan}
+use Rattle.agent_node.specs.Openings.{agents, others_of, opened, doors_of, seat_of}
+use Rattle.nsi_play.specs.Openings.{Plans, opening}
 use Rattle.nsi_play.specs.Rounds.{Net, Homes, round, events_of, emptied, all_quiet}
 use Rattle.nsi_play.specs.Play.{Played, behind, after_round, settles, does, acted, asks_in, asks_among, acts, ticked_in, begins, group, plays}
 use Rattle.nsi_play.proofs.Settling.{settle_quiet, settle_more, settle_stop, group_is, plays_cons, plays_nil, acts_cons, acts_none, then_over, then_stopped}
 use Rattle.nsi_world.specs.Nets.{numbers, IsTold}
-use Rattle.settled_play.proofs.Putting.{IsRepeat}
+use Rattle.settled_play.specs.Settled.{LoseNothing}
 use Rattle.settled_play.proofs.Finding.{door_all, none_there}
 use Rattle.settled_play.proofs.Links.{Given, Goes, IsLinked, agents_within}
 use Rattle.settled_play.proofs.Steps.{IsDoor, IsInHand}
@@ -112,52 +113,52 @@ plays_end t routes given past most (g ∷ gs) count x r quiet over =
 
 ---- Before anything has happened
 
-numbers_of : (t : Network) (ns : List ℕ) → numbers (map (seat_of t nothing_planned) ns) ≡ ns
-numbers_of t [] = refl
-numbers_of t (n ∷ ns) = ap (λ xs. n ∷ xs) (numbers_of t ns)
+numbers_of : (t : Network) (plans : Plans) (ns : List ℕ) → numbers (map (seat_of t plans) ns) ≡ ns
+numbers_of t plans [] = refl
+numbers_of t plans (n ∷ ns) = ap (λ xs. n ∷ xs) (numbers_of t plans ns)
 
-empty_others : (bs : List ℕ) → others (map empty_door bs) ≡ bs
-empty_others [] = refl
-empty_others (b ∷ bs) = ap (λ xs. b ∷ xs) (empty_others bs)
+empty_others : (plans : ℕ → Plan) (bs : List ℕ) → others (map (opened plans) bs) ≡ bs
+empty_others plans [] = refl
+empty_others plans (b ∷ bs) = ap (λ xs. b ∷ xs) (empty_others plans bs)
 
-empty_doors : (t : Network) (a : ℕ) (d : Door) → Contains (doors_of t nothing_planned a) d → IsDoor t a d
-empty_doors t a d c =
-    let x = mapped_from empty_door (others_of t a) d c in
-    subst (IsDoor t a) x.2 (record { link = x.1; keeps = All-nil IsRepeat; queue = All-nil (Goes t a x.0); out = All-nil (Goes t a x.0); inc = All-nil (Goes t x.0 a) })
+empty_doors : (t : Network) (plans : Plans) → LoseNothing plans → (a : ℕ) (d : Door) → Contains (doors_of t plans a) d → IsDoor t a d
+empty_doors t plans none a d c =
+    let x = mapped_from (opened (plans a)) (others_of t a) d c in
+    subst (IsDoor t a) x.2 (record { link = x.1; keeps = none a x.0; queue = All-nil (Goes t a x.0); out = All-nil (Goes t a x.0); inc = All-nil (Goes t x.0 a) })
 
-seat_sits : (t : Network) (routes : Routes) (a : ℕ) → Contains (agents t) a → SitsIn t routes [] (seat_of t nothing_planned a)
+seat_sits : (t : Network) (routes : Routes) (plans : Plans) → LoseNothing plans → (a : ℕ) → Contains (agents t) a → SitsIn t routes [] (seat_of t plans a)
 unfolding goes_on
-seat_sits t routes a c = record {
+seat_sits t routes plans none a c = record {
   number = refl;
   within = agents_within t a c;
   state = refl;
   clear = λ q. refl;
   unsaid = All-nil (Contains (told (home_in t routes a) []).out);
-  others = empty_others (others_of t a);
-  doors = empty_doors t a;
+  others = empty_others (plans a) (others_of t a);
+  doors = empty_doors t plans none a;
   heard = All-nil (IsLinked t a);
   held = All-nil (IsInHand t a);
 }
 
-seat_met : (t : Network) (a : ℕ) → HasMetAll (seat_of t nothing_planned a)
-seat_met t a b = door_all (λ d. d.out ≡ []) b (doors_of t nothing_planned a) refl (λ d e c. let x = mapped_from empty_door (others_of t a) d c in ap (λ (z : Door). z.out) (sym x.2))
+seat_met : (t : Network) (plans : Plans) (a : ℕ) → HasMetAll (seat_of t plans a)
+seat_met t plans a b = door_all (λ d. d.out ≡ []) b (doors_of t plans a) refl (λ d e c. let x = mapped_from (opened (plans a)) (others_of t a) d c in ap (λ (z : Door). z.out) (sym x.2))
 
-seats_pair : (t : Network) (routes : Routes) (a b : ℕ) → PairIn t routes [] (seat_of t nothing_planned a) (seat_of t nothing_planned b)
+seats_pair : (t : Network) (routes : Routes) (plans : Plans) (a b : ℕ) → PairIn t routes [] (seat_of t plans a) (seat_of t plans b)
 unfolding goes_on
-seats_pair t routes a b = record {
+seats_pair t routes plans a b = record {
   heard = λ m e c. absurd (none_there m c);
   acked = λ m e c. absurd (none_there m c);
 }
 
-pub opening_rests : (t : Network) (routes : Routes) → Rests t routes [] (opening t)
-opening_rests t routes = record {
-  numbers = numbers_of t (agents t);
-  told = λ s c. let x = mapped_from (seat_of t nothing_planned) (agents t) s c in subst IsTold x.2 refl;
+pub opening_rests : (t : Network) (routes : Routes) (plans : Plans) → LoseNothing plans → Rests t routes [] (opening t plans)
+opening_rests t routes plans none = record {
+  numbers = numbers_of t plans (agents t);
+  told = λ s c. let x = mapped_from (seat_of t plans) (agents t) s c in subst IsTold x.2 refl;
   goes_on = All-nil GoesOn;
-  sits = λ s c. let x = mapped_from (seat_of t nothing_planned) (agents t) s c in subst (SitsIn t routes []) x.2 (seat_sits t routes x.0 x.1);
-  met = λ s c. let x = mapped_from (seat_of t nothing_planned) (agents t) s c in subst HasMetAll x.2 (seat_met t x.0);
+  sits = λ s c. let x = mapped_from (seat_of t plans) (agents t) s c in subst (SitsIn t routes []) x.2 (seat_sits t routes plans none x.0 x.1);
+  met = λ s c. let x = mapped_from (seat_of t plans) (agents t) s c in subst HasMetAll x.2 (seat_met t plans x.0);
   pairs = λ s u c d.
-      let x = mapped_from (seat_of t nothing_planned) (agents t) s c in
-      let y = mapped_from (seat_of t nothing_planned) (agents t) u d in
-      subst (λ z. PairIn t routes [] z u) x.2 (subst (PairIn t routes [] (seat_of t nothing_planned x.0)) y.2 (seats_pair t routes x.0 y.0));
+      let x = mapped_from (seat_of t plans) (agents t) s c in
+      let y = mapped_from (seat_of t plans) (agents t) u d in
+      subst (λ z. PairIn t routes [] z u) x.2 (subst (PairIn t routes [] (seat_of t plans x.0)) y.2 (seats_pair t routes plans x.0 y.0));
 }

@@ -1,6 +1,6 @@
 -- Where a plan loses nothing, all that is put on a link comes.
 use Rattle.std.proofs.Common.{ℕ, ◌-◌, ◌≡◌, List, [], ◌∷◌, ◌++◌, ◌⊎◌, inl, inr, Bool, true, false, cond, if◌then◌else◌, Option, Some, subst}
-use Rattle.std.specs.List.{All, Contains, find}
+use Rattle.std.specs.List.{Contains, find}
 use Rattle.std.proofs.lemmas.List.Elements.{All-nil, All-cons, All-head, All-tail, Contains-append_left, Contains-append_right}
 use Rattle.nsi_primitive.specs.declared.message.Parcel.{Parcel}
 use Rattle.agent_link.specs.Link.{is_full}
@@ -8,14 +8,8 @@ use Rattle.agent_link.specs.Plans.{Plan, is_of_kind, is_due, made_how, made_by, 
 use Rattle.agent_link.specs.declared.plan.How.{How}
 use Rattle.agent_link.specs.declared.plan.LinkFault.{LinkFault}
 use Rattle.agent_node.specs.Doors.{Passing, passes}
+use Rattle.settled_play.specs.Settled.{IsRepeat, LosesNone}
 use Rattle.settled_play.proofs.Finding.{first_there, first_or_later}
-
--- what is planned comes twice
-abbrev pub IsRepeat : LinkFault → Type 0
-IsRepeat f = f.how ≡ How.Repeat
-
-abbrev pub LosesNone : Plan → Type 0
-LosesNone plan = All IsRepeat plan
 
 near_if : (b : Bool) (f : LinkFault) (n : ℕ) → IsRepeat f → IsRepeat (if b then record f { nth = n } else f)
 near_if true f n h = h

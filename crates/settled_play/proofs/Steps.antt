@@ -18,10 +18,9 @@ use Rattle.nsi_agent.proofs.Telling.{telling_is_in_parts}
 use Rattle.agent_node.specs.Doors.{Door, others}
 use Rattle.agent_node.specs.Seat.{Seat, enters}
 use Rattle.agent_node.specs.Openings.{others_of}
-use Rattle.settled_play.specs.Settled.{WasAcked}
+use Rattle.settled_play.specs.Settled.{WasAcked, LosesNone}
 use Rattle.settled_play.proofs.Finding.{door_to, first_or_later}
 use Rattle.settled_play.proofs.Links.{Goes, IsLinked}
-use Rattle.settled_play.proofs.Putting.{LosesNone}
 
 ---- What was entered
 

@@ -8,6 +8,9 @@ use Rattle.nsi_primitive.specs.declared.entry.Input.{Input}
 use Rattle.nsi_primitive.specs.declared.kind.Kind.{Kind}
 use Rattle.nsi_primitive.specs.declared.message.Identity.{Identity}
 use Rattle.nsi_primitive.specs.declared.message.Message.{Message}
+use Rattle.agent_link.specs.Plans.{Plan}
+use Rattle.agent_link.specs.declared.plan.How.{How}
+use Rattle.agent_link.specs.declared.plan.LinkFault.{LinkFault}
 use Rattle.stp_topology.specs.Laws.{IsWellFormed}
 use Rattle.stp_topology.specs.Sound.{IsSound}
 use Rattle.stp_topology.specs.declared.network.Network.{Network}
@@ -16,7 +19,7 @@ use Rattle.nsi_script.specs.Scripts.{acts_of, seconds_of}
 use Rattle.nsi_script.specs.declared.script.Group.{Group}
 use Rattle.nsi_agent.specs.Homes.{Routes, AreRoutes, home_in}
 use Rattle.nsi_agent.specs.Told.{WasGot}
-use Rattle.nsi_play.specs.Openings.{opening}
+use Rattle.nsi_play.specs.Openings.{Plans, opening}
 use Rattle.nsi_play.specs.Rounds.{Net}
 use Rattle.nsi_play.specs.Play.{IsPlayFrom}
 use Rattle.nsi_world.specs.Worlds.{Homes, World, empty, IsTo, said}
@@ -60,11 +63,23 @@ pub record IsSettled (t : Network) (homes : Homes) (lost lost_back : Losses) (w 
   pub heard : (a b : ℕ) (kind : Kind) → a < length t.agents → b < length t.agents → AllBut (lost a b kind) (IsHeard homes w b kind) (said homes w a)
   pub acknowledged : (a b : ℕ) (kind : Kind) → a < length t.agents → b < length t.agents → AllBut (lost a b kind + lost_back b a kind) (IsOver homes w a b kind) (said homes w a)
 
--- so it is in the world at the end of a play, in which nothing is lost
+-- a parcel that comes twice, and none that is lost
+abbrev pub IsRepeat : LinkFault → Type 0
+IsRepeat f = f.how ≡ How.Repeat
+
+-- what is planned for a link loses nothing
+abbrev pub LosesNone : Plan → Type 0
+LosesNone plan = All IsRepeat plan
+
+-- so it is for each link
+abbrev pub LoseNothing : Plans → Type 0
+LoseNothing plans = (from to : ℕ) → LosesNone (plans from to)
+
+-- so it is in the world at the end of a play, in which nothing is lost, whatever comes twice
 abbrev pub PlaySettles : Type 0
 PlaySettles =
-    (t : Network) (routes : Routes) (groups : List Group) (events : List Event) (last : Net) → IsSound t → IsWellFormed t → AreRoutes t routes → IsRising (seconds_of groups) →
-    All (IsActOf t) (acts_of groups) → IsPlayFrom groups (home_in t routes) (opening t) events last → IsSettled t (home_in t routes) none_lost none_lost (world_after empty events)
+    (t : Network) (routes : Routes) (plans : Plans) (groups : List Group) (events : List Event) (last : Net) → LoseNothing plans → IsSound t → IsWellFormed t → AreRoutes t routes →
+    IsRising (seconds_of groups) → All (IsActOf t) (acts_of groups) → IsPlayFrom groups (home_in t routes) (opening t plans) events last → IsSettled t (home_in t routes) none_lost none_lost (world_after empty events)
 
 ---- Each message
 
@@ -72,9 +87,9 @@ PlaySettles =
 abbrev pub IsDone : Network → Homes → World → ℕ → Message → Type 0
 IsDone t homes w from m = (b : ℕ) × (b < length t.agents) × IsTo homes b m × WasGot m (w.journal b) × WasAcked (identity m) (w.journal from)
 
--- at the end of a play so it is of each message that an agent has said
+-- at the end of such a play so it is of each message that an agent has said
 abbrev pub PlayLeavesNone : Type 0
 PlayLeavesNone =
-    (t : Network) (routes : Routes) (groups : List Group) (events : List Event) (last : Net) → IsSound t → IsWellFormed t → AreRoutes t routes → IsRising (seconds_of groups) →
-    All (IsActOf t) (acts_of groups) → IsPlayFrom groups (home_in t routes) (opening t) events last →
+    (t : Network) (routes : Routes) (plans : Plans) (groups : List Group) (events : List Event) (last : Net) → LoseNothing plans → IsSound t → IsWellFormed t → AreRoutes t routes →
+    IsRising (seconds_of groups) → All (IsActOf t) (acts_of groups) → IsPlayFrom groups (home_in t routes) (opening t plans) events last →
     (a : ℕ) → a < length t.agents → All (IsDone t (home_in t routes) (world_after empty events) a) (said (home_in t routes) (world_after empty events) a)

@@ -2,8 +2,8 @@
 
 use super::{Failing, TOPOLOGY, Written, behind_topology, in_full, run, run_whole};
 use crate::tables::playing::{
-    ASKED, ASKS, AT_ONCE, FAULTS, LACKING, Played, RANKED, RESERVE, RESERVED, TICKED, WHOLE,
-    WITHOUT_PATH,
+    ASKED, ASKS, AT_ONCE, FAULTS, LACKING, LOST_CONFIRMATION, LOST_TIMEOUT, Played, RANKED,
+    RESERVE, RESERVED, TICKED, WHOLE, WITHOUT_PATH,
 };
 use std::alloc::{AllocError, Global};
 use std::test::Fail;
@@ -133,6 +133,39 @@ fn circuits_go_over_networks(rt: HostRuntime) -> Result<(), Fail> {
     for row in &[LACKING, WHOLE, WITHOUT_PATH, AT_ONCE, RANKED] {
         let is_right = is_taken(&rt, rt.alloc(), row)?;
         assert!(rt; is_right, "{}", row.settled);
+    }
+    Ok(())
+}
+
+/// What is lost is sent again at the next tick, or missed for good where the protocol goes on without it.
+#[test]
+fn losses_are_made_good(rt: HostRuntime) -> Result<(), Fail> {
+    let alloc = rt.alloc();
+    for row in &[LOST_TIMEOUT, LOST_CONFIRMATION] {
+        let is_right = is_taken(&rt, alloc, row)?;
+        assert!(rt; is_right, "{}", row.settled);
+    }
+    let script = format!(in alloc; "lose r1 p1 reserve 1\n{RESERVE}at 1\n")?;
+    let written = played(&rt, alloc, "run", script.as_str())?;
+    let text = written.bytes.as_slice();
+    let once = lines_of(alloc, text, &[b"got r1 {\"capacity\""])?;
+    assert!(rt; written.status == 0 && text.ends_with(b"\nsettled 19\n"));
+    assert!(rt; once.iter().filter(|byte| **byte == b'\n').count() == 1);
+    Ok(())
+}
+
+#[test]
+fn what_comes_twice_is_taken_once(rt: HostRuntime) -> Result<(), Fail> {
+    let alloc = rt.alloc();
+    let whole = format!(in alloc; "{RESERVED}settled 15\n")?;
+    for line in &[
+        "repeat r1 p1 reserve 1",
+        "repeat p1 r1 ack 1",
+        "repeat p1 r1 reserveConfirmed 1",
+    ] {
+        let script = format!(in alloc; "{line}\n{RESERVE}")?;
+        let is_same = is_played(&rt, alloc, "run", script.as_str(), 0, whole.as_str())?;
+        assert!(rt; is_same, "{line}");
     }
     Ok(())
 }

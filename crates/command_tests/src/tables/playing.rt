@@ -35,7 +35,7 @@ ask r1 outstanding=R#2 abort c1
 ";
 
 /// Scripts behind the topology of five lines, and their first fault.
-pub(crate) const FAULTS: [(&str, &str); 12] = [
+pub(crate) const FAULTS: [(&str, &str); 14] = [
     ("at 5\nat 4\n", "7 Time"),
     ("ask r1 reserve c1 A B 1 0 1\n", "6 Time"),
     ("at 0\nask p1 commit c1\n", "7 Agent"),
@@ -44,7 +44,9 @@ pub(crate) const FAULTS: [(&str, &str); 12] = [
     ("at 0\nlose r1 p1 reserve 1\n", "7 Word"),
     ("at 0\nask r1 reserve c1 A A 1 0 1\n", "7 Word"),
     ("at 0 \n", "6 Word"),
-    ("lose r1 p1 reserve 1\n", "6 Unbuilt"),
+    ("lose r1 p1 reserve 1\nrepeat r1 p1 reserve 1\n", "7 Word"),
+    ("lose r1 r1 reserve 1\n", "6 Agent"),
+    ("stop p1 1 old\n", "6 Unbuilt"),
     ("at 0\nrestart p1\n", "7 Unbuilt"),
     (
         "at 0\nask r1 reserve c1 A B 1 0 1\nask r1 summary\n",
@@ -212,4 +214,65 @@ force p1 7
 got r1 {"connectionId":"U4#1","correlationId":"U4#6","event":"forcedEnd","kind":"errorEvent","notificationId":1,"originatingConnectionId":"U0#1","originatingNSA":"p1","providerNSA":"a2","requesterNSA":"r1","timeStamp":2}
 "#,
     settled: "settled 138\n",
+};
+
+/// The end of a hold isn't heard, so the connection is committed at a child that has given it up; what was left is ended.
+pub(crate) const LOST_TIMEOUT: Played = Played {
+    input: "agent p1 provider 60
+agent p2 provider 5
+agent a1 aggregator
+agent r1 requester a1
+stp p1 A 1000
+stp p1 B 1000
+stp p2 C 1000
+stp p2 D 1000
+sdp B C
+child a1 p1
+child a1 p2
+---
+lose p2 a1 reserveTimeout 1
+at 0
+ask r1 reserve c1 A D 100 10 20
+at 5
+ask r1 commit c1
+at 6
+ask r1 reserve c1 A D 100 10 20
+at 7
+ask r1 terminate c1
+",
+    taken: r#"got r1 {"connectionId":"U2#1","correlationId":"U3#1","kind":"reserveResponse","providerNSA":"a1","requesterNSA":"r1"}
+got r1 {"capacity":100,"connectionId":"U2#1","correlationId":"U3#1","destSTP":"D","directionality":"Bidirectional","endTime":20,"kind":"reserveConfirmed","providerNSA":"a1","requesterNSA":"r1","sourceSTP":"A","startTime":10,"version":0}
+got r1 {"child":"p2","childErrorId":"INVALID_TRANSITION","connectionId":"U2#1","correlationId":"U3#2","errorId":"CHILD","kind":"reserveCommitFailed","nsaId":"a1","providerNSA":"a1","requesterNSA":"r1"}
+got r1 {"connectionId":"U2#1","correlationId":"U3#3","errorId":"INVALID_TRANSITION","kind":"error","nsaId":"a1","providerNSA":"a1","requesterNSA":"r1"}
+got r1 {"connectionId":"U2#1","correlationId":"U3#4","kind":"terminateConfirmed","providerNSA":"a1","requesterNSA":"r1"}
+"#,
+    settled: "settled 120\n",
+};
+
+/// A child's confirmation is lost, and comes once the child sends it again at its next tick.
+pub(crate) const LOST_CONFIRMATION: Played = Played {
+    input: "agent p1 provider 60
+agent p2 provider 60
+agent a1 aggregator
+agent r1 requester a1
+stp p1 A 1000
+stp p1 B 1000
+stp p2 C 1000
+stp p2 D 1000
+sdp B C
+child a1 p1
+child a1 p2
+---
+lose p2 a1 reserveCommitConfirmed 1
+at 0
+ask r1 reserve c1 A D 100 10 20
+at 1
+ask r1 commit c1
+at 2
+",
+    taken: r#"got r1 {"connectionId":"U2#1","correlationId":"U3#1","kind":"reserveResponse","providerNSA":"a1","requesterNSA":"r1"}
+got r1 {"capacity":100,"connectionId":"U2#1","correlationId":"U3#1","destSTP":"D","directionality":"Bidirectional","endTime":20,"kind":"reserveConfirmed","providerNSA":"a1","requesterNSA":"r1","sourceSTP":"A","startTime":10,"version":0}
+got r1 {"connectionId":"U2#1","correlationId":"U3#2","kind":"reserveCommitConfirmed","providerNSA":"a1","requesterNSA":"r1"}
+"#,
+    settled: "settled 79\n",
 };

@@ -49,7 +49,7 @@ loop-place-preserved g c =
     let items : c.push_reserved.new.self.items ≡ l.nodes.items ++ node ∷ [] = search rules in
     let listed = g.H.Shelf.listed c.begin_one.new.shelf in
     let one : IsBegun t all agent node =
-    begun_of t agent own.outgoing own.incoming own.rest.items l.left.items all node o (λ b. i.left agent b (omega (arith, at))) c.in_ok-node.ensures.fresh in
+    begun_of t agent own.outgoing own.incoming own.rest.items l.left.items all node o (λ b. i.left agent b (omega (arith, at))) i.planned c.requires.planned c.in_ok-node.ensures.fresh in
     let number = number_is t all agent node one in
     let place : agent ≡ 0 + length l.nodes.items = omega (arith, at, i.count) in
     let still = listed_still (g.H.Shelf.listed l.shelf) listed t l.nodes.items c.begin_one.ensures.stays i.listed in
@@ -65,6 +65,7 @@ loop-place-preserved g c =
       faults = c.in_ok-node.ensures.faults ∙ i.faults;
       stops = c.in_ok-node.ensures.stops ∙ i.stops;
       shut = o.shut;
+      planned = λ plans p. o.left_planned plans (i.planned plans p);
       left = λ a b h. o.left a b (λ q. absurd (omega (arith, q, at, h))) ∙ i.left a b (omega (arith, h));
       ends = λ b h. o.of_others b (λ q. absurd (omega (arith, q, at, h))) ∙ i.ends b (omega (arith, h));
       room = omega (arith, i.room, c.push_reserved.ensures.capacity);

@@ -1,6 +1,7 @@
 use Rattle.std.proofs.Common.{◌≡◌, ◌≤◌, ℕ, List, length, vec_capacity}
 use Rattle.std.specs.List.{All}
-use Rattle.net_run.specs.Joints.{IsShutJoint, wires, ends_of}
+use Rattle.agent_node.specs.Openings.{Plans}
+use Rattle.net_run.specs.Joints.{IsShutJoint, IsPlannedJoint, wires, ends_of}
 use Rattle.net_run.specs.Begun.{AreBegun, AreListed}
 use Rattle.net_run.specs.Journals.{AreEmpty}
 use Rattle.net_run.proofs.opening.begin_all.Given as goal
@@ -15,6 +16,7 @@ invariant-loop-place g l = record {
   faults : g.H.Shelf.faults l.shelf ≡ g.H.Shelf.faults l.fn.shelf;
   stops : g.H.Shelf.stops l.shelf ≡ g.H.Shelf.stops l.fn.shelf;
   shut : All IsShutJoint l.left.items;
+  planned : (plans : Plans) → All (IsPlannedJoint plans) l.fn.joints.items → All (IsPlannedJoint plans) l.left.items;
   left : (a b : ℕ) → l.place ≤ a → wires a b l.left.items ≡ wires a b l.fn.joints.items;
   ends : (b : ℕ) → l.place ≤ b → ends_of b l.left.items ≡ ends_of b l.fn.joints.items;
   room : length l.topology.agents ≤ vec_capacity l.nodes;

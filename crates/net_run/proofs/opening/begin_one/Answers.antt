@@ -1,5 +1,4 @@
 use Rattle.std.proofs.Common.{inl, rules}
-use Rattle.agent_node.specs.Openings.{nothing_planned}
 use Rattle.net_run.proofs.Counting.{risen_more}
 use Rattle.net_run.proofs.opening.begin_one.Goals as goal
 
@@ -8,7 +7,7 @@ returns-in-Err-Failed-clause-cause g c = (c.requires.within, inl (risen_more (g.
 
 pub returns-in-Ok-fresh-clause-fresh : goal.returns-in-Ok-fresh-clause-fresh
 returns-in-Ok-fresh-clause-fresh g c = record {
-  seat = c.in-Ok-fresh.ensures.seat nothing_planned c.requires.planned;
+  seat = λ plans p. c.in-Ok-fresh.ensures.seat plans p;
   network = search rules;
   plugs = search rules;
   fault = search rules;

@@ -19,7 +19,7 @@ returns-in-Ok-clause-played g c =
       over = c.settled.ensures.each;
     }
     in
-    settled_run c.args.topology.now c.args.options c.args.script.now.groups _ (g.K.Sink.content c.run_world.new.out) _ _ _ _ _ _ (c.in-Ok.ensures.quiet (λ e. cc)) c.tell_totals.result
+    settled_run c.args.topology.now c.args.options c.args.script.now _ (g.K.Sink.content c.run_world.new.out) _ _ _ _ _ _ (c.in-Ok.ensures.quiet (λ e. cc)) c.tell_totals.result
     (plays_run laws c.args.options.limit c.args.topology.now c.args.script.now c.requires.limit c.facts.ensures c.laws.ensures c.requires.fits)
     c.in-Ok.totals c.in-Ok.ensures.done c.tell_totals.ensures c.in-Ok.ensures.calm
 
@@ -47,7 +47,7 @@ returns-in-Err-clause-played g c =
       over = c.settled.ensures.each;
     }
     in
-    failing_run c.args.topology.now c.args.options c.args.script.now.groups _ (g.K.Sink.content c.run_world.new.out) _ _ _ _ _ _ c.fail.result
+    failing_run c.args.topology.now c.args.options c.args.script.now _ (g.K.Sink.content c.run_world.new.out) _ _ _ _ _ _ c.fail.result
     (fronts_run laws c.args.options.limit c.args.topology.now c.args.script.now c.requires.limit c.facts.ensures c.laws.ensures c.requires.fits)
     c.in-Err.fault
     (record {

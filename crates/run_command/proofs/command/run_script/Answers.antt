@@ -10,7 +10,7 @@ returns-in-Ok-clause-read g c = played_read c.args.options c.args.bytes.now c.re
 pub returns-in-Ok-clause-journals : goal.returns-in-Ok-clause-journals
 returns-in-Ok-clause-journals g c = λ done. (
   c.args.declared.now.topology,
-  c.in-Ok.script.groups,
+  c.in-Ok.script,
   are_read c.args.options c.args.bytes.now c.requires.size c.args.declared.now c.requires.declared c.in-Ok.script c.in-Ok.ensures.reads,
   c.play.ensures.journals done,
 )
