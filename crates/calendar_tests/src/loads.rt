@@ -105,9 +105,6 @@ fn settle(calendar: &mut Calendar, number: RecordNo) -> Result<(), Fail> {
     }
 }
 
-/// A point, a flow, a second and the load there.
-type Loaded = (u16, Flow, u64, u64);
-
 fn load(calendar: &Calendar, stp: u16, flow: Flow, t: u64) -> Result<u64, Fail> {
     let stp = stp_no(stp)?;
     match calendar.capacity(stp, flow) {
@@ -116,29 +113,29 @@ fn load(calendar: &Calendar, stp: u16, flow: Flow, t: u64) -> Result<u64, Fail> 
     }
 }
 
-fn expect_loads(rt: &impl Abort, calendar: &Calendar, loads: &[Loaded]) -> Result<(), Fail> {
-    for (stp, flow, t, want) in loads {
-        assert_eq!(rt; load(calendar, *stp, *flow, *t)?, *want, "the load at {t}");
-    }
-    Ok(())
+/// A call of a calendar, and what it has to answer. Bandwidths are of both ways between the points 0 and 1, where nothing else is said.
+#[derive(Clone, Copy)]
+enum Step {
+    /// Of a record a bandwidth from a second to another, and what lacks.
+    Book(u32, u64, u64, u64, Option<Lacking>),
+    /// The same between two points.
+    Between(u16, u16, u32, u64, u64, u64, Option<Lacking>),
+    /// The same one way alone.
+    OneWay(u16, u16, u32, u64, u64, u64, Option<Lacking>),
+    /// The load of a point and flow at a second.
+    Load(u16, Flow, u64, u64),
+    Settle(u32),
+    TakePending(u32),
+    TakeAll(u32),
+    /// A check of a bandwidth from second 0 to 10, what lacks, and how many points it reads at most.
+    Counted(u64, Option<Lacking>, u64),
 }
 
-fn expect_answers(
-    rt: &impl Abort,
-    calendar: &mut Calendar,
-    rows: &[(Ask, Option<Lacking>)],
-) -> Result<(), Fail> {
-    for (ask, want) in rows {
-        assert_eq!(rt; book(calendar, *ask)?, *want, "record {}", ask.number);
-    }
-    Ok(())
-}
-
-fn asked(number: u32, mbps: u64, start: u64, end: u64) -> Ask {
+fn asked(source: u16, dest: u16, number: u32, mbps: u64, start: u64, end: u64) -> Ask {
     Ask {
         number,
-        source: 0,
-        dest: 1,
+        source,
+        dest,
         both_ways: true,
         mbps,
         start,
@@ -146,269 +143,37 @@ fn asked(number: u32, mbps: u64, start: u64, end: u64) -> Ask {
     }
 }
 
-const SHARED: [(u16, Flow, u64); 2] = [(0, Flow::Both, 1000), (1, Flow::Both, 1000)];
-
-#[test]
-fn names_the_first_second_that_lacks(rt: HostRuntime) -> Result<(), Fail> {
-    let mut calendar = calendar(rt.alloc(), &SHARED)?;
-    let rows = [
-        (
-            asked(0, 1001, 100, 200),
-            Some((0, Flow::Both, 100, 0, 1000)),
-        ),
-        (asked(0, 600, 100, 200), None),
-        (
-            asked(1, 500, 150, 300),
-            Some((0, Flow::Both, 150, 600, 1000)),
-        ),
-        (asked(1, 400, 150, 300), None),
-    ];
-    expect_answers(&rt, &mut calendar, &rows)?;
-    let loads = [(0, Flow::Both, 150, 1000), (1, Flow::Both, 200, 400)];
-    expect_loads(&rt, &calendar, &loads)
+/// Books it, where it fits, and compares what lacks.
+fn is_booked(calendar: &mut Calendar, ask: Ask, want: Option<Lacking>) -> Result<bool, Fail> {
+    Ok(book(calendar, ask)? == want)
 }
 
-#[test]
-fn lets_touching_intervals_be(rt: HostRuntime) -> Result<(), Fail> {
-    let mut calendar = calendar(rt.alloc(), &SHARED)?;
-    let rows = [
-        (asked(0, 600, 100, 200), None),
-        (asked(1, 1000, 200, 300), None),
-    ];
-    expect_answers(&rt, &mut calendar, &rows)
+fn settles(calendar: &mut Calendar, number: u32) -> Result<bool, Fail> {
+    let number = record_no(number)?;
+    settle(calendar, number)?;
+    Ok(true)
 }
 
-#[test]
-fn counts_the_larger_slot_of_a_record(rt: HostRuntime) -> Result<(), Fail> {
-    let mut calendar = calendar(rt.alloc(), &SHARED)?;
-    let number = record_no(0)?;
-    book(&mut calendar, asked(0, 600, 100, 200))?;
-    settle(&mut calendar, number)?;
-    book(&mut calendar, asked(0, 300, 100, 400))?;
-    let held = [(0, Flow::Both, 150, 600), (0, Flow::Both, 250, 300)];
-    expect_loads(&rt, &calendar, &held)?;
+fn takes_pending(calendar: &mut Calendar, number: u32) -> Result<bool, Fail> {
+    let number = record_no(number)?;
     calendar.take_pending(number);
-    let aborted = [(0, Flow::Both, 150, 600), (0, Flow::Both, 250, 0)];
-    expect_loads(&rt, &calendar, &aborted)?;
-    book(&mut calendar, asked(0, 300, 100, 400))?;
-    settle(&mut calendar, number)?;
-    let settled = [(0, Flow::Both, 150, 300), (0, Flow::Both, 250, 300)];
-    expect_loads(&rt, &calendar, &settled)?;
+    Ok(true)
+}
+
+fn takes_all(calendar: &mut Calendar, number: u32) -> Result<bool, Fail> {
+    let number = record_no(number)?;
     calendar.take_all(number);
-    assert_eq!(rt; calendar.booking(number), None);
-    Ok(())
+    Ok(calendar.booking(number).is_none())
 }
 
-#[test]
-fn books_each_flow_by_itself(rt: HostRuntime) -> Result<(), Fail> {
-    let capacities = [
-        (0, Flow::In, 1000),
-        (0, Flow::Out, 400),
-        (1, Flow::In, 500),
-        (1, Flow::Out, 1000),
-    ];
-    let mut calendar = calendar(rt.alloc(), &capacities)?;
-    let one_way = Ask {
-        both_ways: false,
-        ..asked(0, 600, 100, 200)
-    };
-    expect_answers(&rt, &mut calendar, &[(one_way, None)])?;
-    let alone = [
-        (0, Flow::In, 150, 600),
-        (1, Flow::Out, 150, 600),
-        (0, Flow::Out, 150, 0),
-        (1, Flow::In, 150, 0),
-    ];
-    expect_loads(&rt, &calendar, &alone)?;
-    let back = Ask {
-        source: 1,
-        dest: 0,
-        both_ways: false,
-        ..asked(2, 100, 150, 160)
-    };
-    let rows = [
-        (asked(1, 300, 100, 200), None),
-        (asked(2, 150, 150, 160), Some((0, Flow::In, 150, 900, 1000))),
-        (back, None),
-    ];
-    expect_answers(&rt, &mut calendar, &rows)?;
-    expect_loads(&rt, &calendar, &[(0, Flow::Out, 150, 400)])
-}
-
-#[test]
-fn checks_one_flow(rt: HostRuntime) -> Result<(), Fail> {
-    let capacities = [(0, Flow::In, 1000), (0, Flow::Out, 400)];
-    let mut calendar = calendar(rt.alloc(), &capacities)?;
-    expect_answers(&rt, &mut calendar, &[(asked(0, 300, 100, 200), None)])?;
-    let stp = stp_no(0)?;
-    let interval = interval(50, 150)?;
-    let mbps = mbps(101)?;
-    let number = record_no(1)?;
-    let found = match calendar.capacity(stp, Flow::Out) {
-        None => None,
-        Some(_) => calendar.check(stp, Flow::Out, interval, mbps, number),
-    };
-    assert_eq!(rt; found.map(numbers), Some((0, Flow::Out, 100, 300, 400)));
-    Ok(())
-}
-
-const THREE: [(u16, Flow, u64); 3] = [
-    (0, Flow::Both, 1000),
-    (1, Flow::Both, 1000),
-    (2, Flow::Both, 1000),
-];
-
-fn between(source: u16, dest: u16, ask: Ask) -> Ask {
-    Ask {
-        source,
-        dest,
-        ..ask
-    }
-}
-
-#[test]
-fn each_slot_keeps_its_points(rt: HostRuntime) -> Result<(), Fail> {
-    let mut calendar = calendar(rt.alloc(), &THREE)?;
-    let number = record_no(0)?;
-    book(&mut calendar, asked(0, 600, 100, 200))?;
-    settle(&mut calendar, number)?;
-    book(&mut calendar, between(1, 2, asked(0, 300, 100, 400)))?;
-    let held = [
-        (0, Flow::Both, 150, 600),
-        (1, Flow::Both, 150, 600),
-        (1, Flow::Both, 250, 300),
-        (2, Flow::Both, 150, 300),
-    ];
-    expect_loads(&rt, &calendar, &held)?;
-    let beside = between(0, 2, asked(1, 500, 150, 160));
-    let lacks = Some((0, Flow::Both, 150, 600, 1000));
-    expect_answers(&rt, &mut calendar, &[(beside, lacks)])?;
-    settle(&mut calendar, number)?;
-    let settled = [
-        (0, Flow::Both, 150, 0),
-        (1, Flow::Both, 150, 300),
-        (2, Flow::Both, 150, 300),
-    ];
-    expect_loads(&rt, &calendar, &settled)
-}
-
-#[test]
-fn takes_what_another_holds(rt: HostRuntime) -> Result<(), Fail> {
-    let mut calendar = calendar(rt.alloc(), &THREE)?;
-    let other = record_no(1)?;
-    let rows = [
-        (between(1, 2, asked(0, 300, 100, 400)), None),
-        (between(0, 2, asked(1, 700, 150, 160)), None),
-    ];
-    expect_answers(&rt, &mut calendar, &rows)?;
-    expect_loads(&rt, &calendar, &[(2, Flow::Both, 150, 1000)])?;
-    calendar.take_pending(other);
-    let taken = [
-        (0, Flow::Both, 150, 0),
-        (1, Flow::Both, 150, 300),
-        (2, Flow::Both, 150, 300),
-    ];
-    expect_loads(&rt, &calendar, &taken)
-}
-
-#[test]
-fn takes_records_in_any_order(rt: HostRuntime) -> Result<(), Fail> {
-    let mut calendar = calendar(rt.alloc(), &SHARED)?;
-    let later = record_no(7)?;
-    let rows = [
-        (asked(7, 300, 100, 200), None),
-        (asked(2, 600, 150, 300), None),
-        (
-            asked(9, 200, 150, 160),
-            Some((0, Flow::Both, 150, 900, 1000)),
-        ),
-    ];
-    expect_answers(&rt, &mut calendar, &rows)?;
-    calendar.take_all(later);
-    expect_answers(&rt, &mut calendar, &[(asked(9, 200, 150, 160), None)])?;
-    let loads = [(0, Flow::Both, 120, 0), (1, Flow::Both, 150, 800)];
-    expect_loads(&rt, &calendar, &loads)
-}
-
-#[test]
-fn keeps_a_second_that_two_bookings_share(rt: HostRuntime) -> Result<(), Fail> {
-    let mut calendar = calendar(rt.alloc(), &SHARED)?;
-    let first = record_no(0)?;
-    let rows = [
-        (asked(0, 600, 100, 200), None),
-        (asked(1, 700, 200, 300), None),
-        (asked(2, 300, 100, 300), None),
-    ];
-    expect_answers(&rt, &mut calendar, &rows)?;
-    calendar.take_all(first);
-    let left = [
-        (0, Flow::Both, 150, 300),
-        (0, Flow::Both, 199, 300),
-        (0, Flow::Both, 200, 1000),
-        (1, Flow::Both, 300, 0),
-    ];
-    expect_loads(&rt, &calendar, &left)?;
-    let rows = [
-        (
-            asked(3, 701, 199, 200),
-            Some((0, Flow::Both, 199, 300, 1000)),
-        ),
-        (asked(3, 700, 100, 200), None),
-    ];
-    expect_answers(&rt, &mut calendar, &rows)
-}
-
-#[test]
-fn lets_a_modification_pass_its_own_booking(rt: HostRuntime) -> Result<(), Fail> {
-    let mut calendar = calendar(rt.alloc(), &SHARED)?;
-    let number = record_no(0)?;
-    book(&mut calendar, asked(0, 800, 100, 200))?;
-    settle(&mut calendar, number)?;
-    let rows = [
-        (
-            asked(1, 300, 50, 150),
-            Some((0, Flow::Both, 100, 800, 1000)),
-        ),
-        (asked(1, 100, 150, 250), None),
-        (
-            asked(0, 901, 150, 300),
-            Some((0, Flow::Both, 150, 100, 1000)),
-        ),
-        (asked(0, 900, 150, 300), None),
-    ];
-    expect_answers(&rt, &mut calendar, &rows)?;
-    let held = [
-        (0, Flow::Both, 149, 800),
-        (0, Flow::Both, 150, 1000),
-        (0, Flow::Both, 200, 1000),
-        (0, Flow::Both, 250, 900),
-        (0, Flow::Both, 300, 0),
-    ];
-    expect_loads(&rt, &calendar, &held)
-}
-
-#[test]
-fn books_from_the_first_second_to_the_last(rt: HostRuntime) -> Result<(), Fail> {
-    let mut calendar = calendar(rt.alloc(), &SHARED)?;
-    let number = record_no(0)?;
-    let rows = [
-        (asked(0, 600, 0, 253_370_764_799), None),
-        (asked(1, 401, 0, 1), Some((0, Flow::Both, 0, 600, 1000))),
-        (
-            asked(1, 401, 253_370_764_798, 253_370_764_799),
-            Some((0, Flow::Both, 253_370_764_798, 600, 1000)),
-        ),
-    ];
-    expect_answers(&rt, &mut calendar, &rows)?;
-    let booked = [
-        (0, Flow::Both, 0, 600),
-        (1, Flow::Both, 253_370_764_798, 600),
-        (1, Flow::Both, 253_370_764_799, 0),
-    ];
-    expect_loads(&rt, &calendar, &booked)?;
-    calendar.take_all(number);
-    let free = [(0, Flow::Both, 0, 0), (1, Flow::Both, 253_370_764_798, 0)];
-    expect_loads(&rt, &calendar, &free)
+fn is_counted(
+    calendar: &Calendar,
+    amount: u64,
+    want: Option<Lacking>,
+    most: u64,
+) -> Result<bool, Fail> {
+    let (lack, steps) = counted(calendar, amount, 0, 10)?;
+    Ok(lack == want && steps <= most)
 }
 
 /// What a check answers, and how many points it reads.
@@ -430,33 +195,321 @@ fn counted(
     Ok((lack.map(numbers), steps.count()))
 }
 
-#[test]
-fn reads_few_points_of_many(rt: HostRuntime) -> Result<(), Fail> {
-    let mut calendar = calendar(rt.alloc(), &SHARED)?;
-    for n in 0u32..100_000 {
-        let start = n as u64 * 10;
-        book(&mut calendar, asked(n, 1, start, start + 5))?;
+/// Makes the call, and compares.
+fn is_right(calendar: &mut Calendar, step: Step) -> Result<bool, Fail> {
+    match step {
+        Step::Book(number, mbps, start, end, want) => {
+            is_booked(calendar, asked(0, 1, number, mbps, start, end), want)
+        }
+        Step::Between(source, dest, number, mbps, start, end, want) => {
+            is_booked(
+                calendar,
+                asked(source, dest, number, mbps, start, end),
+                want,
+            )
+        }
+        Step::OneWay(source, dest, number, mbps, start, end, want) => {
+            let ask = Ask {
+                both_ways: false,
+                ..asked(source, dest, number, mbps, start, end)
+            };
+            is_booked(calendar, ask, want)
+        }
+        Step::Load(stp, flow, t, want) => Ok(load(calendar, stp, flow, t)? == want),
+        Step::Settle(number) => settles(calendar, number),
+        Step::TakePending(number) => takes_pending(calendar, number),
+        Step::TakeAll(number) => takes_all(calendar, number),
+        Step::Counted(amount, want, most) => is_counted(calendar, amount, want, most),
     }
-    let (full, steps) = counted(&calendar, 1000, 0, 10)?;
-    assert_eq!(rt; full, Some((0, Flow::Both, 0, 1, 1000)));
-    assert!(rt; steps <= 21, "{steps}");
-    let (free, steps) = counted(&calendar, 999, 0, 10)?;
-    assert_eq!(rt; free, None);
-    assert!(rt; steps <= 21, "{steps}");
+}
+
+/// Makes the calls one after another.
+fn are_right(
+    rt: &impl Abort,
+    alloc: Global,
+    capacities: &[(u16, Flow, u64)],
+    steps: &[Step],
+) -> Result<(), Fail> {
+    let mut calendar = calendar(alloc, capacities)?;
+    for (place, step) in steps.iter().enumerate() {
+        assert!(rt; is_right(&mut calendar, *step)?, "step {place}");
+    }
     Ok(())
 }
 
+const SHARED: [(u16, Flow, u64); 2] = [(0, Flow::Both, 1000), (1, Flow::Both, 1000)];
+
+const THREE: [(u16, Flow, u64); 3] = [
+    (0, Flow::Both, 1000),
+    (1, Flow::Both, 1000),
+    (2, Flow::Both, 1000),
+];
+
+const FLOWS: [(u16, Flow, u64); 4] = [
+    (0, Flow::In, 1000),
+    (0, Flow::Out, 400),
+    (1, Flow::In, 500),
+    (1, Flow::Out, 1000),
+];
+
+const NAMES_THE_FIRST_SECOND_THAT_LACKS: [Step; 6] = [
+    Step::Book(0, 1001, 100, 200, Some((0, Flow::Both, 100, 0, 1000))),
+    Step::Book(0, 600, 100, 200, None),
+    Step::Book(1, 500, 150, 300, Some((0, Flow::Both, 150, 600, 1000))),
+    Step::Book(1, 400, 150, 300, None),
+    Step::Load(0, Flow::Both, 150, 1000),
+    Step::Load(1, Flow::Both, 200, 400),
+];
+
+#[test]
+fn names_the_first_second_that_lacks(rt: HostRuntime) -> Result<(), Fail> {
+    are_right(&rt, rt.alloc(), &SHARED, &NAMES_THE_FIRST_SECOND_THAT_LACKS)
+}
+
+const LETS_TOUCHING_INTERVALS_BE: [Step; 2] = [
+    Step::Book(0, 600, 100, 200, None),
+    Step::Book(1, 1000, 200, 300, None),
+];
+
+#[test]
+fn lets_touching_intervals_be(rt: HostRuntime) -> Result<(), Fail> {
+    are_right(&rt, rt.alloc(), &SHARED, &LETS_TOUCHING_INTERVALS_BE)
+}
+
+const COUNTS_THE_LARGER_SLOT_OF_A_RECORD: [Step; 13] = [
+    Step::Book(0, 600, 100, 200, None),
+    Step::Settle(0),
+    Step::Book(0, 300, 100, 400, None),
+    Step::Load(0, Flow::Both, 150, 600),
+    Step::Load(0, Flow::Both, 250, 300),
+    Step::TakePending(0),
+    Step::Load(0, Flow::Both, 150, 600),
+    Step::Load(0, Flow::Both, 250, 0),
+    Step::Book(0, 300, 100, 400, None),
+    Step::Settle(0),
+    Step::Load(0, Flow::Both, 150, 300),
+    Step::Load(0, Flow::Both, 250, 300),
+    Step::TakeAll(0),
+];
+
+#[test]
+fn counts_the_larger_slot_of_a_record(rt: HostRuntime) -> Result<(), Fail> {
+    are_right(
+        &rt,
+        rt.alloc(),
+        &SHARED,
+        &COUNTS_THE_LARGER_SLOT_OF_A_RECORD,
+    )
+}
+
+const BOOKS_EACH_FLOW_BY_ITSELF: [Step; 9] = [
+    Step::OneWay(0, 1, 0, 600, 100, 200, None),
+    Step::Load(0, Flow::In, 150, 600),
+    Step::Load(1, Flow::Out, 150, 600),
+    Step::Load(0, Flow::Out, 150, 0),
+    Step::Load(1, Flow::In, 150, 0),
+    Step::Book(1, 300, 100, 200, None),
+    Step::Book(2, 150, 150, 160, Some((0, Flow::In, 150, 900, 1000))),
+    Step::OneWay(1, 0, 2, 100, 150, 160, None),
+    Step::Load(0, Flow::Out, 150, 400),
+];
+
+#[test]
+fn books_each_flow_by_itself(rt: HostRuntime) -> Result<(), Fail> {
+    are_right(&rt, rt.alloc(), &FLOWS, &BOOKS_EACH_FLOW_BY_ITSELF)
+}
+
+const EACH_SLOT_KEEPS_ITS_POINTS: [Step; 12] = [
+    Step::Book(0, 600, 100, 200, None),
+    Step::Settle(0),
+    Step::Between(1, 2, 0, 300, 100, 400, None),
+    Step::Load(0, Flow::Both, 150, 600),
+    Step::Load(1, Flow::Both, 150, 600),
+    Step::Load(1, Flow::Both, 250, 300),
+    Step::Load(2, Flow::Both, 150, 300),
+    Step::Between(
+        0,
+        2,
+        1,
+        500,
+        150,
+        160,
+        Some((0, Flow::Both, 150, 600, 1000)),
+    ),
+    Step::Settle(0),
+    Step::Load(0, Flow::Both, 150, 0),
+    Step::Load(1, Flow::Both, 150, 300),
+    Step::Load(2, Flow::Both, 150, 300),
+];
+
+#[test]
+fn each_slot_keeps_its_points(rt: HostRuntime) -> Result<(), Fail> {
+    are_right(&rt, rt.alloc(), &THREE, &EACH_SLOT_KEEPS_ITS_POINTS)
+}
+
+const TAKES_WHAT_ANOTHER_HOLDS: [Step; 7] = [
+    Step::Between(1, 2, 0, 300, 100, 400, None),
+    Step::Between(0, 2, 1, 700, 150, 160, None),
+    Step::Load(2, Flow::Both, 150, 1000),
+    Step::TakePending(1),
+    Step::Load(0, Flow::Both, 150, 0),
+    Step::Load(1, Flow::Both, 150, 300),
+    Step::Load(2, Flow::Both, 150, 300),
+];
+
+#[test]
+fn takes_what_another_holds(rt: HostRuntime) -> Result<(), Fail> {
+    are_right(&rt, rt.alloc(), &THREE, &TAKES_WHAT_ANOTHER_HOLDS)
+}
+
+const TAKES_RECORDS_IN_ANY_ORDER: [Step; 7] = [
+    Step::Book(7, 300, 100, 200, None),
+    Step::Book(2, 600, 150, 300, None),
+    Step::Book(9, 200, 150, 160, Some((0, Flow::Both, 150, 900, 1000))),
+    Step::TakeAll(7),
+    Step::Book(9, 200, 150, 160, None),
+    Step::Load(0, Flow::Both, 120, 0),
+    Step::Load(1, Flow::Both, 150, 800),
+];
+
+#[test]
+fn takes_records_in_any_order(rt: HostRuntime) -> Result<(), Fail> {
+    are_right(&rt, rt.alloc(), &SHARED, &TAKES_RECORDS_IN_ANY_ORDER)
+}
+
+const KEEPS_A_SECOND_THAT_TWO_BOOKINGS_SHARE: [Step; 10] = [
+    Step::Book(0, 600, 100, 200, None),
+    Step::Book(1, 700, 200, 300, None),
+    Step::Book(2, 300, 100, 300, None),
+    Step::TakeAll(0),
+    Step::Load(0, Flow::Both, 150, 300),
+    Step::Load(0, Flow::Both, 199, 300),
+    Step::Load(0, Flow::Both, 200, 1000),
+    Step::Load(1, Flow::Both, 300, 0),
+    Step::Book(3, 701, 199, 200, Some((0, Flow::Both, 199, 300, 1000))),
+    Step::Book(3, 700, 100, 200, None),
+];
+
+#[test]
+fn keeps_a_second_that_two_bookings_share(rt: HostRuntime) -> Result<(), Fail> {
+    are_right(
+        &rt,
+        rt.alloc(),
+        &SHARED,
+        &KEEPS_A_SECOND_THAT_TWO_BOOKINGS_SHARE,
+    )
+}
+
+const LETS_A_MODIFICATION_PASS_ITS_OWN_BOOKING: [Step; 11] = [
+    Step::Book(0, 800, 100, 200, None),
+    Step::Settle(0),
+    Step::Book(1, 300, 50, 150, Some((0, Flow::Both, 100, 800, 1000))),
+    Step::Book(1, 100, 150, 250, None),
+    Step::Book(0, 901, 150, 300, Some((0, Flow::Both, 150, 100, 1000))),
+    Step::Book(0, 900, 150, 300, None),
+    Step::Load(0, Flow::Both, 149, 800),
+    Step::Load(0, Flow::Both, 150, 1000),
+    Step::Load(0, Flow::Both, 200, 1000),
+    Step::Load(0, Flow::Both, 250, 900),
+    Step::Load(0, Flow::Both, 300, 0),
+];
+
+#[test]
+fn lets_a_modification_pass_its_own_booking(rt: HostRuntime) -> Result<(), Fail> {
+    are_right(
+        &rt,
+        rt.alloc(),
+        &SHARED,
+        &LETS_A_MODIFICATION_PASS_ITS_OWN_BOOKING,
+    )
+}
+
+const BOOKS_FROM_THE_FIRST_SECOND_TO_THE_LAST: [Step; 9] = [
+    Step::Book(0, 600, 0, 253_370_764_799, None),
+    Step::Book(1, 401, 0, 1, Some((0, Flow::Both, 0, 600, 1000))),
+    Step::Book(
+        1,
+        401,
+        253_370_764_798,
+        253_370_764_799,
+        Some((0, Flow::Both, 253_370_764_798, 600, 1000)),
+    ),
+    Step::Load(0, Flow::Both, 0, 600),
+    Step::Load(1, Flow::Both, 253_370_764_798, 600),
+    Step::Load(1, Flow::Both, 253_370_764_799, 0),
+    Step::TakeAll(0),
+    Step::Load(0, Flow::Both, 0, 0),
+    Step::Load(1, Flow::Both, 253_370_764_798, 0),
+];
+
+#[test]
+fn books_from_the_first_second_to_the_last(rt: HostRuntime) -> Result<(), Fail> {
+    are_right(
+        &rt,
+        rt.alloc(),
+        &SHARED,
+        &BOOKS_FROM_THE_FIRST_SECOND_TO_THE_LAST,
+    )
+}
+
+const READS_NOTHING_OF_AN_EMPTY_INDEX: [Step; 5] = [
+    Step::Counted(1000, None, 0),
+    Step::Book(7, 600, 2, 8, None),
+    Step::Counted(401, Some((0, Flow::Both, 2, 600, 1000)), 21),
+    Step::TakePending(7),
+    Step::Counted(1000, None, 0),
+];
+
 #[test]
 fn reads_nothing_of_an_empty_index(rt: HostRuntime) -> Result<(), Fail> {
+    are_right(&rt, rt.alloc(), &SHARED, &READS_NOTHING_OF_AN_EMPTY_INDEX)
+}
+
+/// What a check of one flow answers for a record that has nothing yet.
+fn checked(calendar: &Calendar, flow: Flow, amount: u64) -> Result<Option<Lacking>, Fail> {
+    let stp = stp_no(0)?;
+    let interval = interval(50, 150)?;
+    let mbps = mbps(amount)?;
+    let number = record_no(1)?;
+    match calendar.capacity(stp, flow) {
+        None => Ok(None),
+        Some(_) => Ok(
+            calendar
+                .check(stp, flow, interval, mbps, number)
+                .map(numbers),
+        ),
+    }
+}
+
+#[test]
+fn checks_one_flow(rt: HostRuntime) -> Result<(), Fail> {
+    let mut calendar = calendar(rt.alloc(), &FLOWS)?;
+    assert!(rt; is_right(&mut calendar, Step::Book(0, 300, 100, 200, None))?);
+    let found = checked(&calendar, Flow::Out, 101)?;
+    assert_eq!(rt; found, Some((0, Flow::Out, 100, 300, 400)));
+    Ok(())
+}
+
+/// Records of 1 Mbps on the first half of each ten seconds.
+fn book_many(calendar: &mut Calendar, count: u32) -> Result<(), Fail> {
+    for n in 0..count {
+        let start = n as u64 * 10;
+        book(calendar, asked(0, 1, n, 1, start, start + 5))?;
+    }
+    Ok(())
+}
+
+const FEW: [Step; 2] = [
+    Step::Counted(1000, Some((0, Flow::Both, 0, 1, 1000)), 21),
+    Step::Counted(999, None, 21),
+];
+
+#[test]
+fn reads_few_points_of_many(rt: HostRuntime) -> Result<(), Fail> {
     let mut calendar = calendar(rt.alloc(), &SHARED)?;
-    let none = counted(&calendar, 1000, 0, 10)?;
-    assert_eq!(rt; none, (None, 0));
-    let number = record_no(7)?;
-    book(&mut calendar, asked(7, 600, 2, 8))?;
-    let one = counted(&calendar, 401, 0, 10)?;
-    assert_eq!(rt; one.0, Some((0, Flow::Both, 2, 600, 1000)));
-    calendar.take_pending(number);
-    let none = counted(&calendar, 1000, 0, 10)?;
-    assert_eq!(rt; none, (None, 0));
+    book_many(&mut calendar, 100_000)?;
+    for step in &FEW {
+        assert!(rt; is_right(&mut calendar, *step)?);
+    }
     Ok(())
 }
