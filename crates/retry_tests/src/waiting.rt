@@ -3,7 +3,8 @@
 use message_retry::{Retry, TakenRequests};
 use nsi_base::{AgentNo, Name};
 use nsi_primitive::{Body, Header, Kind, Message, agent_and_n, id_of};
-use std::alloc::Global;
+use std::alloc::{AllocError, Global};
+use std::process::Abort;
 use std::test::Fail;
 
 fn header(alloc: Global, requester: &str, provider: &str, agent: u16) -> Result<Header, Fail> {
@@ -26,20 +27,24 @@ fn take(
     Ok(is_new)
 }
 
+/// A requester, a provider, the agent of the correlationId, and what is expected.
+type Asked = (&'static str, &'static str, u16, bool);
+
+const NEW_ONCE: [Asked; 6] = [
+    ("r1", "p1", 1, true),
+    ("r1", "p1", 1, false),
+    ("r2", "p1", 1, true),
+    ("r1", "p2", 1, true),
+    ("r1", "p1", 2, true),
+    ("r2", "p1", 1, false),
+];
+
 #[test]
 fn request_is_new_once(rt: HostRuntime) -> Result<(), Fail> {
     let mut taken = TakenRequests::new(rt.alloc());
-    let requests = [
-        ("r1", "p1", 1, true),
-        ("r1", "p1", 1, false),
-        ("r2", "p1", 1, true),
-        ("r1", "p2", 1, true),
-        ("r1", "p1", 2, true),
-        ("r2", "p1", 1, false),
-    ];
-    for (requester, provider, agent, expected) in requests {
-        let is_new = take(&mut taken, rt.alloc(), requester, provider, agent)?;
-        assert_eq!(rt; is_new, expected, "{requester} {provider} {agent}");
+    for (requester, provider, agent, expected) in &NEW_ONCE {
+        let is_new = take(&mut taken, rt.alloc(), *requester, *provider, *agent)?;
+        assert_eq!(rt; is_new, *expected, "{requester} {provider} {agent}");
     }
     Ok(())
 }
@@ -71,254 +76,241 @@ fn is_there(alloc: Global, requester: &str, provider: &str, agent: u16) -> Resul
     Ok(taken.has(&header))
 }
 
+const THERE: [Asked; 8] = [
+    ("r1", "p1", 1, true),
+    ("r2", "p2", 2, true),
+    ("r2", "p1", 1, false),
+    ("r1", "p2", 1, false),
+    ("r1", "p1", 2, false),
+    ("p1", "r1", 1, false),
+    ("r3", "p1", 1, false),
+    ("r1", "p3", 1, false),
+];
+
 #[test]
 fn request_is_there_once_taken(rt: HostRuntime) -> Result<(), Fail> {
-    let requests = [
-        ("r1", "p1", 1, true),
-        ("r2", "p2", 2, true),
-        ("r2", "p1", 1, false),
-        ("r1", "p2", 1, false),
-        ("r1", "p1", 2, false),
-        ("p1", "r1", 1, false),
-        ("r3", "p1", 1, false),
-        ("r1", "p3", 1, false),
-    ];
-    for (requester, provider, agent, expected) in requests {
-        let is_there = is_there(rt.alloc(), requester, provider, agent)?;
-        assert_eq!(rt; is_there, expected, "{requester} {provider} {agent}");
+    for (requester, provider, agent, expected) in &THERE {
+        let is_there = is_there(rt.alloc(), *requester, *provider, *agent)?;
+        assert_eq!(rt; is_there, *expected, "{requester} {provider} {agent}");
     }
     Ok(())
 }
 
-/// A body of the kind that a letter names: two requests, two answers.
-fn body(kind: &str) -> Result<Body, Fail> {
+/// A kind of message, and the agent of its correlationId.
+type Said = (Kind, u16);
+
+fn body(kind: Kind) -> Result<Body, Fail> {
     let connection = id_of(AgentNo::new(9).ok_or("an agent")?, 7);
     match kind {
-        "commit" => Ok(Body::ReserveCommit { connection }),
-        "provision" => Ok(Body::Provision { connection }),
-        "response" => Ok(Body::ReserveResponse { connection }),
+        Kind::ReserveCommit => Ok(Body::ReserveCommit { connection }),
+        Kind::Provision => Ok(Body::Provision { connection }),
+        Kind::ReserveResponse => Ok(Body::ReserveResponse { connection }),
         _ => Ok(Body::ReserveCommitConfirmed { connection }),
     }
 }
 
-fn message(alloc: Global, kind: &str, agent: u16) -> Result<Message, Fail> {
-    Ok(Message {
-        header: header(alloc, "r1", "p1", agent)?,
-        body: body(kind)?,
-    })
+fn message(alloc: Global, said: Said) -> Result<Message, Fail> {
+    let body = body(said.0)?;
+    let header = header(alloc, "r1", "p1", said.1)?;
+    Ok(Message { header, body })
 }
 
-fn see(retry: &mut Retry, alloc: Global, kind: &str, agent: u16) -> Result<(), Fail> {
-    let message = message(alloc, kind, agent)?;
-    Ok(retry.saw(alloc, &message)?)
+/// A call about messages, and what it has to answer.
+#[derive(Clone, Copy)]
+enum Call {
+    Saw(Said),
+    IsOld(Said, bool),
+    TakeBack(Said),
+    Store(Said),
+    Acked(Said, bool),
+    Waits(Said, bool),
+    TakeOut(usize),
+    /// What waits, in order.
+    Waiting(&'static [Said]),
 }
 
-fn is_old(retry: &Retry, alloc: Global, kind: &str, agent: u16) -> Result<bool, Fail> {
-    let message = message(alloc, kind, agent)?;
-    Ok(retry.is_old(&message))
+/// Makes a call about this message, and compares.
+fn is_answered(
+    retry: &mut Retry,
+    alloc: Global,
+    message: &Message,
+    call: Call,
+) -> Result<bool, AllocError> {
+    match call {
+        Call::Saw(_) => {
+            retry.saw(alloc, message)?;
+            Ok(true)
+        }
+        Call::IsOld(_, want) => Ok(retry.is_old(message) == want),
+        Call::TakeBack(_) => {
+            retry.take_back(message);
+            Ok(true)
+        }
+        Call::Acked(_, want) => Ok(retry.acked(&message.identity()?) == want),
+        Call::Waits(_, want) => Ok(retry.waits(&message.identity()?) == want),
+        _ => Ok(false),
+    }
 }
 
-fn take_back(retry: &mut Retry, alloc: Global, kind: &str, agent: u16) -> Result<(), Fail> {
-    let message = message(alloc, kind, agent)?;
-    retry.take_back(&message);
+fn about(retry: &mut Retry, alloc: Global, said: Said, call: Call) -> Result<bool, Fail> {
+    let message = message(alloc, said)?;
+    Ok(is_answered(retry, alloc, &message, call)?)
+}
+
+fn store(retry: &mut Retry, alloc: Global, said: Said) -> Result<bool, Fail> {
+    let message = message(alloc, said)?;
+    retry.store(alloc, &[message])?;
+    Ok(true)
+}
+
+fn is_of(message: &Message, said: Said) -> bool {
+    match agent_and_n(message.header.correlation) {
+        Some((agent, _)) => agent.get() == said.1 && message.kind() == said.0,
+        None => false,
+    }
+}
+
+fn wait_so(retry: &Retry, want: &[Said]) -> bool {
+    let mut rest = want;
+    for message in retry.waiting() {
+        let Some((first, behind)) = rest.split_first() else {
+            return false;
+        };
+        if !is_of(message, *first) {
+            return false;
+        }
+        rest = behind;
+    }
+    rest.is_empty()
+}
+
+fn is_right(retry: &mut Retry, alloc: Global, call: Call) -> Result<bool, Fail> {
+    match call {
+        Call::Saw(said) | Call::TakeBack(said) => about(retry, alloc, said, call),
+        Call::IsOld(said, _) | Call::Acked(said, _) | Call::Waits(said, _) => {
+            about(retry, alloc, said, call)
+        }
+        Call::Store(said) => store(retry, alloc, said),
+        Call::TakeOut(count) => {
+            retry.take_out(count);
+            Ok(true)
+        }
+        Call::Waiting(want) => Ok(wait_so(retry, want)),
+    }
+}
+
+/// Makes the calls one after another.
+fn are_right(rt: &impl Abort, alloc: Global, calls: &[Call]) -> Result<(), Fail> {
+    let mut retry = Retry::new(alloc);
+    for (place, call) in calls.iter().enumerate() {
+        let is_right = is_right(&mut retry, alloc, *call)?;
+        assert!(rt; is_right, "call {place}");
+    }
     Ok(())
 }
 
-/// Whether a message is old once another one was taken.
-fn is_old_behind(alloc: Global, first: (&str, u16), then: (&str, u16)) -> Result<bool, Fail> {
-    let mut retry = Retry::new(alloc);
-    see(&mut retry, alloc, first.0, first.1)?;
-    is_old(&retry, alloc, then.0, then.1)
-}
+const COMMIT: Kind = Kind::ReserveCommit;
+
+const RESPONSE: Kind = Kind::ReserveResponse;
+
+const CONFIRMED: Kind = Kind::ReserveCommitConfirmed;
+
+/// A kind counts of answers, and of requests it doesn't.
+const KINDS: [Call; 10] = [
+    Call::Saw((COMMIT, 1)),
+    Call::IsOld((COMMIT, 1), true),
+    Call::IsOld((Kind::Provision, 1), true),
+    Call::IsOld((COMMIT, 2), false),
+    Call::IsOld((CONFIRMED, 1), false),
+    Call::Saw((RESPONSE, 3)),
+    Call::IsOld((RESPONSE, 3), true),
+    Call::IsOld((CONFIRMED, 3), false),
+    Call::IsOld((COMMIT, 3), false),
+    Call::IsOld((RESPONSE, 4), false),
+];
 
 #[test]
 fn kind_counts_of_answers_alone(rt: HostRuntime) -> Result<(), Fail> {
-    let rows = [
-        (("commit", 1), ("commit", 1), true),
-        (("commit", 1), ("provision", 1), true),
-        (("commit", 1), ("commit", 2), false),
-        (("commit", 1), ("confirmed", 1), false),
-        (("response", 1), ("response", 1), true),
-        (("response", 1), ("confirmed", 1), false),
-        (("response", 1), ("commit", 1), false),
-        (("response", 1), ("response", 2), false),
-    ];
-    for (first, then, expected) in rows {
-        let is_old = is_old_behind(rt.alloc(), first, then)?;
-        assert_eq!(rt;
-            is_old,
-            expected,
-            "{} {} then {} {}",
-            first.0, first.1, then.0, then.1
-        );
-    }
-    Ok(())
+    are_right(&rt, rt.alloc(), &KINDS)
 }
 
-/// Whether a message is old once it was taken and taken back, and a request that came before it is.
-fn are_old_behind_take_back(alloc: Global, kind: &str) -> Result<[bool; 2], Fail> {
-    let mut retry = Retry::new(alloc);
-    see(&mut retry, alloc, "commit", 1)?;
-    see(&mut retry, alloc, kind, 2)?;
-    take_back(&mut retry, alloc, kind, 2)?;
-    are_old(&retry, alloc, kind)
-}
-
-fn are_old(retry: &Retry, alloc: Global, kind: &str) -> Result<[bool; 2], Fail> {
-    let first = is_old(retry, alloc, "commit", 1)?;
-    let then = is_old(retry, alloc, kind, 2)?;
-    Ok([first, then])
-}
+const TAKEN_BACK: [Call; 9] = [
+    Call::Saw((COMMIT, 1)),
+    Call::Saw((Kind::Provision, 2)),
+    Call::TakeBack((Kind::Provision, 2)),
+    Call::IsOld((COMMIT, 1), true),
+    Call::IsOld((Kind::Provision, 2), false),
+    Call::Saw((CONFIRMED, 2)),
+    Call::TakeBack((CONFIRMED, 2)),
+    Call::IsOld((COMMIT, 1), true),
+    Call::IsOld((CONFIRMED, 2), false),
+];
 
 #[test]
 fn message_that_was_taken_back_is_new(rt: HostRuntime) -> Result<(), Fail> {
-    for kind in ["provision", "confirmed"] {
-        let are_old = are_old_behind_take_back(rt.alloc(), kind)?;
-        assert_eq!(rt; are_old, [true, false], "{kind}");
-    }
-    Ok(())
+    are_right(&rt, rt.alloc(), &TAKEN_BACK)
 }
 
-fn put(retry: &mut Retry, alloc: Global, kind: &str, agent: u16) -> Result<(), Fail> {
-    let message = message(alloc, kind, agent)?;
-    Ok(retry.store(alloc, &[message])?)
-}
-
-/// Four messages wait, the last of the identity of the first.
-fn four_wait(alloc: Global) -> Result<Retry, Fail> {
-    let mut retry = Retry::new(alloc);
-    put_four(&mut retry, alloc)?;
-    Ok(retry)
-}
-
-fn put_four(retry: &mut Retry, alloc: Global) -> Result<(), Fail> {
-    put(retry, alloc, "response", 1)?;
-    put(retry, alloc, "confirmed", 1)?;
-    put(retry, alloc, "response", 2)?;
-    put(retry, alloc, "response", 1)
-}
-
-fn ack(retry: &mut Retry, alloc: Global, kind: &str, agent: u16) -> Result<bool, Fail> {
-    let identity = message(alloc, kind, agent)?.identity()?;
-    Ok(retry.acked(&identity))
-}
-
-/// The kinds that wait, each with the agent of its correlationId.
-fn waiting(retry: &Retry, alloc: Global) -> Result<Vec<(u16, Kind)>, Fail> {
-    let mut found = Vec::new(alloc);
-    for message in retry.waiting() {
-        let (agent, _) = agent_and_n(message.header.correlation).ok_or("an id")?;
-        found.push((agent.get(), message.kind()))?;
-    }
-    Ok(found)
-}
+const IN_ORDER: [Call; 5] = [
+    Call::Store((RESPONSE, 1)),
+    Call::Store((CONFIRMED, 1)),
+    Call::Store((RESPONSE, 2)),
+    Call::Store((RESPONSE, 1)),
+    Call::Waiting(&[(RESPONSE, 1), (CONFIRMED, 1), (RESPONSE, 2), (RESPONSE, 1)]),
+];
 
 #[test]
 fn messages_wait_in_order(rt: HostRuntime) -> Result<(), Fail> {
-    let retry = four_wait(rt.alloc())?;
-    let found = waiting(&retry, rt.alloc())?;
-    let expected = [
-        (1, Kind::ReserveResponse),
-        (1, Kind::ReserveCommitConfirmed),
-        (2, Kind::ReserveResponse),
-        (1, Kind::ReserveResponse),
-    ];
-    assert_eq!(rt; found.as_slice(), expected.as_slice());
-    Ok(())
+    are_right(&rt, rt.alloc(), &IN_ORDER)
 }
 
-/// Whether the last of the messages that are acknowledged waited.
-fn ack_all(retry: &mut Retry, alloc: Global, acks: &[(&str, u16)]) -> Result<bool, Fail> {
-    let mut waited = false;
-    for (kind, agent) in acks {
-        waited = ack(retry, alloc, kind, *agent)?;
-    }
-    Ok(waited)
-}
-
-/// What waits once messages were acknowledged, and whether the last of these waited.
-fn behind_acks(alloc: Global, acks: &[(&str, u16)]) -> Result<(Vec<(u16, Kind)>, bool), Fail> {
-    let mut retry = four_wait(alloc)?;
-    let waited = ack_all(&mut retry, alloc, acks)?;
-    let found = waiting(&retry, alloc)?;
-    Ok((found, waited))
-}
-
-fn waits(retry: &Retry, alloc: Global, kind: &str, agent: u16) -> Result<bool, Fail> {
-    let identity = message(alloc, kind, agent)?.identity()?;
-    Ok(retry.waits(&identity))
-}
-
-/// Whether a message waits once others were acknowledged.
-fn waits_behind(alloc: Global, acks: &[(&str, u16)], kind: &str, agent: u16) -> Result<bool, Fail> {
-    let mut retry = four_wait(alloc)?;
-    let _waited = ack_all(&mut retry, alloc, acks)?;
-    waits(&retry, alloc, kind, agent)
-}
+/// The first of two alike is taken out first, and a third acknowledgement is of none.
+const ALIKE: [Call; 12] = [
+    Call::Store((RESPONSE, 1)),
+    Call::Store((CONFIRMED, 1)),
+    Call::Store((RESPONSE, 2)),
+    Call::Store((RESPONSE, 1)),
+    Call::Waits((RESPONSE, 1), true),
+    Call::Waits((RESPONSE, 3), false),
+    Call::Acked((RESPONSE, 1), true),
+    Call::Waiting(&[(CONFIRMED, 1), (RESPONSE, 2), (RESPONSE, 1)]),
+    Call::Waits((RESPONSE, 1), true),
+    Call::Acked((RESPONSE, 1), true),
+    Call::Waits((RESPONSE, 1), false),
+    Call::Acked((RESPONSE, 1), false),
+];
 
 #[test]
-fn message_waits_until_the_last_one_alike_is_acknowledged(rt: HostRuntime) -> Result<(), Fail> {
-    let acks = [("response", 1), ("response", 1)];
-    let of_two = waits_behind(rt.alloc(), &[], "response", 1)?;
-    let of_one = waits_behind(rt.alloc(), &[("response", 1)], "response", 1)?;
-    let of_none = waits_behind(rt.alloc(), &acks, "response", 1)?;
-    let other = waits_behind(rt.alloc(), &[], "response", 3)?;
-    assert!(rt; of_two && of_one && !of_none && !other);
-    Ok(())
+fn two_alike_are_acknowledged_twice(rt: HostRuntime) -> Result<(), Fail> {
+    are_right(&rt, rt.alloc(), &ALIKE)
 }
+
+const OF_THE_MIDDLE: [Call; 8] = [
+    Call::Store((RESPONSE, 1)),
+    Call::Store((CONFIRMED, 1)),
+    Call::Store((RESPONSE, 2)),
+    Call::Store((RESPONSE, 1)),
+    Call::Acked((CONFIRMED, 2), false),
+    Call::Waiting(&[(RESPONSE, 1), (CONFIRMED, 1), (RESPONSE, 2), (RESPONSE, 1)]),
+    Call::Acked((RESPONSE, 2), true),
+    Call::Waiting(&[(RESPONSE, 1), (CONFIRMED, 1), (RESPONSE, 1)]),
+];
 
 #[test]
 fn acknowledged_message_is_taken_out_of_the_middle(rt: HostRuntime) -> Result<(), Fail> {
-    let (found, waited) = behind_acks(rt.alloc(), &[("response", 2)])?;
-    let expected = [
-        (1, Kind::ReserveResponse),
-        (1, Kind::ReserveCommitConfirmed),
-        (1, Kind::ReserveResponse),
-    ];
-    assert!(rt; waited);
-    assert_eq!(rt; found.as_slice(), expected.as_slice());
-    Ok(())
+    are_right(&rt, rt.alloc(), &OF_THE_MIDDLE)
 }
 
-#[test]
-fn first_of_two_alike_is_taken_out_first(rt: HostRuntime) -> Result<(), Fail> {
-    let (found, waited) = behind_acks(rt.alloc(), &[("response", 1)])?;
-    let expected = [
-        (1, Kind::ReserveCommitConfirmed),
-        (2, Kind::ReserveResponse),
-        (1, Kind::ReserveResponse),
-    ];
-    assert!(rt; waited);
-    assert_eq!(rt; found.as_slice(), expected.as_slice());
-    Ok(())
-}
-
-#[test]
-fn third_acknowledgement_of_two_alike_is_of_none(rt: HostRuntime) -> Result<(), Fail> {
-    let acks = [("response", 1), ("response", 1), ("response", 1)];
-    let (found, waited) = behind_acks(rt.alloc(), &acks)?;
-    let expected = [
-        (1, Kind::ReserveCommitConfirmed),
-        (2, Kind::ReserveResponse),
-    ];
-    assert!(rt; !waited);
-    assert_eq!(rt; found.as_slice(), expected.as_slice());
-    Ok(())
-}
-
-#[test]
-fn another_kind_acknowledges_nothing(rt: HostRuntime) -> Result<(), Fail> {
-    let (found, waited) = behind_acks(rt.alloc(), &[("confirmed", 2)])?;
-    assert!(rt; !waited);
-    assert_eq!(rt; found.len(), 4);
-    Ok(())
-}
+const TAKEN_OUT: [Call; 6] = [
+    Call::Store((RESPONSE, 1)),
+    Call::Store((CONFIRMED, 1)),
+    Call::Store((RESPONSE, 2)),
+    Call::Store((RESPONSE, 1)),
+    Call::TakeOut(3),
+    Call::Waiting(&[(RESPONSE, 1)]),
+];
 
 #[test]
 fn last_ones_are_taken_out_again(rt: HostRuntime) -> Result<(), Fail> {
-    let mut retry = four_wait(rt.alloc())?;
-    retry.take_out(3);
-    let found = waiting(&retry, rt.alloc())?;
-    assert_eq!(rt; found.as_slice(), [(1, Kind::ReserveResponse)].as_slice());
-    Ok(())
+    are_right(&rt, rt.alloc(), &TAKEN_OUT)
 }
