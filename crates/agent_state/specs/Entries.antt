@@ -1,5 +1,5 @@
 -- What is the same of an entry at each agent.
-use Rattle.std.specs.Prelude.{ℕ, Bool, List, ◌==◌, nat_le}
+use Rattle.std.specs.Prelude.{ℕ, Bool, true, false, List, Option, Some, None, ◌==◌, nat_le, bytes_eq}
 use Rattle.nsi_primitive.specs.Messages.{connection_of}
 use Rattle.nsi_primitive.specs.declared.kind.ErrorName.{ErrorName}
 use Rattle.nsi_primitive.specs.declared.entry.Input.{Input}
@@ -21,6 +21,15 @@ most_entries = 4194304
 -- a refused request is answered by an error under its own header
 abbrev pub error_reply : List ℕ → Message → ErrorName → Message
 error_reply agent m error = record { header = m.header; body = Body.Error (connection_of m.body) (plain agent error) }
+
+-- the answer to a query: an error where another agent is asked, or where there is nothing to answer
+abbrev pub reply_by : (is_own : Bool) → Option Body → List ℕ → Message → Message
+reply_by true (Some body) agent m = record { header = m.header; body = body }
+reply_by true None agent m = error_reply agent m ErrorName.Nonexistent
+reply_by false answer agent m = error_reply agent m ErrorName.WrongProvider
+
+abbrev pub query_reply : List ℕ → Message → Option Body → Message
+query_reply agent m answer = reply_by (bytes_eq m.header.provider agent) answer agent m
 
 ---- Messages that wait, and messages that were taken
 

@@ -7,4 +7,4 @@ mod saying;
 
 pub use opening::service_of;
 pub use parent::{Due, Leg, View};
-pub use saying::{push_replies, refusal_of};
+pub use saying::{push_replies, refusal_of, reply_of};

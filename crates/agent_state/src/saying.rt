@@ -2,7 +2,7 @@
 
 ghost use Rattle.std.specs.Prelude.{◌≡◌, ◌++◌, ◌∷◌, [], IfOk, OnOk};
 ghost use Rattle.connection_record.specs.Replies.{addressed};
-ghost use Rattle.agent_state.specs.Entries.{error_reply};
+ghost use Rattle.agent_state.specs.Entries.{error_reply, query_reply};
 
 use connection_record::Reply;
 use nsi_base::Name;
@@ -82,5 +82,26 @@ pub fn refusal_of(
             },
         },
     })?;
+    Ok(out)
+}
+
+/// The answer to a query: that body, or an error where another agent is asked, or where there is nothing to answer.
+pub fn reply_of(
+    alloc: Global,
+    agent: &Name,
+    message: &Message,
+    answer: Option<Body>,
+) -> Result<Vec<Message>, AllocError>
+    ensures { IfOk result (λ out. out.items ≡ query_reply agent.now message.now answer ∷ []) }
+{
+    if !message.header.provider.is(agent) {
+        return refusal_of(alloc, agent, message, ErrorName::WrongProvider);
+    }
+    let Some(body) = answer else {
+        return refusal_of(alloc, agent, message, ErrorName::Nonexistent);
+    };
+    let header = message.header.copy()?;
+    let mut out = Vec::new(alloc);
+    out.push(Message { header, body })?;
     Ok(out)
 }

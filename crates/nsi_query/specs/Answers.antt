@@ -1,13 +1,18 @@
 -- The answers to queries.
-use Rattle.std.specs.Prelude.{ℕ, List, [], Option, Some, None, unwrap_or}
+use Rattle.std.specs.Prelude.{ℕ, List, [], map, Option, Some, None, unwrap_or, option_and_then}
+use Rattle.nsi_primitive.specs.Messages.{connection_of}
 use Rattle.nsi_primitive.specs.declared.message.Body.{Body}
+use Rattle.nsi_primitive.specs.declared.message.Message.{Message}
 use Rattle.nsi_primitive.specs.declared.message.Notice.{Notice}
 use Rattle.nsi_primitive.specs.declared.message.NumberRange.{NumberRange}
 use Rattle.nsi_primitive.specs.declared.message.Outcome.{Outcome}
 use Rattle.nsi_primitive.specs.declared.message.RecursiveRow.{RecursiveRow}
 use Rattle.nsi_primitive.specs.declared.message.SummaryRow.{SummaryRow}
+use Rattle.connection_record.specs.declared.record.Record.{Record}
+use Rattle.connection_record.specs.Applied.{status_of}
+use Rattle.connection_record.specs.Refusal.{record_for}
 use Rattle.nsi_query.specs.declared.rows.Rows.{Rows}
-use Rattle.nsi_query.specs.Summary.{Shown, summary_of}
+use Rattle.nsi_query.specs.Summary.{Shown, summary, summary_of}
 use Rattle.nsi_query.specs.Counted.{notifications, results}
 use Rattle.nsi_query.specs.Nested.{own_row, nest}
 
@@ -38,3 +43,18 @@ answer_about agent x (Body.QueryNotification range) =
 answer_about agent x (Body.QueryResult range) = Some (result_answer x.0.id (results (first_asked range) (last_asked range) x.0))
 answer_about agent x (Body.QueryRecursive connection) = Some (nested_answer x.0.id (nest (own_row agent x.0) []))
 answer_about agent x _ = None
+
+---- The connections of a provider
+
+-- a connection, with its status at a second
+abbrev pub shown_at : ℕ → Record → Shown
+shown_at now r = (r, status_of now r)
+
+-- a query without a connection is about all of its requester's
+abbrev pub answer_by : Option ℕ → List ℕ → ℕ → List Record → Message → Option Body
+answer_by None agent now records m = Some (summary_answer (summary m.header.requester (map (shown_at now) records)))
+answer_by (Some id) agent now records m = option_and_then (λ r. answer_about agent (shown_at now r) m.body) (record_for id m.header.requester records)
+
+-- what a provider answers to a query at a second: nothing where its requester has no connection with that id
+abbrev pub answer_to : List ℕ → ℕ → List Record → Message → Option Body
+answer_to agent now records m = answer_by (connection_of m.body) agent now records m

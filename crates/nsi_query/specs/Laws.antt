@@ -4,7 +4,9 @@ use Rattle.std.specs.List.{All}
 use Rattle.nsi_primitive.specs.Messages.{has_rows, is_query}
 use Rattle.nsi_primitive.specs.Printable.{IsPrintableBody, IsShort}
 use Rattle.nsi_primitive.specs.declared.message.Body.{Body}
-use Rattle.nsi_query.specs.Answers.{answer_about, summary_answer}
+use Rattle.nsi_primitive.specs.declared.message.Message.{Message}
+use Rattle.connection_record.specs.declared.record.Record.{Record}
+use Rattle.nsi_query.specs.Answers.{answer_about, answer_to, summary_answer}
 use Rattle.nsi_query.specs.Summary.{Shown, summary}
 
 -- the queries are answered, and nothing else is
@@ -27,3 +29,15 @@ AnswersArePrintable =
 -- and what is answered about all of an owner's
 abbrev pub SummariesArePrintable : Type 0
 SummariesArePrintable = (owner : List ℕ) (all : List Shown) → All HasShortTexts all → IsPrintableBody (summary_answer (summary owner all))
+
+abbrev pub HasShortService : Record → Type 0
+HasShortService r = IsShort 256 r.service.description × IsShort 128 r.service.global
+
+-- what a provider answers is one of the four that have rows
+abbrev pub ProvidersTellRows : Type 0
+ProvidersTellRows = (agent : List ℕ) (now : ℕ) (records : List Record) (m : Message) (body : Body) → answer_to agent now records m ≡ Some body → has_rows body ≡ true
+
+-- and can be written where the texts of its connections can
+abbrev pub ProvidersArePrintable : Type 0
+ProvidersArePrintable =
+    (agent : List ℕ) (now : ℕ) (records : List Record) (m : Message) (body : Body) → All HasShortService records → answer_to agent now records m ≡ Some body → IsPrintableBody body

@@ -12,4 +12,4 @@ pub use answers::{answer_about, nested_answer, summary_answer};
 pub use counted::{notifications, results};
 pub use nested::{nest, own_row};
 pub use rows::Rows;
-pub use summaries::{add_own, summary, summary_of};
+pub use summaries::{add_own, summary, summary_at, summary_of};

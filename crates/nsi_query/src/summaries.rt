@@ -1,13 +1,14 @@
 //! The rows of an owner's connections.
 
-ghost use Rattle.std.specs.Prelude.{◌≡◌, ◌++◌, ◌∷◌, [], length, IfOk, OnOk};
+ghost use Rattle.std.specs.Prelude.{◌≡◌, ◌++◌, ◌∷◌, [], length, map, IfOk, OnOk};
 ghost use Rattle.std.specs.Prelude.{List as Sequence};
 ghost use Rattle.std.specs.List.{zip};
+ghost use Rattle.nsi_query.specs.Answers.{shown_at};
 ghost use Rattle.nsi_query.specs.Summary.{Shown, summary_row, summary, summary_of};
 
 use crate::rows::Rows;
 use connection_record::Record;
-use nsi_base::{Name, copy_text};
+use nsi_base::{Name, Second, copy_text};
 use nsi_primitive::{Plane, SummaryRow};
 use std::alloc::{AllocError, Global};
 
@@ -26,6 +27,23 @@ pub fn summary(
     let mut found = Rows::new(alloc);
     for place in 0..all.len() {
         add_own(&mut found, &all[place], &planes[place], requester)?;
+    }
+    Ok(found)
+}
+
+/// The rows of a requester's connections, each with its status at a second.
+pub fn summary_at(
+    alloc: Global,
+    all: &[Record],
+    now: Second,
+    requester: &Name,
+) -> Result<Rows<SummaryRow>, AllocError>
+    ensures { IfOk result
+        (λ found. found ≡ summary requester.now (map (shown_at now) all.now)) }
+{
+    let mut found = Rows::new(alloc);
+    for of in all {
+        add_own(&mut found, of, &of.status(now), requester)?;
     }
     Ok(found)
 }

@@ -132,6 +132,7 @@ sound_received : (setting : Setting) (stp_of : List ℕ → Option ℕ) (s : Sta
 sound_received setting stp_of s m sound p = received_by setting stp_of s m (LeavesSound setting) (record {
   ignored = sound;
   unopened = sound;
+  told = λ q. sound;
   refused = λ error r. sound;
   opened = λ q points e are. sound_opened setting (seen_with s m) m q points sound (subst IsPrintableBody e p);
   moved = λ n lt fine. sound_taken setting (seen_with s m) n m sound lt (requested_fitting m.body m.header.correlation (record_at n s.records) fine);
@@ -296,6 +297,7 @@ grows_received : (setting : Setting) (stp_of : List ℕ → Option ℕ) (s : Sta
 grows_received setting stp_of s m = received_by setting stp_of s m (GrowsByOne s) (record {
   ignored = still;
   unopened = still;
+  told = λ q. record { records = omega arith; works = omega arith; next = omega arith; taken = refl };
   refused = λ error r. record { records = omega arith; works = omega arith; next = omega arith; taken = refl };
   opened = λ q points e are. taken (with_new setting (seen_with s m) m q points) (length s.records) (omega (arith, length-append s.records (new_record setting s m q points ∷ []))) (push_length s.records (new_record setting s m q points))
       (works_push setting s m q points) (omega arith) refl;

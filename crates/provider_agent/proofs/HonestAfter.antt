@@ -5,7 +5,7 @@ use Rattle.std.proofs.lemmas.Bool.{le-leb, lt-leb, lt-ltb, and_parts, and_from}
 use Rattle.std.proofs.lemmas.List.Elements.{All-contains}
 use Rattle.std.proofs.lemmas.Option.{slice_get-get_or, slice_get_within, get_or_from_slice_get}
 use Rattle.nsi_primitive.specs.Ids.{id_of}
-use Rattle.nsi_primitive.specs.Messages.{is_request}
+use Rattle.nsi_primitive.specs.Messages.{is_request, has_rows}
 use Rattle.nsi_primitive.specs.declared.kind.ErrorName.{ErrorName}
 use Rattle.nsi_primitive.specs.declared.state.Lsm.{Lsm}
 use Rattle.nsi_primitive.specs.declared.state.Machine.{Machine}
@@ -38,7 +38,9 @@ use Rattle.provider_agent.specs.declared.agent.Agent.{Agent}
 use Rattle.provider_agent.specs.Setting.{Setting}
 use Rattle.provider_agent.specs.Others.{first_lack, bandwidth, cause_of, lack_of, lacking}
 use Rattle.provider_agent.specs.State.{State, record_at, no_record}
-use Rattle.agent_state.specs.Entries.{error_reply}
+use Rattle.agent_state.specs.Entries.{error_reply, query_reply}
+use Rattle.nsi_query.specs.Answers.{answer_to}
+use Rattle.nsi_query.proofs.Answering.{providers_tell_rows}
 use Rattle.provider_agent.specs.Steps.{step, receives, works, work_at, forces, force_move, is_forcible, keeps, ticks, taken_at, with_new, messages_of, is_waiting, may_take, after_if, after, agent_of, own_origin}
 use Rattle.provider_agent.specs.Safety.{places_of, others_load, said, is_bandwidth, is_refusal, IsHonestWork, IsChecking, IsHonest}
 use Rattle.provider_agent.specs.Good.{IsGood}
@@ -47,6 +49,7 @@ use Rattle.provider_agent.proofs.EachSays.{EachReply, EachMessage, EachPlane, no
 use Rattle.provider_agent.proofs.FirstIsOne.{first_lack_found, none_where_room}
 use Rattle.provider_agent.proofs.GoodAfter.{waits_within, asked_at}
 use Rattle.provider_agent.proofs.RequestCases.{seen_with, received_by}
+use Rattle.provider_agent.proofs.Querying.{replied_by}
 
 ---- Work on a reserve
 
@@ -185,11 +188,17 @@ hold_end_quiet : (k : Rsm) (deadline : Option ℕ) (now : ℕ) (origin : Origin)
 unfolding hold_end
 hold_end_quiet k deadline now origin = grind arith
 
+rows_no_refusal : (body : Body) → has_rows body ≡ true → IsNoRefusal body
+unfolding is_refusal
+rows_no_refusal body e = grind arith
+
 received_quiet : (setting : Setting) (stp_of : List ℕ → Option ℕ) (s : State) (m : Message) → EachMessage IsNoRefusal (receives (is_request m.body) (is_taken m.header s.seen) setting stp_of s m).out
 unfolding is_refusal
 received_quiet setting stp_of s m = received_by setting stp_of s m (λ x. EachMessage IsNoRefusal x.out) (record {
   ignored = nothing_said IsNoRefusal;
   unopened = nothing_said IsNoRefusal;
+  told = λ q. one_said IsNoRefusal (query_reply setting.name m (answer_to setting.name s.now s.records m))
+      (replied_by IsNoRefusal setting.name m (answer_to setting.name s.now s.records m) (λ error plain. refl) (λ body e. rows_no_refusal body (providers_tell_rows setting.name s.now s.records m body e)));
   refused = λ error r. one_said IsNoRefusal (error_reply setting.name m error) refl;
   opened = λ q points e are. taken (with_new setting (seen_with s m) m q points) (length s.records);
   moved = λ n lt fine. taken (seen_with s m) n;

@@ -88,6 +88,7 @@ keep_received : (setting : Setting) (stp_of : List ℕ → Option ℕ) (s : Stat
 keep_received setting stp_of s m = received_by setting stp_of s m (λ x. KeepRecords s.records x.state.records) (record {
   ignored = keep_same s.records;
   unopened = keep_same s.records;
+  told = λ q. keep_same s.records;
   refused = λ error r. keep_same s.records;
   opened = λ q points e are. keep_opened setting (seen_with s m) m q points;
   moved = λ n lt fine. keep_taken setting (seen_with s m) n m lt;

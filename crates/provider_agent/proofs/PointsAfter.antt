@@ -84,6 +84,7 @@ points_received : (stp_of : List ℕ → Option ℕ) (setting : Setting) (s : St
 points_received stp_of setting s m have = received_by setting stp_of s m (λ x. HavePoints stp_of x.state.records) (record {
   ignored = have;
   unopened = have;
+  told = λ q. have;
   refused = λ error r. have;
   opened = λ q points e are. points_opened stp_of setting (seen_with s m) m q points are have;
   moved = λ n lt fine. points_taken stp_of setting (seen_with s m) n m lt have;

@@ -1,5 +1,5 @@
 -- What a good provider says has a spelling.
-use Rattle.std.proofs.Common.{◌≡◌, ℕ, Bool, true, false, nat_le, ◌+◌, List, Option, Some, None, IfSome, arith, refl, subst, length}
+use Rattle.std.proofs.Common.{◌≡◌, ℕ, Bool, true, false, nat_le, ◌+◌, get_or, List, Option, Some, None, IfSome, arith, refl, subst, length}
 use Rattle.std.specs.List.{All}
 use Rattle.std.proofs.lemmas.Option.{slice_get-get_or}
 use Rattle.nsi_primitive.specs.Messages.{is_request}
@@ -36,12 +36,16 @@ use Rattle.connection_record.specs.Applied.{reservation_closing, provision_closi
 use Rattle.provider_agent.specs.Setting.{Setting}
 use Rattle.provider_agent.specs.Others.{first_lack, cause_of, lack_of, lacking}
 use Rattle.provider_agent.specs.State.{State, Stepped, record_at, no_record}
-use Rattle.agent_state.specs.Entries.{error_reply}
+use Rattle.agent_state.specs.Entries.{error_reply, query_reply}
+use Rattle.nsi_query.specs.Answers.{answer_to}
+use Rattle.nsi_query.specs.Laws.{HasShortService}
+use Rattle.nsi_query.proofs.Answering.{providers_are_printable}
 use Rattle.provider_agent.specs.Steps.{step, receives, works, work_at, forces, force_move, is_forcible, keeps, ticks, taken_at, with_new, is_waiting, may_take, after_if, after, agent_of, own_origin}
 use Rattle.provider_agent.specs.Good.{IsGoodRecord, IsGood}
 use Rattle.provider_agent.proofs.EachSays.{EachReply, EachMessage, nothing_said, one_said, closes_each, ticked_each, kept_each, ticks_each}
 use Rattle.provider_agent.proofs.GoodAfter.{waits_within}
 use Rattle.provider_agent.proofs.RequestCases.{seen_with, received_by}
+use Rattle.provider_agent.proofs.Querying.{replied_by}
 
 ---- Replies
 
@@ -163,10 +167,16 @@ SaysPrintable x = EachMessage IsPrintableBody x.out
 printable_kept : (setting : Setting) (s : State) (n : ℕ) (o : Option Move) → IfSome o (λ m. IsPrintableMove m (record_at n s.records)) → SaysPrintable (keeps setting s n (moves_if Side.Provider o s.now (record_at n s.records)))
 printable_kept setting s n o p = kept_each IsPrintableBody setting s n (moves_if Side.Provider o s.now (record_at n s.records)) (λ notice. tt) (moves_if_printable Side.Provider o s.now (record_at n s.records) p)
 
-printable_received : (setting : Setting) (stp_of : List ℕ → Option ℕ) (s : State) (m : Message) → SaysPrintable (receives (is_request m.body) (is_taken m.header s.seen) setting stp_of s m)
-printable_received setting stp_of s m = received_by setting stp_of s m SaysPrintable (record {
+short_texts : (setting : Setting) (s : State) → IsGood setting s → All HasShortService s.records
+short_texts setting s g = λ k d lt. let good = g.records k (get_or s.records k d) (slice_get-get_or s.records k d lt) in (good.description, good.global)
+
+printable_received : (setting : Setting) (stp_of : List ℕ → Option ℕ) (s : State) (m : Message) → IsGood setting s → SaysPrintable (receives (is_request m.body) (is_taken m.header s.seen) setting stp_of s m)
+printable_received setting stp_of s m g = received_by setting stp_of s m SaysPrintable (record {
   ignored = nothing_said IsPrintableBody;
   unopened = nothing_said IsPrintableBody;
+  told = λ q. one_said IsPrintableBody (query_reply setting.name m (answer_to setting.name s.now s.records m))
+      (replied_by IsPrintableBody setting.name m (answer_to setting.name s.now s.records m) (λ error plain. plain)
+      (λ body e. providers_are_printable setting.name s.now s.records m body (short_texts setting s g) e));
   refused = λ error r. one_said IsPrintableBody (error_reply setting.name m error) (error_plain (refusal setting.name stp_of s.records m) error (refusal_plain setting.name stp_of s.records m) r);
   opened = λ q points e are. taken (with_new setting (seen_with s m) m q points) (length s.records);
   moved = λ n lt fine. taken (seen_with s m) n;
@@ -192,7 +202,7 @@ printable_forced true setting s n = printable_kept setting (record s { next = s.
 
 printable_step : (input : Input) (second : ℕ) (setting : Setting) (stp_of : List ℕ → Option ℕ) (s : State) → IsGood setting s → SaysPrintable (step input second setting stp_of s)
 unfolding step ticks
-printable_step (Input.Got m) second setting stp_of s g = printable_received setting stp_of s m
+printable_step (Input.Got m) second setting stp_of s g = printable_received setting stp_of s m g
 printable_step (Input.Work n machine) second setting stp_of s g = printable_worked (is_waiting s n machine) setting s n machine refl g
 printable_step (Input.Force n) second setting stp_of s g = printable_forced (is_forcible s n) setting s n
 printable_step Input.Tick second setting stp_of s g = ticks_each IsPrintableBody (agent_of setting) s.now second s.next s.records (λ notice. tt)

@@ -1,9 +1,9 @@
--- What receiving a message comes to: nothing, an error, a new record, or a move of a record that is there.
+-- What receiving a message comes to: nothing, the answer to a query, an error, a new record, or a move of a record that is there.
 use Rattle.std.proofs.Common.{◌≡◌, ◌<◌, ◌∙◌, ℕ, Bool, true, false, List, [], ◌∷◌, Option, Some, None, refl, sym, ap, subst, not, eqb, ◌&&◌, bytes_eq, length, slice_get, unwrap_or, option_and_then}
 use Rattle.std.proofs.lemmas.List.Quantifiers.{position-Some}
 use Rattle.std.proofs.lemmas.Option.{slice_get-get_or}
 use Rattle.nsi_primitive.specs.Ids.{id_of}
-use Rattle.nsi_primitive.specs.Messages.{is_request, connection_of}
+use Rattle.nsi_primitive.specs.Messages.{is_request, is_query, connection_of}
 use Rattle.nsi_primitive.specs.declared.kind.ErrorName.{ErrorName}
 use Rattle.nsi_primitive.specs.declared.message.Body.{Body}
 use Rattle.nsi_primitive.specs.declared.message.Message.{Message}
@@ -12,10 +12,11 @@ use Rattle.message_retry.specs.Taken.{is_taken, with_taken}
 use Rattle.connection_record.specs.declared.record.Record.{Record}
 use Rattle.connection_record.specs.Moves.{is_live, fresh, service_of}
 use Rattle.connection_record.specs.Refusal.{refusal, is_in_place, has_row, refused_if, or_else, about, named_refusal, record_refusal, modification_refusal, place_of, points_of, record_for}
+use Rattle.nsi_query.specs.Answers.{answer_to}
 use Rattle.provider_agent.specs.Setting.{Setting}
 use Rattle.provider_agent.specs.State.{State, Stepped, unchanged, says, record_at, no_record, name_or}
-use Rattle.agent_state.specs.Entries.{error_reply}
-use Rattle.provider_agent.specs.Steps.{receives, answers, accepts, opens, opens_between, taken_at, with_new}
+use Rattle.agent_state.specs.Entries.{error_reply, query_reply}
+use Rattle.provider_agent.specs.Steps.{receives, serves, answers, accepts, opens, opens_between, taken_at, with_new}
 
 -- the state in which a request counts as seen
 abbrev pub seen_with : State → Message → State
@@ -63,6 +64,7 @@ named_at agent stp_of records m id c h = by_place (place_of id m.header.requeste
 pub record IsInEachCase (setting : Setting) (stp_of : List ℕ → Option ℕ) (s : State) (m : Message) (P : Stepped → Type 0) : Type 0 where
   pub ignored : P (unchanged s)
   pub unopened : P (unchanged (seen_with s m))
+  pub told : is_query m.body ≡ true → P (says (seen_with s m) (query_reply setting.name m (answer_to setting.name s.now s.records m) ∷ []))
   pub refused : (error : ErrorName) → refusal setting.name stp_of s.records m ≡ Some error → P (says (seen_with s m) (error_reply setting.name m error ∷ []))
   pub opened : (q : ReserveRequest) (points : ℕ × ℕ) → m.body ≡ Body.Reserve q → points_of stp_of q ≡ Some points → P (taken_at setting (with_new setting (seen_with s m) m q points) (length s.records) m)
   pub moved : (n : ℕ) → n < length s.records → modification_refusal m.body (record_at n s.records) ≡ None → P (taken_at setting (seen_with s m) n m)
@@ -89,8 +91,12 @@ received_by setting stp_of s m P each = by_seen (is_request m.body) (is_taken m.
     answering (Some error) r = each.refused error r
     answering None r = accepting (connection_of m.body) refl r
 
+    serving : (b : Bool) → is_query m.body ≡ b → P (serves b setting stp_of (seen_with s m) m)
+    serving true e = each.told e
+    serving false e = answering (refusal setting.name stp_of s.records m) refl
+
     by_seen : (a b : Bool) → P (receives a b setting stp_of s m)
-    by_seen true false = answering (refusal setting.name stp_of s.records m) refl
+    by_seen true false = serving (is_query m.body) refl
     by_seen true true = each.ignored
     by_seen false true = each.ignored
     by_seen false false = each.ignored

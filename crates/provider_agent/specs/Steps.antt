@@ -1,5 +1,5 @@
 -- One entry at a provider.
-use Rattle.std.specs.Prelude.{ℕ, ◌+◌, Bool, true, false, not, List, [], ◌∷◌, ◌++◌, ◌==◌, ◌&&◌, nat_lt, length, slice_set, Option, Some, None, unwrap_or, option_map, option_and_then, position, if◌then◌else◌}
+use Rattle.std.specs.Prelude.{ℕ, ◌+◌, Bool, true, false, List, [], ◌∷◌, ◌++◌, ◌==◌, ◌&&◌, nat_lt, length, slice_set, Option, Some, None, unwrap_or, option_map, option_and_then, position, if◌then◌else◌}
 use Rattle.nsi_primitive.specs.Ids.{id_of}
 use Rattle.nsi_primitive.specs.Messages.{is_request, is_query, connection_of}
 use Rattle.nsi_primitive.specs.declared.kind.ErrorName.{ErrorName}
@@ -21,7 +21,8 @@ use Rattle.connection_record.specs.Replies.{Moved, addressed}
 use Rattle.connection_record.specs.Moves.{fresh, service_of}
 use Rattle.connection_record.specs.Applied.{moves, moves_if, requested, waits, first_machine, has_work, work_of, ticked, status_of, is_told, tells}
 use Rattle.connection_record.specs.Refusal.{is_created, refusal, place_of, points_of}
-use Rattle.agent_state.specs.Entries.{is_on_time, most_entries, error_reply}
+use Rattle.nsi_query.specs.Answers.{answer_to}
+use Rattle.agent_state.specs.Entries.{is_on_time, most_entries, error_reply, query_reply}
 use Rattle.provider_agent.specs.declared.agent.Agent.{Agent}
 use Rattle.provider_agent.specs.Setting.{Setting}
 use Rattle.provider_agent.specs.Others.{lacking}
@@ -92,9 +93,14 @@ answers None setting stp_of s m = accepts (connection_of m.body) setting stp_of 
 abbrev pub is_seen : State → Message → Bool
 is_seen s m = is_request m.body && is_taken m.header s.seen
 
+-- a query is answered at once by what the agent has, which stays as it is; every other request is one to do something
+abbrev pub serves : (is_query : Bool) → Setting → (List ℕ → Option ℕ) → State → Message → Stepped
+serves true setting stp_of s m = says s (query_reply setting.name m (answer_to setting.name s.now s.records m) ∷ [])
+serves false setting stp_of s m = answers (refusal setting.name stp_of s.records m) setting stp_of s m
+
 -- a request is taken once; a message that isn't a request changes nothing
 unfoldable pub receives : (is_request is_taken : Bool) → Setting → (List ℕ → Option ℕ) → State → Message → Stepped
-receives true false setting stp_of s m = answers (refusal setting.name stp_of s.records m) setting stp_of (record s { seen = with_taken m.header s.seen }) m
+receives true false setting stp_of s m = serves (is_query m.body) setting stp_of (record s { seen = with_taken m.header s.seen }) m
 receives _ _ setting stp_of s m = unchanged s
 
 ---- Work
@@ -189,10 +195,9 @@ ticks setting now s = with_ticks now s (ticks_all (agent_of setting) s.now now s
 
 ---- One entry
 
--- a provider has no asks of its own, and answers no query yet
+-- a provider has no asks of its own
 abbrev pub is_for_provider : Input → Bool
 is_for_provider (Input.Ask _ _) = false
-is_for_provider (Input.Got m) = not (is_query m.body)
 is_for_provider _ = true
 
 abbrev pub may_take : State → Entry → Bool

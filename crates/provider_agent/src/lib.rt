@@ -8,6 +8,7 @@ pub mod laws;
 pub mod provider;
 mod provider_core;
 mod receive;
+mod query;
 mod records;
 mod setting;
 mod tick;

@@ -1,7 +1,7 @@
 //! How requests are taken.
 
 ghost use Rattle.std.specs.Prelude.{◌≡◌, ◌<◌, ◌∷◌, ◌++◌, [], length, IfOk, OnErr, IfSome, IsSome, None, Some, Contains};
-ghost use Rattle.nsi_primitive.specs.Messages.{is_request, connection_of};
+ghost use Rattle.nsi_primitive.specs.Messages.{is_request, is_query, connection_of};
 ghost use Rattle.nsi_primitive.specs.declared.message.Body.{Body as BodyValue};
 ghost use Rattle.message_retry.specs.Taken.{is_taken, with_taken};
 ghost use Rattle.nsi_primitive.specs.Ids.{id_of};
@@ -11,7 +11,7 @@ ghost use Rattle.connection_record.specs.Refusal.{refusal, unnamed_refusal, poin
 ghost use Rattle.provider_agent.specs.Setting.{own_stp};
 ghost use Rattle.provider_agent.specs.State.{record_at, says};
 ghost use Rattle.agent_state.specs.Entries.{error_reply};
-ghost use Rattle.provider_agent.specs.Steps.{receives, answers, opens_between, taken_at};
+ghost use Rattle.provider_agent.specs.Steps.{receives, serves, answers, opens_between, taken_at};
 ghost use Rattle.provider_agent.specs.Core.{IsConsistent, IsReady};
 ghost use Rattle.provider_agent.specs.Step.{IsStep};
 ghost use Rattle.provider_agent.specs.Turned.{IsTurned, IsTurnedAt, IsStored};
@@ -50,7 +50,7 @@ impl Core {
             return Ok(Vec::new(alloc));
         }
         self.retry.saw(alloc, message)?;
-        match self.answer(alloc, topology, message) {
+        match self.serve(alloc, topology, message) {
             Ok(out) => Ok(out),
             Err(error) => {
                 self.retry.take_back(message);
@@ -59,7 +59,27 @@ impl Core {
         }
     }
 
-    /// Answers a request that is taken for the first time.
+    /// Serves a request that is taken for the first time.
+    fn serve(
+        &mut self,
+        alloc: Global,
+        topology: &Topology,
+        message: &Message,
+    ) -> Result<Vec<Message>, AllocError>
+        requires { IsReady self.old }
+        ensures step { let m = message.now in
+            let stp_of = own_stp topology.now self.old.agent.number in
+            IsStep self.old self.new result (λ setting s. serves (is_query m.body) setting stp_of s m) }
+        ensures consistent { IsConsistent self.new }
+    {
+        if message.is_query() {
+            self.reply(alloc, message)
+        } else {
+            self.answer(alloc, topology, message)
+        }
+    }
+
+    /// Answers a request that is no query.
     #[tactic(auto, unfolding(connection_record::specs::Refusal::refusal, connection_record::specs::Refusal::unnamed_refusal))]
     fn answer(
         &mut self,
