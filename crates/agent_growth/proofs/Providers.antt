@@ -47,6 +47,7 @@ received_stay : (setting : Setting) (stp_of : List ℕ → Option ℕ) (s : Stat
 received_stay setting stp_of s m = received_by setting stp_of s m (λ x. RecordsStay s.records x.state.records) (record {
   ignored = records_same s.records;
   unopened = records_same s.records;
+  told = λ q. records_same s.records;
   refused = λ error r. records_same s.records;
   opened = λ q points e are. opened_stay setting (seen_with s m) m q points;
   moved = λ n lt fine. taken_stay setting (seen_with s m) n m;

@@ -68,7 +68,7 @@ pub ask_for : (t : Network) (a n : ℕ) (ask : Ask) → IsRequester t a → is_q
 ask_for t a n ask r e = subst (λ o. is_for o (Input.Ask n ask) ≡ true) (sym r.1) (ap not e)
 
 got_as : (o : Option AgentKind) (t : Network) (routes : Routes) (a : ℕ) (m : Message) → takes_kind (role_in o t routes a) m.body ≡ true → is_for o (Input.Got m) ≡ true
-got_as (Some (AgentKind.Provider hold)) t routes a m e = e
+got_as (Some (AgentKind.Provider hold)) t routes a m e = refl
 got_as (Some (AgentKind.Requester provider)) t routes a m e = refl
 got_as (Some AgentKind.Aggregator) t routes a m e = e
 got_as None t routes a m e = e

@@ -2,7 +2,7 @@
 use Rattle.std.proofs.Common.{ℕ, ◌+◌, ◌≤◌, ◌<◌, ◌≡◌, ◌∙◌, Bool, true, false, List, [], ◌∷◌, Option, Some, None, ◌&&◌, refl, sym, ap, subst, arith, length, length-append, unwrap_or, bytes_eq}
 use Rattle.std.proofs.lemmas.Option.{slice_get_within, get_or_from_slice_get}
 use Rattle.nsi_primitive.specs.Ids.{id_of}
-use Rattle.nsi_primitive.specs.Messages.{is_request, connection_of}
+use Rattle.nsi_primitive.specs.Messages.{is_request, is_query, has_rows, connection_of}
 use Rattle.nsi_primitive.specs.declared.entry.Input.{Input}
 use Rattle.nsi_primitive.specs.declared.kind.ErrorName.{ErrorName}
 use Rattle.nsi_primitive.specs.declared.plane.Plane.{Plane}
@@ -24,13 +24,16 @@ use Rattle.connection_record.specs.Unrefused.{IsTakenAt}
 use Rattle.connection_record.proofs.Growing.{moves_later, moves_if_later, ticks_later, tells_later}
 use Rattle.connection_record.proofs.Saying.{tally_append, moves_speaks, takes_speaks, works_speaks, ticks_speaks, tells_speaks}
 use Rattle.connection_record.proofs.Unrefused.{unrefused_agent, unrefused_at}
-use Rattle.agent_state.specs.Entries.{error_reply}
+use Rattle.nsi_query.specs.Answers.{answer_to}
+use Rattle.nsi_query.proofs.Answering.{providers_tell_rows}
+use Rattle.agent_state.specs.Entries.{error_reply, query_reply}
 use Rattle.agent_state.specs.State.{State, Stepped, record_at, no_record}
 use Rattle.provider_agent.specs.declared.agent.Agent.{Agent}
 use Rattle.provider_agent.specs.Others.{lacking}
 use Rattle.provider_agent.specs.Setting.{Setting}
-use Rattle.provider_agent.specs.Steps.{messages_by, drawn, keeps, taken_at, with_new, opens_between, opens, accepts, answers, receives, is_waiting, work_at, works, is_forcible, force_move, forces, ticks_at, is_told_at, told_at, Ticked, ticks_all, ticks, step, agent_of, own_origin}
+use Rattle.provider_agent.specs.Steps.{messages_by, drawn, keeps, taken_at, with_new, opens_between, opens, accepts, answers, serves, receives, is_waiting, work_at, works, is_forcible, force_move, forces, ticks_at, is_told_at, told_at, Ticked, ticks_all, ticks, step, agent_of, own_origin}
 use Rattle.provider_agent.proofs.GoodAfter.{waits_within, forcible_within}
+use Rattle.provider_agent.proofs.Querying.{replied_by, reply_header}
 use Rattle.provider_agent.proofs.RequestCases.{seen_with, new_record}
 use Rattle.agent_speech.specs.Owing.{answers_to, is_drawn, is_foreign, owed_by, has_id, before, SaysWhatItOwes}
 use Rattle.agent_speech.proofs.Measures.{speaks_answers, speaks_drawn, speaks_own, none_begun, before_next}
@@ -82,6 +85,15 @@ error_answers : (agent : List ℕ) (m : Message) (e : ErrorName) → is_answerin
 unfolding is_answering is_asking is_noting
 error_answers agent m e = refl
 
+rows_answer : (body : Body) → has_rows body ≡ true → is_answering body ≡ true
+unfolding is_answering is_asking is_noting
+rows_answer body e = grind arith
+
+reply_answers : (setting : Setting) (s : State) (m : Message) → is_answering (query_reply setting.name m (answer_to setting.name s.now s.records m)).body ≡ true
+reply_answers setting s m =
+    replied_by (λ b. is_answering b ≡ true) setting.name m (answer_to setting.name s.now s.records m) (λ error plain. error_answers setting.name m error)
+    (λ body e. rows_answer body (providers_tell_rows setting.name s.now s.records m body e))
+
 module _ (setting : Setting) (stp_of : List ℕ → Option ℕ) (s : State) (m : Message) (u : is_taken m.header s.seen ≡ false) where
   new_turned : (q : ReserveRequest) (points : ℕ × ℕ) → Turns setting (Some m.header.correlation) m.header.requester (seen_with s m) (taken_at setting (with_new setting (seen_with s m) m q points) (length s.records) m)
   new_turned q points =
@@ -131,12 +143,18 @@ module _ (setting : Setting) (stp_of : List ℕ → Option ℕ) (s : State) (m :
   answers_says (Some e) r = says_one setting.name setting.number s (seen_with s m) m (error_reply setting.name m e) has_taken refl (error_answers setting.name m e)
   answers_says None r = accepts_says (connection_of m.body) refl r
 
+  serves_says : (b : Bool) → Says setting s (serves b setting stp_of (seen_with s m) m)
+  serves_says true =
+      says_one setting.name setting.number s (seen_with s m) m (query_reply setting.name m (answer_to setting.name s.now s.records m)) has_taken
+      (reply_header setting.name m (answer_to setting.name s.now s.records m)) (reply_answers setting s m)
+  serves_says false = answers_says (refusal setting.name stp_of s.records m) refl
+
 pub receives_says : (setting : Setting) (stp_of : List ℕ → Option ℕ) (s : State) (m : Message) → Says setting s (receives (is_request m.body) (is_taken m.header s.seen) setting stp_of s m)
 unfolding receives
 receives_says setting stp_of s m = by (is_request m.body) (is_taken m.header s.seen) refl
   where
     by : (a b : Bool) → is_taken m.header s.seen ≡ b → Says setting s (receives a b setting stp_of s m)
-    by true false u = answers_says setting stp_of s m u (refusal setting.name stp_of s.records m) refl
+    by true false u = serves_says setting stp_of s m u (is_query m.body)
     by true true u = says_none setting.name setting.number s
     by false b u = says_none setting.name setting.number s
 

@@ -149,11 +149,16 @@ module _ (side : Place) (name parent : List ℕ) (now : ℕ) (x : ChildConnectio
   abbrev refusal : ErrorName → List Message
   refusal error = error_reply name m error ∷ []
 
-  refusal_says : (error : ErrorName) (c : ℕ) (b : Body) → Contains (about (header_of parent name c) (error_reply name m error ∷ [])) b → (header_of parent name c ≡ m.header) × (b ≡ Body.Error (connection_of m.body) (plain name error))
-  refusal_says error c b i =
-      let w = said_under (header_of parent name c) b (error_reply name m error ∷ []) i in
-      let q : w.message ≡ error_reply name m error = only_one (error_reply name m error) w.message w.there in
+  -- one message under the header of what came
+  telling_says : (body : Body) (c : ℕ) (b : Body) → Contains (about (header_of parent name c) (record { header = m.header; body = body } ∷ [])) b → (header_of parent name c ≡ m.header) × (b ≡ body)
+  telling_says body c b i =
+      let said : Message = record { header = m.header; body = body } in
+      let w = said_under (header_of parent name c) b (said ∷ []) i in
+      let q : w.message ≡ said = only_one said w.message w.there in
       (same_header (header_of parent name c) m.header (sym (ap (λ (z : Message). is_same_request (header_of parent name c) z.header) q) ∙ w.header), sym w.body ∙ ap (λ (z : Message). z.body) q)
+
+  refusal_says : (error : ErrorName) (c : ℕ) (b : Body) → Contains (about (header_of parent name c) (error_reply name m error ∷ [])) b → (header_of parent name c ≡ m.header) × (b ≡ Body.Error (connection_of m.body) (plain name error))
+  refusal_says error = telling_says (Body.Error (connection_of m.body) (plain name error))
 
   refusal_there : (error : ErrorName) → Contains (about m.header (error_reply name m error ∷ [])) (Body.Error (connection_of m.body) (plain name error))
   unfolding about is_answering is_asking is_noting
@@ -187,13 +192,18 @@ module _ (side : Place) (name parent : List ℕ) (now : ℕ) (x : ChildConnectio
         seen_same = same;
       }
 
+  -- another's request is answered at once, and nothing else is done
+  pub foreign_told : (body : Body) → is_taken m.header d.seen ≡ false → ((c : ℕ) → IsHeeded x c → m.header ≡ header_of parent name c → ⊥) → IsMate parent name x place d →
+      IsMate parent name x place (goes_on d d.records (with_taken m.header d.seen) (record { header = m.header; body = body } ∷ []))
+  foreign_told body u foreign h =
+      aside_mate parent name x place d d.records (with_taken m.header d.seen) (record { header = m.header; body = body } ∷ [])
+      (still_aside (with_taken m.header d.seen) (record { header = m.header; body = body } ∷ []) h.seated (λ c t. taken_still (header_of parent name c) m.header d.seen u t)
+      (λ c b i j. foreign c i (sym (telling_says body c b j).0)) (λ c i. taken_apart (header_of parent name c) m.header d.seen u (λ e. foreign c (inr i) (sym e)))) h
+
   -- another's request is refused
   pub foreign_refused : (error : ErrorName) → is_taken m.header d.seen ≡ false → ((c : ℕ) → IsHeeded x c → m.header ≡ header_of parent name c → ⊥) → IsMate parent name x place d →
       IsMate parent name x place (goes_on d d.records (with_taken m.header d.seen) (error_reply name m error ∷ []))
-  foreign_refused error u foreign h =
-      aside_mate parent name x place d d.records (with_taken m.header d.seen) (error_reply name m error ∷ [])
-      (still_aside (with_taken m.header d.seen) (error_reply name m error ∷ []) h.seated (λ c t. taken_still (header_of parent name c) m.header d.seen u t)
-      (λ c b i j. foreign c i (sym (refusal_says error c b j).0)) (λ c i. taken_apart (header_of parent name c) m.header d.seen u (λ e. foreign c (inr i) (sym e)))) h
+  foreign_refused error = foreign_told (Body.Error (connection_of m.body) (plain name error))
 
   -- another's request is taken, and nothing is done
   pub foreign_seen : is_taken m.header d.seen ≡ false → ((c : ℕ) → IsHeeded x c → m.header ≡ header_of parent name c → ⊥) → IsMate parent name x place d → IsMate parent name x place (goes_on d d.records (with_taken m.header d.seen) [])

@@ -1,7 +1,9 @@
 -- What each entry of a provider does to its records, as its parents' views see it.
-use Rattle.std.proofs.Common.{ℕ, ◌≡◌, ◌<◌, ◌+◌, Bool, true, false, List, [], ◌∷◌, ◌++◌, length, Option, Some, None, nat_lt, ◌&&◌, refl, sym, ap, ◌∙◌, subst, slice_set, unwrap_or, ltb-true}
+use Rattle.std.proofs.Common.{ℕ, ◌≡◌, ◌<◌, ◌+◌, Bool, true, false, List, [], ◌∷◌, ◌++◌, length, Option, Some, None, nat_lt, ◌&&◌, refl, sym, ap, ◌∙◌, subst, slice_get, slice_set, unwrap_or, option_and_then, is_some, bytes_eq, ◌==◌, ltb-true, true≢false}
+use Rattle.std.proofs.lemmas.List.Quantifiers.{position-Some}
+use Rattle.std.proofs.lemmas.Option.{slice_get-get_or}
 use Rattle.nsi_primitive.specs.Ids.{id_of}
-use Rattle.nsi_primitive.specs.Messages.{kind_of, connection_of, is_request}
+use Rattle.nsi_primitive.specs.Messages.{kind_of, connection_of, is_query, is_request}
 use Rattle.nsi_primitive.specs.declared.entry.Entry.{Entry}
 use Rattle.nsi_primitive.specs.declared.entry.Input.{Input}
 use Rattle.nsi_primitive.specs.declared.kind.ErrorName.{ErrorName}
@@ -17,15 +19,18 @@ use Rattle.connection_record.specs.declared.record.Record.{Record}
 use Rattle.connection_record.specs.Applied.{status_of, is_told, tells, tells_plane, waits}
 use Rattle.connection_record.specs.Courses.{Course, IsAct}
 use Rattle.connection_record.specs.Moves.{is_live}
-use Rattle.connection_record.specs.Refusal.{refusal, points_of}
+use Rattle.connection_record.specs.Refusal.{place_of, record_for, refusal, points_of}
 use Rattle.connection_record.specs.Replies.{Moved, stays, addressed}
 use Rattle.connection_record.proofs.Doing.{reservation_is_act, work_is_act, force_is_act, tick_is_act, telling_is_act}
-use Rattle.agent_state.specs.State.{State, Stepped, unchanged, record_at}
+use Rattle.nsi_query.specs.Answers.{answer_to}
+use Rattle.nsi_query.proofs.Answering.{providers_answer, providers_tell_rows}
+use Rattle.agent_state.specs.Entries.{reply_by}
+use Rattle.agent_state.specs.State.{State, Stepped, unchanged, says, no_record, record_at}
 use Rattle.provider_agent.specs.Others.{lacking}
 use Rattle.provider_agent.specs.Setting.{Setting}
-use Rattle.provider_agent.specs.Steps.{keeps, taken_at, with_new, opens_between, opens, accepts, answers, receives, is_waiting, works, is_forcible, forces, own_origin, agent_of, told_at, is_told_at, drawn, ticks_all, ticks, step, after_if, after, may_take}
+use Rattle.provider_agent.specs.Steps.{keeps, taken_at, with_new, opens_between, opens, accepts, answers, serves, receives, is_waiting, works, is_forcible, forces, own_origin, agent_of, told_at, is_told_at, drawn, ticks_all, ticks, step, after_if, after, may_take}
 use Rattle.circuit_link.specs.Serving.{child_of, IsByItself, Tells, TakeCourses, taken_by, IsTurn, IsNew, Serves}
-use Rattle.circuit_link.proofs.Abouts.{addressed_append}
+use Rattle.circuit_link.proofs.Abouts.{addressed_append, same_bytes}
 use Rattle.circuit_link.proofs.Gathering.{tells_addressed, no_courses, one_course, more_courses}
 use Rattle.circuit_link.proofs.Living.{work_itself, force_itself, tick_itself, plane_itself, telling_itself}
 use Rattle.circuit_link.proofs.Requests.{refused_by, found_by, first_by, unnamed_kind, reserve_unnamed}
@@ -162,9 +167,32 @@ module _ (setting : Setting) (input : Input) (said : List Message) where
       answering (Some error) r = Serves.refuses m error new (refused_by setting.name stp_of m error (child_of s said) r) refl refl
       answering None r = accepting (connection_of m.body) refl r
 
+    -- a query is answered by rows, or refused
+    module _ (stp_of : List ℕ → Option ℕ) (s : State) (got : input ≡ Input.Got m) (req : is_request m.body ≡ true) (u : is_taken m.header s.seen ≡ false) where
+      there : (n id : ℕ) → place_of id m.header.requester s.records ≡ Some n → record_for id m.header.requester s.records ≡ Some (record_at n s.records)
+      there n id e =
+          ap (λ o. option_and_then (λ k. slice_get s.records k) o) e
+          ∙ slice_get-get_or s.records n no_record (position-Some (λ (r : Record). (id == r.id) && bytes_eq m.header.requester r.owner) s.records n no_record e).0
+
+      is_there : (n id : ℕ) → is_query m.body ≡ true → answer_to setting.name s.now s.records m ≡ None → connection_of m.body ≡ Some id → place_of id m.header.requester s.records ≡ Some n → ⊥
+      is_there n id q e names at = true≢false (sym (providers_answer setting.name s.now s.records m id (record_at n s.records) q names (there n id at)) ∙ ap is_some e)
+
+      another : bytes_eq m.header.provider setting.name ≡ false → m.header.provider ≡ setting.name → ⊥
+      another e is = true≢false (sym (same_bytes setting.name) ∙ sym (ap (λ p. bytes_eq p setting.name) is) ∙ e)
+
+      telling : is_query m.body ≡ true → (b : Bool) (o : Option Body) → bytes_eq m.header.provider setting.name ≡ b → answer_to setting.name s.now s.records m ≡ o
+          → Does s (says (seen_now stp_of s got req u) (reply_by b o setting.name m ∷ []))
+      telling q true (Some body) p e = Serves.tells m body (new stp_of s got req u) q (providers_tell_rows setting.name s.now s.records m body e) refl refl
+      telling q true None p e = Serves.refuses m ErrorName.Nonexistent (new stp_of s got req u) (λ n id own names at. absurd (is_there n id q e names at)) refl refl
+      telling q false o p e = Serves.refuses m ErrorName.WrongProvider (new stp_of s got req u) (λ n id own names at. absurd (another p own)) refl refl
+
+      serving : (b : Bool) → is_query m.body ≡ b → Does s (serves b setting stp_of (seen_now stp_of s got req u) m)
+      serving true q = telling q (bytes_eq m.header.provider setting.name) (answer_to setting.name s.now s.records m) refl refl
+      serving false q = answering stp_of s got req u (refusal setting.name stp_of s.records m) refl
+
     receiving : (stp_of : List ℕ → Option ℕ) (s : State) (a b : Bool) → input ≡ Input.Got m → is_request m.body ≡ a → is_taken m.header s.seen ≡ b → Does s (receives a b setting stp_of s m)
     unfolding receives
-    receiving stp_of s true false got q u = answering stp_of s got q u (refusal setting.name stp_of s.records m) refl
+    receiving stp_of s true false got q u = serving stp_of s got q u (is_query m.body) refl
     receiving stp_of s true true got q u = nothing s
     receiving stp_of s false b got q u = nothing s
 

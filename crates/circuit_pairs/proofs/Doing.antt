@@ -1,7 +1,7 @@
 -- What a child does for a parent it was asked for, whatever entry it takes.
 use Rattle.std.proofs.Common.{ℕ, ◌≡◌, ◌<◌, ◌∙◌, ◌⊎◌, inl, inr, Bool, true, false, List, [], ◌∷◌, ◌++◌, length, Contains, Option, Some, None, option_map, ◌==◌, ◌&&◌, refl, sym, ap, subst, arith, eqb-true, true≢false, get_or-set_same, get_or-set_other, length-append}
 use Rattle.std.proofs.lemmas.Bool.{cases_eq}
-use Rattle.nsi_primitive.specs.Messages.{connection_of, is_request}
+use Rattle.nsi_primitive.specs.Messages.{connection_of, has_rows, is_request}
 use Rattle.nsi_primitive.specs.declared.entry.Input.{Input}
 use Rattle.nsi_primitive.specs.declared.message.Body.{Body}
 use Rattle.nsi_primitive.specs.declared.message.Criteria.{Criteria}
@@ -217,6 +217,13 @@ module _ (parent name : List ℕ) (asked : List Message) (d : Child) (was : IsAs
       other : (o : Option ℕ) (x : Exception) → Body.ReserveConfirmed f ≡ Body.Error o x → ⊥
       other o x e = cc
 
+  rows_confirm : (out : List Message) (m : Message) (b : Body) → has_rows b ≡ true → out ≡ record { header = m.header; body = b } ∷ [] → (c : ℕ) (f : ReserveConfirmation) → Contains (about (header_of parent name c) out) (Body.ReserveConfirmed f) → ⊥
+  rows_confirm out m b s e c f i =
+      let said : Message = record { header = m.header; body = b } in
+      let w = said_under (header_of parent name c) (Body.ReserveConfirmed f) out i in
+      let q : w.message ≡ said = only_one said w.message (subst (λ ms. Contains ms w.message) e w.there) in
+      true≢false (sym s ∙ sym (ap has_rows (sym w.body ∙ ap (λ (z : Message). z.body) q)))
+
   -- a row that takes a request, and then does something by itself
   module _ (side : Side) (now : ℕ) (m : Message) (mine : m.header.requester ≡ parent → Contains asked m) (to : m.header.provider ≡ name) (rows : List Record) (n : ℕ) (l : n < length rows) (records : List Record) (out : List Message) (t : IsTurn side name now m n rows records out)
       (owner : (record_at n rows).owner ≡ m.header.requester) (named : (id : ℕ) → m.body ≡ Body.Terminate id → (record_at n rows).id ≡ id)
@@ -328,6 +335,7 @@ module _ (parent name : List ℕ) (asked : List Message) (d : Child) (was : IsAs
       Serves name input d records seen out → IsAskedFor parent name asked (goes_on d records seen out)
   serving_asked input records seen out mine (Serves.acts e v) = subst (λ hs. IsAskedFor parent name asked (goes_on d records hs out)) (sym e) (courses_asked records out v)
   serving_asked input records seen out mine (Serves.leaves m w k r o) = subst (λ rs. IsAskedFor parent name asked (goes_on d rs seen out)) (sym r) (same_asked seen out (nothing_confirms out o))
+  serving_asked input records seen out mine (Serves.tells m b w q s r o) = subst (λ rs. IsAskedFor parent name asked (goes_on d rs seen out)) (sym r) (same_asked seen out (rows_confirm out m b s o))
   serving_asked input records seen out mine (Serves.refuses m error w v r o) = subst (λ rs. IsAskedFor parent name asked (goes_on d rs seen out)) (sym r) (same_asked seen out (error_confirms out m error o))
   serving_asked input records seen out mine (Serves.takes m n side now w a t) =
       turn_asked side now m (λ r. mine m w.got w.request r) a.provider d.records n a.within records out t a.owner (ends_here m n a) was.checks was.ended seen

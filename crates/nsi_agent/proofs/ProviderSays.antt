@@ -13,6 +13,7 @@ use Rattle.nsi_primitive.specs.declared.state.Psm.{Psm}
 use Rattle.nsi_primitive.specs.declared.state.Rsm.{Rsm}
 use Rattle.nsi_primitive.specs.declared.state.Side.{Side}
 use Rattle.nsi_primitive.specs.declared.message.Body.{Body}
+use Rattle.nsi_primitive.specs.declared.message.Header.{Header}
 use Rattle.nsi_primitive.specs.declared.message.Message.{Message}
 use Rattle.nsi_primitive.specs.declared.message.ReserveRequest.{ReserveRequest}
 use Rattle.message_retry.specs.Taken.{is_taken}
@@ -31,7 +32,9 @@ use Rattle.connection_record.specs.Moves.{event_of, reserves, reserves_if, hold_
 use Rattle.connection_record.specs.Replies.{addressed, plain}
 use Rattle.connection_record.specs.Applied.{reservation_closing, provision_closing, moves, moves_if, requested, schedule_end, status_of, tells}
 use Rattle.connection_record.proofs.Growing.{moves_if_later, tells_later}
-use Rattle.agent_state.specs.Entries.{error_reply}
+use Rattle.nsi_query.specs.Answers.{answer_to}
+use Rattle.nsi_query.proofs.Answering.{providers_tell_rows}
+use Rattle.agent_state.specs.Entries.{error_reply, query_reply}
 use Rattle.agent_state.specs.State.{State, Stepped, no_record, record_at}
 use Rattle.provider_agent.specs.declared.agent.Agent.{Agent}
 use Rattle.provider_agent.specs.Setting.{Setting}
@@ -39,6 +42,7 @@ use Rattle.provider_agent.specs.Steps.{step, receives, works, work_at, forces, f
 use Rattle.provider_agent.proofs.EachSays.{EachReply, EachMessage, nothing_said, one_said, closes_each, ticked_each, kept_each, ticks_each}
 use Rattle.provider_agent.proofs.GoodAfter.{waits_within, forcible_within}
 use Rattle.provider_agent.proofs.Growing.{ticked_later}
+use Rattle.provider_agent.proofs.Querying.{replied_by, reply_header, rows_ask_nothing}
 use Rattle.provider_agent.proofs.RequestCases.{seen_with, received_by}
 
 ---- No request
@@ -113,6 +117,12 @@ pub record IsSaying (name : List ℕ) (owed : List ℕ → Type 0) (x : Stepped)
   pub owners : All (IsOwed owed) x.state.records
   pub says : All (IsAnswer name owed) x.out
 
+-- what is said to a query is no request
+reply_asks_nothing : (setting : Setting) (s : State) (m : Message) → AsksNothing (query_reply setting.name m (answer_to setting.name s.now s.records m)).body
+reply_asks_nothing setting s m =
+    replied_by AsksNothing setting.name m (answer_to setting.name s.now s.records m) (λ error plain. refl)
+    (λ body e. rows_ask_nothing body (providers_tell_rows setting.name s.now s.records m body e))
+
 module _ (setting : Setting) (owed : List ℕ → Type 0) where
   kept_saying : (s : State) (n : ℕ) (o : Option Move) → n < length s.records → All (IsOwed owed) s.records → IsSaying setting.name owed (keeps setting s n (moves_if Side.Provider o s.now (record_at n s.records)))
   kept_saying s n o lt all =
@@ -138,6 +148,12 @@ module _ (setting : Setting) (owed : List ℕ → Type 0) where
   asked_saying stp_of s m all came = received_by setting stp_of s m (IsSaying setting.name owed) (record {
     ignored = none_saying s all s refl;
     unopened = none_saying s all (seen_with s m) refl;
+    told = λ q. record {
+      owners = all;
+      says = All-cons (IsAnswer setting.name owed) (query_reply setting.name m (answer_to setting.name s.now s.records m)) []
+          (reply_asks_nothing setting s m, subst (λ (h : Header). (h.provider ≡ setting.name) × owed h.requester) (sym (reply_header setting.name m (answer_to setting.name s.now s.records m))) came)
+          (All-nil (IsAnswer setting.name owed));
+    };
     refused = λ error r. record { owners = all; says = All-cons (IsAnswer setting.name owed) (error_reply setting.name m error) [] (refl, came) (All-nil (IsAnswer setting.name owed)) };
     opened = λ q points f are. kept_saying (with_new setting (seen_with s m) m q points) (length s.records) (requested m.body m.header.correlation (record_at (length s.records) (with_new setting (seen_with s m) m q points).records)) (more_within (seen_with s m) m q points)
         (All-append (IsOwed owed) s.records _ all (All-cons (IsOwed owed) _ [] came.1 (All-nil (IsOwed owed))));
@@ -230,6 +246,7 @@ received_answers : (setting : Setting) (stp_of : List ℕ → Option ℕ) (s : S
 received_answers setting stp_of s m = received_by setting stp_of s m Answers (record {
   ignored = nothing_said AsksNothing;
   unopened = nothing_said AsksNothing;
+  told = λ q. one_said AsksNothing (query_reply setting.name m (answer_to setting.name s.now s.records m)) (reply_asks_nothing setting s m);
   refused = λ error r. one_said AsksNothing (error_reply setting.name m error) refl;
   opened = λ q points e are. taken (with_new setting (seen_with s m) m q points) (length s.records);
   moved = λ n lt fine. taken (seen_with s m) n;

@@ -46,10 +46,10 @@ abbrev pub is_seen : Role → AgentState → Message → Bool
 is_seen (provides setting stp_of) s m = provider_saw s.base m
 is_seen _ s m = is_old m (retry_of s.base)
 
--- who is asked takes no queries yet
+-- an aggregator takes no queries yet
 abbrev pub takes_kind : Role → Body → Bool
-takes_kind (requests setting) body = true
-takes_kind _ body = not (is_query body)
+takes_kind (aggregates setting) body = not (is_query body)
+takes_kind _ body = true
 
 -- whether a message makes an entry: it comes for the first time, and is of a kind that the agent takes
 unfoldable pub is_new : Home → AgentState → Message → Bool

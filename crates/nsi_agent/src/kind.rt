@@ -105,14 +105,14 @@ impl Kind {
         }
     }
 
-    /// Whether it takes messages of that kind: who is asked takes no queries yet.
+    /// Whether it takes messages of that kind: an aggregator takes no queries yet.
     pub fn takes(&self, message: &Message) -> bool
         ensures { (route : ℕ → ℕ → Sequence LegValue) (t : Network) →
             result ≡ takes_kind (role_by t route self.now) message.now.body }
     {
         match self {
-            Kind::Requester(_) => true,
-            _ => !message.is_query(),
+            Kind::Aggregator(_) => !message.is_query(),
+            _ => true,
         }
     }
 

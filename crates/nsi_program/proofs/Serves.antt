@@ -51,31 +51,23 @@ ticked_timely s (Some second) = by_test (leb s.now second) refl
     by_test true e = record { own = refl; on_time = e; printable = tt }
     by_test false e = tt
 
-requested_timely : (s : State) (m : Message) → IsPrintable m → is_query m.body ≡ false → IsTimely s (requested m s)
-requested_timely s m p q = by_test (is_seen s m)
+requested_timely : (s : State) (m : Message) → IsPrintable m → IsTimely s (requested m s)
+requested_timely s m p = by_test (is_seen s m)
   where
     now_is : (n : ℕ) → eqb n n ≡ true
     now_is n = grind arith
 
     by_test : (b : Bool) → IsTimely s (cond b Received.Nothing (Received.Entry (record { second = s.now; input = Input.Got m })))
     by_test true = tt
-    by_test false = record { own = ap not q; on_time = now_is s.now; printable = p }
+    by_test false = record { own = refl; on_time = now_is s.now; printable = p }
 
-served_query : (body : Body) → unserved body ≡ None → is_query body ≡ false
-served_query body e = by_tests (is_request body) (is_query body) e
-  where
-    by_tests : (a b : Bool) → cond a (cond b (Some PayloadFault.Unbuilt) None) (Some (PayloadFault.Line (LineFault.Bad Key.Kind))) ≡ None → b ≡ false
-    by_tests true false h = refl
-    by_tests true true h = absurd (cc)
-    by_tests false b h = absurd (cc)
-
-message_timely : (s : State) (m : Message) (o : Option PayloadFault) → unserved m.body ≡ o → IsPrintable m → IsTimely s (received_unless o m s)
-message_timely s m (Some fault) e p = tt
-message_timely s m None e p = requested_timely s m p (served_query m.body e)
+message_timely : (s : State) (m : Message) (o : Option PayloadFault) → IsPrintable m → IsTimely s (received_unless o m s)
+message_timely s m (Some fault) p = tt
+message_timely s m None p = requested_timely s m p
 
 read_timely : (s : State) (line : List ℕ) (r : Result Parcel LineFault) → line_of line ≡ r → IsTimely s (read r s)
 read_timely s line (Err fault) e = tt
-read_timely s line (Ok (Parcel.Message m)) e = message_timely s m (unserved m.body) refl (line_printable line (Parcel.Message m) e)
+read_timely s line (Ok (Parcel.Message m)) e = message_timely s m (unserved m.body) (line_printable line (Parcel.Message m) e)
 read_timely s line (Ok (Parcel.Ack identity)) e = tt
 
 pub timely : (s : State) (line : List ℕ) → IsTimely s (received s line)

@@ -8,10 +8,8 @@ use Rattle.nsi_program.specs.declared.payload.PayloadFault.{PayloadFault}
 unfoldable pub payload_name : PayloadFault → List ℕ
 payload_name (PayloadFault.Line fault) = fault_name fault
 payload_name PayloadFault.Tick = codes "Tick"
-payload_name PayloadFault.Unbuilt = codes "Unbuilt"
 
 -- the key that a fault is about, where it is about one
 abbrev pub payload_key : PayloadFault → Option Key
 payload_key (PayloadFault.Line fault) = fault_key fault
 payload_key PayloadFault.Tick = None
-payload_key PayloadFault.Unbuilt = None

@@ -2,7 +2,7 @@
 use Rattle.std.specs.Prelude.{◌≡◌, ℕ, List, ◌==◌, nat_eq, nat_le, length, drop, codes, true, if◌then◌else◌, Option, Some, None, Result, Ok, Err}
 use Rattle.std.specs.List.{starts_with}
 use Rattle.nsi_base.specs.Digits.{number_of}
-use Rattle.nsi_primitive.specs.Messages.{is_request, is_query}
+use Rattle.nsi_primitive.specs.Messages.{is_request}
 use Rattle.nsi_primitive.specs.declared.entry.Entry.{Entry}
 use Rattle.nsi_primitive.specs.declared.entry.Input.{Input}
 use Rattle.nsi_primitive.specs.declared.message.Body.{Body}
@@ -22,11 +22,9 @@ use Rattle.nsi_program.specs.declared.receiving.Received.{Received}
 abbrev pub requested : Message → State → Received
 requested m s = if is_seen s m then Received.Nothing else Received.Entry (record { second = s.now; input = Input.Got m })
 
--- why a message isn't served: it is no request, or a query, which isn't built yet
+-- why a message isn't served: it is no request
 abbrev pub unserved : Body → Option PayloadFault
-unserved body =
-    if is_request body then (if is_query body then Some PayloadFault.Unbuilt else None)
-    else Some (PayloadFault.Line (LineFault.Bad Key.Kind))
+unserved body = if is_request body then None else Some (PayloadFault.Line (LineFault.Bad Key.Kind))
 
 abbrev pub received_unless : Option PayloadFault → Message → State → Received
 received_unless (Some fault) m s = Received.Fault fault

@@ -14,8 +14,6 @@ pub enum PayloadFault {
     Line(LineFault),
     /// It begins with `tick` and isn't `tick N` with a second N that isn't before now.
     Tick,
-    /// It is a request that isn't served yet.
-    Unbuilt,
 }
 
 impl PayloadFault {
@@ -29,7 +27,6 @@ impl PayloadFault {
         match self {
             PayloadFault::Line(fault) => fault.name(),
             PayloadFault::Tick => "Tick",
-            PayloadFault::Unbuilt => "Unbuilt",
         }
     }
 
@@ -39,7 +36,7 @@ impl PayloadFault {
     {
         match self {
             PayloadFault::Line(fault) => fault.key(),
-            PayloadFault::Tick | PayloadFault::Unbuilt => None,
+            PayloadFault::Tick => None,
         }
     }
 }

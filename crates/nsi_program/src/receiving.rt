@@ -1,7 +1,6 @@
 //! What a line behind the topology says.
 
-ghost use Rattle.std.specs.Prelude.{◌≡◌, false, IfOk};
-ghost use Rattle.nsi_primitive.specs.Messages.{is_query};
+ghost use Rattle.std.specs.Prelude.{◌≡◌, IfOk};
 ghost use Rattle.nsi_primitive.specs.Printable.{IsPrintable, IsPrintableParcel};
 ghost use Rattle.provider_agent.specs.State.{State};
 ghost use Rattle.nsi_program.specs.Receiving.{unserved, requested, message_received, parcel_received, second_in, ticked, received, IsTimely};
@@ -72,23 +71,19 @@ fn message_received(provider: &Provider, message: Message) -> Received
     }
 }
 
-/// Why a message isn't served: it is no request, or a query, which isn't built yet.
+/// Why a message isn't served: it is no request.
 fn unserved(message: &Message) -> Option<PayloadFault>
     ensures { result ≡ unserved message.now.body }
 {
     if !message.is_request() {
         return Some(PayloadFault::Line(LineFault::Bad(Key::Kind)));
     }
-    if message.is_query() {
-        return Some(PayloadFault::Unbuilt);
-    }
     None
 }
 
 /// A request, where it wasn't taken before.
 fn requested(provider: &Provider, message: Message) -> Received
-    requires printable { IsPrintable message }
-    requires served { is_query message.body ≡ false }
+    requires { IsPrintable message }
     ensures received { result ≡ requested message provider.now.state }
     ensures timely { IsTimely provider.now.state result }
 {

@@ -13,15 +13,11 @@ use provider_agent::Provider;
 use std::alloc::{AllocError, Global};
 use stp_topology::Topology;
 
-/// Whether an input is a provider's: asks are a requester's, and queries aren't built yet.
+/// Whether an input is a provider's: asks are a requester's.
 fn is_for_provider(input: &Input) -> bool
     ensures { result ≡ is_for_provider input.now }
 {
-    match input {
-        Input::Ask { .. } => false,
-        Input::Got(message) => !message.is_query(),
-        _ => true,
-    }
+    !matches!(input, Input::Ask { .. })
 }
 
 /// Whether an input may come at a second, where the clock stands at another.

@@ -1,5 +1,5 @@
 -- What is true of every answer to a query.
-use Rattle.std.proofs.Common.{◌≡◌, ℕ, List, map, filter, true, Option, Some, None, refl, subst, option_and_then, slice_get, arith}
+use Rattle.std.proofs.Common.{◌≡◌, ℕ, List, map, filter, true, Option, Some, None, refl, ap, ◌∙◌, subst, is_some, option_and_then, slice_get, arith}
 use Rattle.std.specs.List.{All}
 use Rattle.std.proofs.lemmas.List.Elements.{All-take, All-map, All-filter}
 use Rattle.std.proofs.lemmas.Option.{get_or_from_slice_get, slice_get_within}
@@ -12,7 +12,7 @@ use Rattle.connection_record.specs.declared.record.Record.{Record}
 use Rattle.connection_record.specs.Refusal.{place_of}
 use Rattle.nsi_query.specs.Answers.{answer_about, answer_by, shown_at, summary_answer}
 use Rattle.nsi_query.specs.Cut.{most_summaries}
-use Rattle.nsi_query.specs.Laws.{AnswersArePrintable, AnswersHaveRows, HasShortService, HasShortTexts, ProvidersArePrintable, ProvidersTellRows, QueriesAreAnswered, SummariesArePrintable}
+use Rattle.nsi_query.specs.Laws.{AnswersArePrintable, AnswersHaveRows, HasShortService, HasShortTexts, ProvidersAnswer, ProvidersArePrintable, ProvidersTellRows, QueriesAreAnswered, SummariesArePrintable}
 use Rattle.nsi_query.specs.Summary.{Shown, is_of, summary, summary_row}
 
 pub queries_are_answered : QueriesAreAnswered
@@ -59,6 +59,11 @@ module _ (agent : List ℕ) (now : ℕ) (records : List Record) (m : Message) (P
       → P (summary_answer (summary m.header.requester (map (shown_at now) records))) → (o : Option ℕ) (body : Body) → answer_by o agent now records m ≡ Some body → P body
   answered one all None body is = let same : summary_answer (summary m.header.requester (map (shown_at now) records)) ≡ body = cc in subst P same all
   answered one all (Some id) body is = about_placed one (place_of id m.header.requester records) body is
+
+pub providers_answer : ProvidersAnswer
+providers_answer agent now records m id r q names found =
+    ap (λ o. is_some (answer_by o agent now records m)) names ∙ ap (λ o. is_some (option_and_then (λ x. answer_about agent (shown_at now x) m.body) o)) found
+    ∙ queries_are_answered agent (shown_at now r) m.body ∙ q
 
 pub providers_tell_rows : ProvidersTellRows
 providers_tell_rows agent now records m body is =

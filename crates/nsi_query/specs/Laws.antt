@@ -1,11 +1,12 @@
 -- What is true of every answer to a query.
 use Rattle.std.specs.Prelude.{◌≡◌, ℕ, List, true, Some, is_some}
 use Rattle.std.specs.List.{All}
-use Rattle.nsi_primitive.specs.Messages.{has_rows, is_query}
+use Rattle.nsi_primitive.specs.Messages.{connection_of, has_rows, is_query}
 use Rattle.nsi_primitive.specs.Printable.{IsPrintableBody, IsShort}
 use Rattle.nsi_primitive.specs.declared.message.Body.{Body}
 use Rattle.nsi_primitive.specs.declared.message.Message.{Message}
 use Rattle.connection_record.specs.declared.record.Record.{Record}
+use Rattle.connection_record.specs.Refusal.{record_for}
 use Rattle.nsi_query.specs.Answers.{answer_about, answer_to, summary_answer}
 use Rattle.nsi_query.specs.Summary.{Shown, summary}
 
@@ -32,6 +33,12 @@ SummariesArePrintable = (owner : List ℕ) (all : List Shown) → All HasShortTe
 
 abbrev pub HasShortService : Record → Type 0
 HasShortService r = IsShort 256 r.service.description × IsShort 128 r.service.global
+
+-- a query about a connection of its requester is answered
+abbrev pub ProvidersAnswer : Type 0
+ProvidersAnswer =
+    (agent : List ℕ) (now : ℕ) (records : List Record) (m : Message) (id : ℕ) (r : Record) → is_query m.body ≡ true → connection_of m.body ≡ Some id →
+    record_for id m.header.requester records ≡ Some r → is_some (answer_to agent now records m) ≡ true
 
 -- what a provider answers is one of the four that have rows
 abbrev pub ProvidersTellRows : Type 0

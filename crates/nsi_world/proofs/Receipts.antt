@@ -57,7 +57,7 @@ said_printable homes given w fair a m h = All-contains IsPrintable (said homes w
 
 takes_plain : (role : Role) (body : Body) → is_query body ≡ false → takes_kind role body ≡ true
 takes_plain (requests setting) body e = refl
-takes_plain (provides setting stp_of) body e = ap not e
+takes_plain (provides setting stp_of) body e = refl
 takes_plain (aggregates setting) body e = ap not e
 
 pub said_taken : (homes : Homes) → Given homes → (w : World) → IsFair homes w → (a : ℕ) (role : Role) (m : Message) → IsSaidBy homes w a m → takes_kind role m.body ≡ true

@@ -32,9 +32,9 @@ impl Core {
     /// What there is to answer to a query: nothing where its requester has no such connection.
     fn answer_to(&self, alloc: Global, message: &Message) -> Result<Option<Body>, AllocError>
         requires { IsReady self.now }
-        ensures { let agent = self.now.agent.name in
-            let records = self.now.records.items in
-            IfOk result (λ answer. answer ≡ answer_to agent self.now.now records message.now) }
+        ensures { let d = self.entry.now in
+            let records = d.records.items in
+            IfOk result (λ answer. answer ≡ answer_to d.agent.name d.now records message.now) }
     {
         let owner = &message.header.requester;
         let Some(id) = message.body.connection() else {

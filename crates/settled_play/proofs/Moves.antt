@@ -163,7 +163,7 @@ move_twice t routes a js hs hu hv s u v p q = record { journal = q.journal; step
 
 takes_plain : (role : Role) (body : Body) → is_query body ≡ false → takes_kind role body ≡ true
 takes_plain (requests setting) body e = refl
-takes_plain (provides setting stp_of) body e = ap not e
+takes_plain (provides setting stp_of) body e = refl
 takes_plain (aggregates setting) body e = ap not e
 
 -- the message was got, and its acknowledgement is queued
