@@ -33,6 +33,13 @@ ANSWERED_BY = {
     "release": ("releaseConfirmed", "error"),
     "terminate": ("terminateConfirmed", "error"),
 }
+# What a record counts as its outcomes.
+OUTCOMES = (
+    "reserveConfirmed", "reserveFailed", "reserveCommitConfirmed", "reserveCommitFailed", "reserveAbortConfirmed",
+    "provisionConfirmed", "releaseConfirmed", "terminateConfirmed",
+)
+# How many rows an answer has at most.
+MOST_SUMMARIES, MOST_NUMBERED = 16, 32
 TOLD = ("reserveTimeout", "errorEvent", "dataPlaneStateChange", "messageDeliveryTimeout")
 
 # State, event, next state, message.
@@ -246,8 +253,7 @@ class Server(Agent):
         record = self.record_of(request)
         error = self.refusal(request, record)
         if error is not None:
-            keys = {"connectionId": request.get("connectionId"), "errorId": error, "nsaId": self.name}
-            self.caused.append(message("error", *self.header(request), **keys))
+            self.refuse(request, error)
             return
         before = self.status(record) if record else IDLE
         record = record or self.new_record(request)
@@ -261,6 +267,10 @@ class Server(Agent):
         self.move(record, machine, event)
         self.hand_on(record, request["kind"])
         self.announce(record, before)
+
+    def refuse(self, request, error):
+        keys = {"connectionId": request.get("connectionId"), "errorId": error, "nsaId": self.name}
+        self.caused.append(message("error", *self.header(request), **keys))
 
     def header(self, request):
         return request["correlationId"], request["requesterNSA"], request["providerNSA"]
@@ -279,7 +289,8 @@ class Server(Agent):
             "attempt": None,
             "deadline": None,
             "mixed": False,
-            "notices": 0,
+            "told": [],
+            "outcomes": [],
             "Reserve": "ReserveStart",
             "Provision": "Released",
             "Lifecycle": "Created",
@@ -307,13 +318,17 @@ class Server(Agent):
 
     def send(self, record, kind, correlation, /, **keys):
         """Sends a message on a record to its owner."""
+        if kind in OUTCOMES:
+            outcome = {"correlationId": correlation, "kind": kind, "timeStamp": self.now}
+            record["outcomes"].append({**outcome, "resultId": len(record["outcomes"]) + 1})
         self.caused.append(message(kind, correlation, record["owner"], self.name, connectionId=record["id"], **keys))
 
     def tell(self, record, kind, /, **keys):
         """Sends a notification, with its number."""
-        record["notices"] += 1
         correlation = record["attempt"] if kind == "reserveTimeout" else self.draw()
-        self.send(record, kind, correlation, notificationId=record["notices"], timeStamp=self.now, **keys)
+        stamp = {"notificationId": len(record["told"]) + 1, "timeStamp": self.now}
+        record["told"].append({"correlationId": correlation, "kind": kind, **stamp})
+        self.send(record, kind, correlation, **stamp, **keys)
 
     def announce(self, record, before):
         """Tells a change of the data plane since then."""
@@ -349,8 +364,60 @@ class Provider(Server):
         self.points = points
 
     def take(self, of):
-        if of["kind"] in REQUESTS:
+        if of["kind"] in QUERIES:
+            self.take_query(of)
+        elif of["kind"] in REQUESTS:
             self.take_request(of)
+
+    def take_query(self, query):
+        """Answers a query from what is there, which stays as it is."""
+        record = self.record_of(query)
+        if query["providerNSA"] != self.name:
+            self.refuse(query, "WRONG_PROVIDER")
+        elif "connectionId" in query and record is None:
+            self.refuse(query, "NONEXISTENT")
+        else:
+            answer = getattr(self, query["kind"])(query, record)
+            self.caused.append(message(query["kind"] + "Confirmed", *self.header(query), **answer))
+
+    def querySummary(self, query, record):
+        of = [record] if record else [own for own in self.records if own["owner"] == query["requesterNSA"]]
+        return {"more": len(of) > MOST_SUMMARIES, "reservations": [self.summary(own) for own in of[:MOST_SUMMARIES]]}
+
+    def summary(self, record):
+        last = record["committed"][-1] if record["committed"] else {}
+        row = {
+            **self.states(record),
+            "active": self.status(record)["active"],
+            "sourceSTP": record["source"],
+            "destSTP": record["dest"],
+            "directionality": record["directionality"],
+            "globalReservationId": record["texts"]["globalReservationId"],
+            "description": record["texts"]["description"],
+            **{key: last.get(key) for key in ("capacity", "startTime", "endTime", "version")},
+        }
+        return {key: value for key, value in row.items() if value is not None}
+
+    def states(self, record):
+        states = {"reservationState": "Reserve", "provisionState": "Provision", "lifecycleState": "Lifecycle"}
+        return {"connectionId": record["id"], **{key: record[machine] for key, machine in states.items()}}
+
+    def queryRecursive(self, _query, record):
+        version = {"version": record["committed"][-1]["version"]} if record["committed"] else {}
+        row = {**self.states(record), "depth": 0, "providerNSA": self.name, **version}
+        return {"connectionId": record["id"], "more": False, "reservations": [row]}
+
+    def queryNotification(self, query, record):
+        return self.numbered(query, record, "notifications", "told", "otificationId", "startN", "endN")
+
+    def queryResult(self, query, record):
+        return self.numbered(query, record, "results", "outcomes", "esultId", "startR", "endR")
+
+    def numbered(self, query, record, name, kept, key, start, end):
+        first, last = query.get(start + key, 1), query.get(end + key, 2**64 - 1)
+        number = start[-1].lower() + key
+        within = [row for row in record[kept] if first <= row[number] <= last]
+        return {"connectionId": record["id"], "more": len(within) > MOST_NUMBERED, name: within[:MOST_NUMBERED]}
 
     def is_seen(self, of):
         """What is no request is never counted as seen here."""

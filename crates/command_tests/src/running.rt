@@ -15,6 +15,7 @@ mod paths;
 mod plain_provider;
 mod playing;
 mod provisioning;
+mod queries;
 mod rows;
 mod summary;
 mod terminating;

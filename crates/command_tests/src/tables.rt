@@ -9,5 +9,6 @@ pub(crate) mod modifications;
 pub(crate) mod plain_provider;
 pub(crate) mod playing;
 pub(crate) mod provisioning;
+pub(crate) mod queries;
 pub(crate) mod rows;
 pub(crate) mod terminating;

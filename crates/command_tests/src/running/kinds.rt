@@ -1,7 +1,7 @@
 //! Lines of every kind: what isn't a request, acknowledgements, queries, and keys that are wanting.
 
 use super::is_answered;
-use crate::tables::kinds::{ANSWERS, BETWEEN, QUERIES};
+use crate::tables::kinds::{ANSWERS, BETWEEN, WANTING};
 use std::test::Fail;
 
 #[test]
@@ -79,8 +79,8 @@ fn acknowledgements_write_nothing(rt: HostRuntime) -> Result<(), Fail> {
 }
 
 #[test]
-fn queries_are_unbuilt(rt: HostRuntime) -> Result<(), Fail> {
-    for (what, lines, written) in &QUERIES {
+fn keys_are_wanting(rt: HostRuntime) -> Result<(), Fail> {
+    for (what, lines, written) in &WANTING {
         let is_right = is_answered(&rt, rt.alloc(), lines, written)?;
         assert!(rt; is_right, "{what}");
     }
@@ -88,7 +88,7 @@ fn queries_are_unbuilt(rt: HostRuntime) -> Result<(), Fail> {
 }
 
 #[test]
-fn they_change_nothing(rt: HostRuntime) -> Result<(), Fail> {
+fn they_move_nothing(rt: HostRuntime) -> Result<(), Fail> {
     for (what, lines, written) in &BETWEEN {
         let is_right = is_answered(&rt, rt.alloc(), lines, written)?;
         assert!(rt; is_right, "{what}");

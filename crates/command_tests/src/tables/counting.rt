@@ -101,7 +101,7 @@ fault long
 ];
 
 /// The same of ends, and of what is no event.
-pub(crate) const ENDS: [(&str, &str, &str, u8, &str); 5] = [
+pub(crate) const ENDS: [(&str, &str, &str, u8, &str); 7] = [
     (
         "A terminate is three events.",
         "12",
@@ -169,20 +169,45 @@ tick 200
 "#,
     ),
     (
-        "Acknowledgements, queries and what isn't a request are no events.",
+        "Acknowledgements and what isn't a request are no events.",
         "3",
         r#"{"kind":"reserve","correlationId":"R#1","requesterNSA":"r1","providerNSA":"p1","capacity":600,"startTime":0,"endTime":200,"sourceSTP":"A","destSTP":"B"}
 {"kind":"ack","correlationId":"R#9","requesterNSA":"r1","providerNSA":"p1","of":"reserve"}
-{"kind":"querySummary","correlationId":"R#9","requesterNSA":"r1","providerNSA":"p1"}
 {"kind":"provisionConfirmed","correlationId":"R#9","requesterNSA":"r1","providerNSA":"p1","connectionId":"P#1"}
 {"kind":"provision","correlationId":"R#9","requesterNSA":"r1","providerNSA":"p1"}
 "#,
         0,
         r#"{"connectionId":"P#1","correlationId":"R#1","kind":"reserveResponse","providerNSA":"p1","requesterNSA":"r1"}
 {"capacity":600,"connectionId":"P#1","correlationId":"R#1","destSTP":"B","directionality":"Bidirectional","endTime":200,"kind":"reserveConfirmed","providerNSA":"p1","requesterNSA":"r1","sourceSTP":"A","startTime":0,"version":0}
-{"errorId":"PAYLOAD","fault":"Unbuilt","kind":"error","line":8}
-{"errorId":"PAYLOAD","fault":"Bad","key":"kind","kind":"error","line":9}
-{"errorId":"PAYLOAD","fault":"Missing","key":"connectionId","kind":"error","line":10}
+{"errorId":"PAYLOAD","fault":"Bad","key":"kind","kind":"error","line":8}
+{"errorId":"PAYLOAD","fault":"Missing","key":"connectionId","kind":"error","line":9}
+"#,
+    ),
+    (
+        "A query is two events, and none where it comes again.",
+        "5",
+        r#"{"kind":"reserve","correlationId":"R#1","requesterNSA":"r1","providerNSA":"p1","capacity":600,"startTime":0,"endTime":200,"sourceSTP":"A","destSTP":"B"}
+{"kind":"querySummary","correlationId":"R#2","requesterNSA":"r1","providerNSA":"p1"}
+{"kind":"querySummary","correlationId":"R#2","requesterNSA":"r1","providerNSA":"p1"}
+"#,
+        0,
+        r#"{"connectionId":"P#1","correlationId":"R#1","kind":"reserveResponse","providerNSA":"p1","requesterNSA":"r1"}
+{"capacity":600,"connectionId":"P#1","correlationId":"R#1","destSTP":"B","directionality":"Bidirectional","endTime":200,"kind":"reserveConfirmed","providerNSA":"p1","requesterNSA":"r1","sourceSTP":"A","startTime":0,"version":0}
+{"correlationId":"R#2","kind":"querySummaryConfirmed","more":false,"providerNSA":"p1","requesterNSA":"r1","reservations":[{"active":false,"connectionId":"P#1","destSTP":"B","directionality":"Bidirectional","lifecycleState":"Created","provisionState":"Released","reservationState":"ReserveHeld","sourceSTP":"A"}]}
+"#,
+    ),
+    (
+        "So a second one may be too many.",
+        "6",
+        r#"{"kind":"reserve","correlationId":"R#1","requesterNSA":"r1","providerNSA":"p1","capacity":600,"startTime":0,"endTime":200,"sourceSTP":"A","destSTP":"B"}
+{"kind":"querySummary","correlationId":"R#2","requesterNSA":"r1","providerNSA":"p1"}
+{"kind":"queryResult","correlationId":"R#3","requesterNSA":"r1","providerNSA":"p1","connectionId":"P#1"}
+"#,
+        8,
+        r#"{"connectionId":"P#1","correlationId":"R#1","kind":"reserveResponse","providerNSA":"p1","requesterNSA":"r1"}
+{"capacity":600,"connectionId":"P#1","correlationId":"R#1","destSTP":"B","directionality":"Bidirectional","endTime":200,"kind":"reserveConfirmed","providerNSA":"p1","requesterNSA":"r1","sourceSTP":"A","startTime":0,"version":0}
+{"correlationId":"R#2","kind":"querySummaryConfirmed","more":false,"providerNSA":"p1","requesterNSA":"r1","reservations":[{"active":false,"connectionId":"P#1","destSTP":"B","directionality":"Bidirectional","lifecycleState":"Created","provisionState":"Released","reservationState":"ReserveHeld","sourceSTP":"A"}]}
+fault long
 "#,
     ),
 ];
