@@ -18,6 +18,11 @@ is_on_time _ second now = second == now
 abbrev pub most_entries : ℕ
 most_entries = 4194304
 
+-- a query about a connection and all that is below it
+abbrev pub is_recursive : Body → Bool
+is_recursive (Body.QueryRecursive id) = true
+is_recursive _ = false
+
 -- a refused request is answered by an error under its own header
 abbrev pub error_reply : List ℕ → Message → ErrorName → Message
 error_reply agent m error = record { header = m.header; body = Body.Error (connection_of m.body) (plain agent error) }
