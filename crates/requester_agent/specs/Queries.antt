@@ -1,5 +1,5 @@
 -- The queries of a requester.
-use Rattle.std.specs.Prelude.{ℕ, List, Option, Some, None, option_and_then}
+use Rattle.std.specs.Prelude.{ℕ, Option, Some, None, option_and_then}
 use Rattle.nsi_primitive.specs.declared.ask.NumbersAsked.{NumbersAsked}
 use Rattle.nsi_primitive.specs.declared.ask.What.{What}
 use Rattle.nsi_primitive.specs.declared.message.Body.{Body}
