@@ -21,12 +21,13 @@ use Rattle.child_connection.specs.Hearing.{hear}
 use Rattle.child_connection.specs.Laws.{IsSamePlace, AsksKeepThePlace, MessagesKeepThePlace, AsksArePrintable, FirstIsPrintable, ModificationIsPrintable}
 use Rattle.agent_state.specs.declared.parent.View.{View}
 use Rattle.agent_state.specs.State.{AgentState, AgentStepped, stays, counts_agent}
-use Rattle.requester_agent.specs.Queries.{query_about, connection_known, query_for, query_under}
+use Rattle.requester_agent.specs.Queries.{query_for, query_under}
 use Rattle.requester_agent.specs.Setting.{Setting}
 use Rattle.requester_agent.specs.Views.{Asked, asks_if_free, asks_if_known, asks_about, asks_reserve, service_between, service_if, reserve_of}
 use Rattle.agent_state.specs.Entries.{retry_of}
 use Rattle.requester_agent.specs.Steps.{find_view, view_at, next_id, answers, refuses, asks_at, asks_new, asks_found, reserves, sends_query, asked_of, asked, view_hears, hears_if, acked, ticks, step}
 use Rattle.requester_agent.specs.Good.{IsApart, IsGood}
+use Rattle.requester_agent.proofs.Queries.{query_is}
 
 -- the laws of views that it rests on
 pub record AreLaws : Type 0 where
@@ -71,18 +72,6 @@ found-there label vs found = by-place (position (λ v. bytes_eq label v.label) v
 
 found-apart : (vs : List View) (n : ℕ) (v : View) → slice_get vs n ≡ Some v → All IsApart vs → IsApart v
 found-apart vs n v e all = subst IsApart (get_or_from_slice_get vs n v v e) (All-get_or IsApart vs n v (slice_get_within vs n v e) all)
-
----- Queries
-
-about-prints : (what : What) (id : ℕ) → IfSome (query_about what id) IsPrintableBody
-unfolding query_about
-about-prints (What.Notifications numbers) id = tt
-about-prints (What.Results numbers) id = tt
-about-prints _ id = tt
-
-for-prints : (what : What) (known : Option ℕ) → IfSome (option_and_then (query_about what) known) IsPrintableBody
-for-prints what None = tt
-for-prints what (Some id) = about-prints what id
 
 module _ (laws : AreLaws) where
   ---- Asks of a view
@@ -152,7 +141,7 @@ module _ (laws : AreLaws) where
     sends-mild (Some body) p = record { taken = refl; drawn = omega arith; apart = good; prints = All-cons IsPrintable (query_under set (next_id set s) body) [] p (All-nil IsPrintable) }
 
     query-mild : (what : What) (found : Option (ℕ × View)) → IsMild s (sends_query (query_for what found) set s)
-    query-mild what found = sends-mild (query_for what found) (for-prints what (connection_known found))
+    query-mild what found = sends-mild (query_for what found) (query_is IsPrintableBody (record { summary = λ connection. tt; notifications = λ range. tt; results = λ range. tt; recursive = λ connection. tt }) what found)
 
     of-mild : (what : What) (label : List ℕ) → ArePointsApart what → IsMild s (asked_of what label (find_view label s.views) set s)
     unfolding asked_of
@@ -162,19 +151,12 @@ module _ (laws : AreLaws) where
     of-mild What.Provision label e = found-mild (find_view label s.views) Kind.Provision (found-there label s.views)
     of-mild What.Release label e = found-mild (find_view label s.views) Kind.Release (found-there label s.views)
     of-mild What.Terminate label e = found-mild (find_view label s.views) Kind.Terminate (found-there label s.views)
-    of-mild What.Summary label e = query-mild What.Summary (find_view label s.views)
-    of-mild (What.Notifications numbers) label e = query-mild (What.Notifications numbers) (find_view label s.views)
-    of-mild (What.Results numbers) label e = query-mild (What.Results numbers) (find_view label s.views)
-    of-mild What.Recursive label e = query-mild What.Recursive (find_view label s.views)
-
-    none-mild : (what : What) → IsMild s (asked None what set s)
-    unfolding asked
-    none-mild What.Summary = sends-mild (Some (Body.QuerySummary None)) tt
-    none-mild _ = refuses-mild
+    of-mild what label e = query-mild what (find_view label s.views)
 
     asked-mild : (label : Option (List ℕ)) (what : What) → ArePointsApart what → IsMild s (asked label what set s)
     unfolding asked
-    asked-mild None what e = none-mild what
+    asked-mild None What.Summary e = sends-mild (Some (Body.QuerySummary None)) tt
+    asked-mild None what e = refuses-mild
     asked-mild (Some label) what e = of-mild what label e
 
     ---- Messages
