@@ -15,9 +15,10 @@ use Rattle.child_connection.specs.Asks.{request_about}
 use Rattle.agent_state.specs.declared.parent.View.{View}
 use Rattle.agent_state.specs.Entries.{retry_of}
 use Rattle.agent_state.specs.State.{AgentState, AgentStepped}
+use Rattle.requester_agent.specs.Queries.{query_for}
 use Rattle.requester_agent.specs.Setting.{Setting}
 use Rattle.requester_agent.specs.Views.{Asked, asks_if_free, asks_if_known, asks_about, asks_reserve, reserve_of}
-use Rattle.requester_agent.specs.Steps.{next_id, find_view, answers, asks_at, asks_new, asks_found, reserves, asked_of, asked, view_hears, hears_if, acked, ticks, step, may_take, after_if, after}
+use Rattle.requester_agent.specs.Steps.{next_id, find_view, answers, asks_at, asks_new, asks_found, reserves, sends_query, asked_of, asked, view_hears, hears_if, acked, ticks, step, may_take, after_if, after}
 use Rattle.requester_agent.proofs.Mild.{found-there}
 use Rattle.agent_growth.specs.Growth.{Stay, IsLaterView, IsLaterOfLabel, HasGrown}
 use Rattle.agent_growth.proofs.Staying.{stay_set, stay_push, stay_map}
@@ -81,6 +82,11 @@ reserves_views None q label set s h = new_views label (asks_reserve set.name (ne
 reserves_views (Some found) q label set s h =
     at_views found (asks_reserve set.name (next_id set s) q found.1.child) s (h found refl) (reserve_later set.name (next_id set s) q found.1.child)
 
+sends_views : (query : Option Body) (set : Setting) (s : AgentState) → IsOfViews s (sends_query query set s)
+unfolding sends_query
+sends_views None set s = same_views s _ refl refl refl
+sends_views (Some body) set s = same_views s _ refl refl refl
+
 of_views : (what : What) (label : List ℕ) (set : Setting) (s : AgentState) → IsOfViews s (asked_of what label (find_view label s.views) set s)
 unfolding asked_of
 of_views (What.Reserve q) label set s = reserves_views (find_view label s.views) q label set s (found-there label s.views)
@@ -89,10 +95,11 @@ of_views What.Abort label set s = found_views (find_view label s.views) Kind.Res
 of_views What.Provision label set s = found_views (find_view label s.views) Kind.Provision set s (found-there label s.views)
 of_views What.Release label set s = found_views (find_view label s.views) Kind.Release set s (found-there label s.views)
 of_views What.Terminate label set s = found_views (find_view label s.views) Kind.Terminate set s (found-there label s.views)
-of_views _ label set s = same_views s _ refl refl refl
+of_views what label set s = sends_views (query_for what (find_view label s.views)) set s
 
 asked_views : (label : Option (List ℕ)) (what : What) (set : Setting) (s : AgentState) → IsOfViews s (asked label what set s)
 unfolding asked
+asked_views None What.Summary set s = sends_views (Some (Body.QuerySummary None)) set s
 asked_views None what set s = same_views s _ refl refl refl
 asked_views (Some label) what set s = of_views what label set s
 

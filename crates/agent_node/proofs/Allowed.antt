@@ -11,7 +11,7 @@ use Rattle.stp_topology.specs.Network.{kind_of}
 use Rattle.agent_state.specs.State.{AgentState}
 use Rattle.agent_state.specs.Entries.{most_entries, is_on_time}
 use Rattle.requester_agent.specs.Setting.{IsRequester}
-use Rattle.requester_agent.specs.Steps.{is_query_ask}
+use Rattle.requester_agent.specs.Steps.{is_recursive_ask}
 use Rattle.nsi_primitive.specs.declared.state.Machine.{Machine}
 use Rattle.nsi_agent.specs.Homes.{Routes, home_in, role_in}
 use Rattle.nsi_agent.specs.Steps.{may_take, takes_kind, is_seen, is_new}
@@ -64,7 +64,7 @@ acked_for (Some (AgentKind.Requester provider)) i = refl
 acked_for (Some AgentKind.Aggregator) i = refl
 acked_for None i = refl
 
-pub ask_for : (t : Network) (a n : ℕ) (ask : Ask) → IsRequester t a → is_query_ask ask.what ≡ false → is_for (kind_of t a) (Input.Ask n ask) ≡ true
+pub ask_for : (t : Network) (a n : ℕ) (ask : Ask) → IsRequester t a → is_recursive_ask ask.what ≡ false → is_for (kind_of t a) (Input.Ask n ask) ≡ true
 ask_for t a n ask r e = subst (λ o. is_for o (Input.Ask n ask) ≡ true) (sym r.1) (ap not e)
 
 got_as : (o : Option AgentKind) (t : Network) (routes : Routes) (a : ℕ) (m : Message) → takes_kind (role_in o t routes a) m.body ≡ true → is_for o (Input.Got m) ≡ true

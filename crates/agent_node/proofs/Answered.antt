@@ -21,8 +21,9 @@ use Rattle.agent_state.specs.State.{AgentState, AgentStepped, stays}
 use Rattle.agent_state.specs.declared.parent.View.{View}
 use Rattle.aggregator_agent.specs.Setting.{Setting as AggregatorSetting, setting_of as aggregator_of, agent_in}
 use Rattle.aggregator_agent.specs.Steps.{request_at, opens_between, opens, request_to, accepts, answers as aggregator_answers, hears, receives, sees, is_seen, ticks as aggregator_ticks, step as aggregator_step, after as aggregator_after, after_if as aggregator_if, may_take as aggregator_may, is_for_aggregator}
+use Rattle.requester_agent.specs.Queries.{query_for}
 use Rattle.requester_agent.specs.Setting.{Setting as RequesterSetting, setting_of as requester_of}
-use Rattle.requester_agent.specs.Steps.{find_view, asks_at, asks_new, asks_found, reserves, asked_of, asked, is_query_ask, hears_if, ticks as requester_ticks, acked, answers as requester_answers, step as requester_step, after as requester_after, after_if as requester_if, may_take as requester_may, is_for_requester}
+use Rattle.requester_agent.specs.Steps.{find_view, asks_at, asks_new, asks_found, reserves, sends_query, asked_of, asked, hears_if, ticks as requester_ticks, acked, answers as requester_answers, step as requester_step, after as requester_after, after_if as requester_if, may_take as requester_may}
 use Rattle.provider_agent.specs.Steps.{is_for_provider}
 use Rattle.nsi_agent.specs.Homes.{Routes, home_in, role_in}
 use Rattle.nsi_agent.specs.Steps.{after, after_as, may_take}
@@ -108,7 +109,7 @@ aggregator_none : (setting : AggregatorSetting) (s : AgentState) (e : Entry) →
 unfolding aggregator_after
 aggregator_none setting s e = after_if_none (aggregator_may s e) setting s e
 
----- A requester answers each ask that isn't a query
+---- A requester answers each ask
 
 abbrev IsAnswered : AgentStepped → Type 0
 IsAnswered x = IsSome x.answer
@@ -123,23 +124,26 @@ unfolding reserves asks_new asks_at requester_answers
 reserves_some None q label set s = refl
 reserves_some (Some found) q label set s = refl
 
-asked_of_some : (what : What) (label : List ℕ) (o : Option (ℕ × View)) (set : RequesterSetting) (s : AgentState) → is_query_ask what ≡ false → IsAnswered (asked_of what label o set s)
-unfolding asked_of
-asked_of_some (What.Reserve q) label o set s e = reserves_some o q label set s
-asked_of_some What.Commit label o set s e = found_some o Kind.ReserveCommit set s
-asked_of_some What.Abort label o set s e = found_some o Kind.ReserveAbort set s
-asked_of_some What.Provision label o set s e = found_some o Kind.Provision set s
-asked_of_some What.Release label o set s e = found_some o Kind.Release set s
-asked_of_some What.Terminate label o set s e = found_some o Kind.Terminate set s
-asked_of_some What.Summary label o set s e = absurd (cc)
-asked_of_some (What.Notifications range) label o set s e = absurd (cc)
-asked_of_some (What.Results range) label o set s e = absurd (cc)
-asked_of_some What.Recursive label o set s e = absurd (cc)
+sends_some : (query : Option Body) (set : RequesterSetting) (s : AgentState) → IsAnswered (sends_query query set s)
+unfolding sends_query
+sends_some None set s = refl
+sends_some (Some body) set s = refl
 
-asked_some : (label : Option (List ℕ)) (what : What) (set : RequesterSetting) (s : AgentState) → is_query_ask what ≡ false → IsAnswered (asked label what set s)
+asked_of_some : (what : What) (label : List ℕ) (o : Option (ℕ × View)) (set : RequesterSetting) (s : AgentState) → IsAnswered (asked_of what label o set s)
+unfolding asked_of
+asked_of_some (What.Reserve q) label o set s = reserves_some o q label set s
+asked_of_some What.Commit label o set s = found_some o Kind.ReserveCommit set s
+asked_of_some What.Abort label o set s = found_some o Kind.ReserveAbort set s
+asked_of_some What.Provision label o set s = found_some o Kind.Provision set s
+asked_of_some What.Release label o set s = found_some o Kind.Release set s
+asked_of_some What.Terminate label o set s = found_some o Kind.Terminate set s
+asked_of_some what label o set s = sends_some (query_for what o) set s
+
+asked_some : (label : Option (List ℕ)) (what : What) (set : RequesterSetting) (s : AgentState) → IsAnswered (asked label what set s)
 unfolding asked
-asked_some None what set s e = refl
-asked_some (Some label) what set s e = asked_of_some what label (find_view label s.views) set s e
+asked_some None What.Summary set s = sends_some (Some (Body.QuerySummary None)) set s
+asked_some None what set s = refl
+asked_some (Some label) what set s = asked_of_some what label (find_view label s.views) set s
 
 hears_none : (b : Bool) (m : Message) (s : AgentState) → Unanswered (hears_if b m s)
 unfolding hears_if
@@ -163,22 +167,18 @@ second_of : (a b : Bool) → (a && b) ≡ true → b ≡ true
 second_of true b e = e
 second_of false b e = never e
 
-not_true : (b : Bool) → not b ≡ true → b ≡ false
-not_true true e = never e
-not_true false e = refl
-
-requester_answered : (i : Input) (second : ℕ) (set : RequesterSetting) (s : AgentState) → is_for_requester i ≡ true → IsAnsweredAs i (requester_step i second set s)
+requester_answered : (i : Input) (second : ℕ) (set : RequesterSetting) (s : AgentState) → IsAnsweredAs i (requester_step i second set s)
 unfolding requester_step requester_ticks acked
-requester_answered (Input.Ask n ask) second set s e = ((λ h. asked_some ask.label ask.what set s (not_true (is_query_ask ask.what) e)), (λ h. refl))
-requester_answered (Input.Got m) second set s e = no_ask (hears_if (is_old m (retry_of s.base)) m s) (hears_none (is_old m (retry_of s.base)) m s)
-requester_answered (Input.Work n machine) second set s e = no_ask (stays s) refl
-requester_answered Input.Tick second set s e = no_ask (requester_ticks second s) refl
-requester_answered (Input.Force n) second set s e = no_ask (stays s) refl
-requester_answered (Input.Acked i) second set s e = no_ask (acked i s) refl
+requester_answered (Input.Ask n ask) second set s = ((λ h. asked_some ask.label ask.what set s), (λ h. refl))
+requester_answered (Input.Got m) second set s = no_ask (hears_if (is_old m (retry_of s.base)) m s) (hears_none (is_old m (retry_of s.base)) m s)
+requester_answered (Input.Work n machine) second set s = no_ask (stays s) refl
+requester_answered Input.Tick second set s = no_ask (requester_ticks second s) refl
+requester_answered (Input.Force n) second set s = no_ask (stays s) refl
+requester_answered (Input.Acked i) second set s = no_ask (acked i s) refl
 
-requester_if_answered : (b : Bool) (set : RequesterSetting) (s : AgentState) (e : Entry) → b ≡ true → is_for_requester e.input ≡ true → IsAnsweredAs e.input (requester_if b set s e)
-requester_if_answered true set s e h f = requester_answered e.input e.second set s f
-requester_if_answered false set s e h f = never h
+requester_if_answered : (b : Bool) (set : RequesterSetting) (s : AgentState) (e : Entry) → b ≡ true → IsAnsweredAs e.input (requester_if b set s e)
+requester_if_answered true set s e h = requester_answered e.input e.second set s
+requester_if_answered false set s e h = never h
 
 -- whoever takes no asks answers none
 others_answered : (i : Input) (x : AgentStepped) → is_ask i ≡ false → Unanswered x → IsAnsweredAs i x
@@ -208,7 +208,7 @@ as_kind : (o : Option AgentKind) (t : Network) (routes : Routes) (a : ℕ) (s : 
 unfolding after_as requester_after
 as_kind (Some (AgentKind.Provider hold)) t routes a s e h =
     others_answered e.input (after_as (role_in (Some (AgentKind.Provider hold)) t routes a) s e) (no_provider_ask e.input (input_of _ _ _ h)) refl
-as_kind (Some (AgentKind.Requester provider)) t routes a s e h = requester_if_answered (requester_may s e) (requester_of t a) s e h (input_of _ _ _ h)
+as_kind (Some (AgentKind.Requester provider)) t routes a s e h = requester_if_answered (requester_may s e) (requester_of t a) s e h
 as_kind (Some AgentKind.Aggregator) t routes a s e h =
     others_answered e.input (aggregator_after (aggregator_of t (agent_in t a) (routes a)) s e) (no_aggregator_ask e.input (input_of _ _ _ h)) (aggregator_none (aggregator_of t (agent_in t a) (routes a)) s e)
 as_kind None t routes a s e h =

@@ -56,6 +56,11 @@ answer_reserves p c m rest e = by (is_reservation (kind_of m.body)) refl
     by false q = omega arith
     by true q = absurd (let r : is_request_kind (kind_of m.body) ≡ true = reserving_asks (kind_of m.body) q in let x : true ≡ false = sym r ∙ e in cc)
 
+-- what isn't of the reservation machine
+pub other_reserves : (p : List ℕ) (c : ℕ) (m : Message) (rest : List Message) → is_reservation (kind_of m.body) ≡ false → tally (reserves_at p c) (m ∷ rest) ≡ tally (reserves_at p c) rest
+unfolding tally
+other_reserves p c m rest e = ap (λ b. one (b && (bytes_eq p m.header.provider && (c == m.header.correlation))) + tally (reserves_at p c) rest) e
+
 pub addressed_reserves : (p : List ℕ) (c : ℕ) (name owner : List ℕ) (out : List Reply) → tally (reserves_at p c) (addressed name owner out) ≤ tally asks_for out
 unfolding tally is_asking
 addressed_reserves p c name owner [] = omega arith

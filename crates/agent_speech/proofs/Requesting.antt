@@ -1,7 +1,9 @@
 -- What an entry makes a requester say was owed, and what it asks its views hold.
-use Rattle.std.proofs.Common.{ℕ, ◌+◌, ◌≤◌, ◌≡◌, Bool, true, false, List, [], ◌∷◌, Option, Some, None, inl, refl, ap, arith, length, slice_get}
+use Rattle.std.proofs.Common.{ℕ, ◌+◌, ◌≤◌, ◌≡◌, Bool, true, false, List, [], ◌∷◌, Option, Some, None, inl, refl, ap, ◌∙◌, arith, length, slice_get}
+use Rattle.std.specs.Prelude.{IfSome}
 use Rattle.nsi_primitive.specs.Ids.{id_of}
-use Rattle.nsi_primitive.specs.Messages.{kind_of}
+use Rattle.nsi_primitive.specs.Kinds.{is_query_kind}
+use Rattle.nsi_primitive.specs.Messages.{kind_of, is_query}
 use Rattle.nsi_primitive.specs.declared.ask.AskAnswer.{AskAnswer}
 use Rattle.nsi_primitive.specs.declared.ask.ReserveAsk.{ReserveAsk}
 use Rattle.nsi_primitive.specs.declared.ask.What.{What}
@@ -15,15 +17,17 @@ use Rattle.connection_record.specs.Speaking.{one, tally, is_asking}
 use Rattle.connection_record.proofs.Saying.{tally_append}
 use Rattle.child_connection.specs.declared.state.Sent.{Sent}
 use Rattle.child_connection.specs.Asks.{request_about, to_child}
-use Rattle.child_connection.specs.Holding.{holds}
+use Rattle.child_connection.specs.Holding.{is_reservation, holds}
 use Rattle.child_connection.specs.Views.{ChildConnection, new_view, open_request}
 use Rattle.agent_state.specs.declared.parent.View.{View}
 use Rattle.agent_state.specs.Entries.{retry_of}
 use Rattle.agent_state.specs.State.{AgentState, AgentStepped, stays}
+use Rattle.requester_agent.specs.Queries.{query_for, query_under}
 use Rattle.requester_agent.specs.Setting.{Setting}
 use Rattle.requester_agent.specs.Views.{Asked, refused, sent_as, asks_if_free, asks_if_known, asks_about, asks_reserve, reserve_of}
-use Rattle.requester_agent.specs.Steps.{find_view, next_id, answers, refuses, asks_at, asks_new, asks_found, reserves, asked_of, asked, view_hears, hears_if, acked, ticks, step}
+use Rattle.requester_agent.specs.Steps.{find_view, next_id, answers, refuses, asks_at, asks_new, asks_found, reserves, sends_query, asked_of, asked, view_hears, hears_if, acked, ticks, step}
 use Rattle.requester_agent.proofs.Mild.{found-there}
+use Rattle.requester_agent.proofs.Queries.{query_is}
 use Rattle.agent_speech.specs.Owing.{answers_to, is_drawn, is_foreign, before, SaysWhatItOwes}
 use Rattle.agent_speech.specs.Unanswered.{reserves_at, view_holds, held, misfits, view_misfits, unfit}
 use Rattle.agent_speech.proofs.Measures.{before_next, request_answers, request_drawn, request_own}
@@ -31,7 +35,18 @@ use Rattle.agent_speech.proofs.Once.{says_nothing, says_none}
 use Rattle.agent_speech.proofs.Viewing.{asks_misfit, asks_hold, asks_few, new_misfits, new_holds, hear_misfit, hear_hold, hear_few}
 use Rattle.agent_speech.proofs.Noting.{saw_took, saw_leaves}
 use Rattle.agent_speech.proofs.Counting.{tally_none, tally_cons, tally_set, tally_map_less, tally_map_but}
-use Rattle.agent_speech.proofs.Holding.{IsHolding, holds_still, holds_same, nothing_asked, asked_reserves}
+use Rattle.agent_speech.proofs.Holding.{IsHolding, holds_still, holds_same, nothing_asked, other_reserves, asked_reserves}
+
+---- A query
+
+-- a request that isn't of the reservation machine
+record IsApart (body : Body) : Type 0 where
+  asks : is_asking body ≡ true
+  rests : is_reservation (kind_of body) ≡ false
+
+is_apart : (body : Body) → is_query body ≡ true → IsApart body
+unfolding is_asking is_reservation
+is_apart body e = let q : is_query_kind (kind_of body) ≡ true = e in record { asks = grind (arith, q); rests = grind (arith, q) }
 
 ---- A view that is asked
 
@@ -142,6 +157,27 @@ module _ (set : Setting) (s : AgentState) where
   reserves_step (Some found) q label h =
       at_step found (asks_reserve set.name (next_id set s) q found.1.child) (h found refl) (reserve_ask set.name set.number s.base.next q found.1.child)
 
+  -- a query has an id of its own, and asks for nothing of the reservation machine
+  sends_step : (query : Option Body) → IfSome query IsApart → IsStep set s (sends_query query set s)
+  unfolding sends_query
+  sends_step None q = refuses_step
+  sends_step (Some body) q =
+      let m : Message = query_under set (next_id set s) body in
+      record {
+        says =
+            record {
+              answers = λ h n. omega (arith, request_answers h n m [] q.asks, tally_none (answers_to h n));
+              drawn = λ c. omega (arith, request_drawn c m [] q.asks, tally_none (is_drawn c), before_next set.number s.base.next c);
+              own = omega (arith, request_own set.name m [] q.asks refl, tally_none (is_foreign set.name));
+            };
+        holds = holds_still s _ (m ∷ []) refl refl (λ p c. other_reserves p c m [] q.rests ∙ nothing_asked p c);
+      }
+
+  query_step : (what : What) (found : Option (ℕ × View)) → IsStep set s (sends_query (query_for what found) set s)
+  query_step what found =
+      sends_step (query_for what found)
+      (query_is IsApart (record { summary = λ connection. is_apart _ refl; notifications = λ range. is_apart _ refl; results = λ range. is_apart _ refl; recursive = λ connection. is_apart _ refl }) what found)
+
   of_step : (what : What) (label : List ℕ) → IsStep set s (asked_of what label (find_view label s.views) set s)
   unfolding asked_of request_about is_asking
   of_step (What.Reserve q) label = reserves_step (find_view label s.views) q label (found-there label s.views)
@@ -150,10 +186,11 @@ module _ (set : Setting) (s : AgentState) where
   of_step What.Provision label = found_step (find_view label s.views) Kind.Provision (λ id. (refl, refl)) (found-there label s.views)
   of_step What.Release label = found_step (find_view label s.views) Kind.Release (λ id. (refl, refl)) (found-there label s.views)
   of_step What.Terminate label = found_step (find_view label s.views) Kind.Terminate (λ id. (refl, refl)) (found-there label s.views)
-  of_step _ label = stays_step
+  of_step what label = query_step what (find_view label s.views)
 
   asked_step : (label : Option (List ℕ)) (what : What) → IsStep set s (asked label what set s)
   unfolding asked
+  asked_step None What.Summary = sends_step (Some (Body.QuerySummary None)) (is_apart (Body.QuerySummary None) refl)
   asked_step None what = refuses_step
   asked_step (Some label) what = of_step what label
 

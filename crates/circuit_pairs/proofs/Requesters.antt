@@ -2,6 +2,7 @@
 use Rattle.std.proofs.Common.{ℕ, zero, suc, ◌≡◌, Bool, true, false, List, [], ◌∷◌, ◌++◌, length, get_or, map, Contains, Option, Some, None, ◌⊎◌, inl, inr, refl, sym, ap, ◌∙◌, subst, arith, bytes_eq, slice_get, slice_set, position, option_map, option_and_then, get_or-set_same, get_or-set_other, true≢false}
 use Rattle.std.proofs.lemmas.Bool.{cases_eq}
 use Rattle.std.proofs.lemmas.Option.{get_or_from_slice_get, slice_get_within}
+use Rattle.std.specs.Prelude.{IfSome}
 use Rattle.nsi_primitive.specs.Ids.{id_of}
 use Rattle.nsi_primitive.specs.Messages.{kind_of, connection_of}
 use Rattle.nsi_primitive.specs.declared.ask.ReserveAsk.{ReserveAsk}
@@ -23,8 +24,10 @@ use Rattle.child_connection.proofs.Saying.{about_names, first_names, modificatio
 use Rattle.agent_state.specs.declared.parent.View.{View}
 use Rattle.agent_state.specs.Entries.{retry_of}
 use Rattle.agent_state.specs.State.{AgentState, AgentStepped, stays}
+use Rattle.requester_agent.proofs.Queries.{query_is}
+use Rattle.requester_agent.specs.Queries.{query_for, query_under}
 use Rattle.requester_agent.specs.Setting.{Setting}
-use Rattle.requester_agent.specs.Steps.{view_at, find_view, answers, refuses, asks_at, asks_new, asks_found, reserves, asked_of, asked, view_hears, hears_if, acked, ticks, step, after_if, after, may_take}
+use Rattle.requester_agent.specs.Steps.{view_at, find_view, next_id, answers, refuses, asks_at, asks_new, asks_found, reserves, sends_query, asked_of, asked, view_hears, hears_if, acked, ticks, step, after_if, after, may_take}
 use Rattle.requester_agent.specs.Views.{Asked, asks_if_free, asks_if_known, asks_about, service_if, reserve_of, asks_reserve}
 use Rattle.connection_record.specs.Speaking.{is_answering}
 use Rattle.circuit_link.specs.Children.{Child, about, header_of, IsFair}
@@ -183,6 +186,20 @@ module _ (set : Setting) (s : AgentState) (input : Input) (children : (i : ℕ) 
   found_reserves None label q e = at_end label q.source q.dest _ (reserve_ask set.name (id_of set.number s.base.next) q (new_view set.provider q.source q.dest))
   found_reserves (Some (n, v)) label q e = at_place n v _ (found_there label s.views n v e) (reserve_ask set.name (id_of set.number s.base.next) q v.child)
 
+  -- a query goes out beside the views
+  query_sent : (query : Option Body) → IfSome query (λ body. is_reservation (kind_of body) ≡ false) → Does (sends_query query set s)
+  unfolding sends_query
+  query_sent None q = rests (refuses s) refl refl
+  query_sent (Some body) q =
+      let m : Message = query_under set (next_id set s) body in
+      Minds.rests (λ i. alike_self (view_in set.provider s.views i)) (λ z i r p. true≢false (sym r ∙ ap (λ (w : Message). is_reservation (kind_of w.body)) (only_one m z i) ∙ q))
+
+  query_minds : (what : What) (found : Option (ℕ × View)) → Does (sends_query (query_for what found) set s)
+  unfolding is_reservation
+  query_minds what found =
+      query_sent (query_for what found)
+      (query_is (λ body. is_reservation (kind_of body) ≡ false) (record { summary = λ connection. refl; notifications = λ range. refl; results = λ range. refl; recursive = λ connection. refl }) what found)
+
   asked_minds : (what : What) (label : List ℕ) → Does (asked_of what label (find_view label s.views) set s)
   unfolding asked_of
   asked_minds (What.Reserve q) label = found_reserves (find_view label s.views) label q refl
@@ -191,10 +208,11 @@ module _ (set : Setting) (s : AgentState) (input : Input) (children : (i : ℕ) 
   asked_minds What.Provision label = found_asks (find_view label s.views) label Kind.Provision refl refl
   asked_minds What.Release label = found_asks (find_view label s.views) label Kind.Release refl refl
   asked_minds What.Terminate label = found_asks (find_view label s.views) label Kind.Terminate refl refl
-  asked_minds _ label = rests (stays s) refl refl
+  asked_minds what label = query_minds what (find_view label s.views)
 
   label_minds : (o : Option (List ℕ)) (what : What) → Does (asked o what set s)
-  unfolding asked
+  unfolding asked is_reservation
+  label_minds None What.Summary = query_sent (Some (Body.QuerySummary None)) refl
   label_minds None what = rests (refuses s) refl refl
   label_minds (Some label) what = asked_minds what label
 

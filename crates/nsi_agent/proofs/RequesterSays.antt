@@ -1,5 +1,6 @@
 -- What a requester says is a request in its own name to its provider, under the next id.
 use Rattle.std.proofs.Common.{◌≡◌, ◌+◌, inr, ◌∙◌, ℕ, Bool, true, false, List, [], ◌∷◌, length, map, slice_get, Option, Some, None, refl, sym, ap, subst, arith}
+use Rattle.std.specs.Prelude.{IfSome}
 use Rattle.std.specs.List.{All}
 use Rattle.std.proofs.lemmas.List.Elements.{All-nil, All-cons, All-append, All-head, All-tail, All-set, All-get_or}
 use Rattle.std.proofs.lemmas.Option.{slice_get_within, get_or_from_slice_get}
@@ -21,9 +22,11 @@ use Rattle.agent_state.specs.Entries.{retry_of}
 use Rattle.agent_state.specs.State.{AgentState, AgentStepped, stays}
 use Rattle.aggregator_agent.specs.Laws.{AreDrawn}
 use Rattle.requester_agent.proofs.Mild.{found-there}
+use Rattle.requester_agent.proofs.Queries.{query_is}
+use Rattle.requester_agent.specs.Queries.{query_for, query_under}
 use Rattle.requester_agent.specs.Setting.{Setting}
 use Rattle.requester_agent.specs.Views.{Asked, asks_if_free, asks_if_known, asks_about, asks_reserve, reserve_of}
-use Rattle.requester_agent.specs.Steps.{find_view, next_id, answers, refuses, asks_at, asks_new, asks_found, reserves, asked_of, asked, view_hears, hears_if, acked, ticks, step}
+use Rattle.requester_agent.specs.Steps.{find_view, next_id, answers, refuses, asks_at, asks_new, asks_found, reserves, sends_query, asked_of, asked, view_hears, hears_if, acked, ticks, step}
 
 -- the laws of views that it rests on
 pub record AreLaws : Type 0 where
@@ -130,6 +133,15 @@ module _ (laws : AreLaws) (set : Setting) (s : AgentState) (of : All (IsOf set.p
       at_saying found (asks_reserve set.name (next_id set s) q found.1.child) (h found refl)
       (reserve_wishing laws set.name set.provider set.number s.base.next q found.1.child (found-of set.provider s.views found.0 found.1 (h found refl) of))
 
+  sends_saying : (query : Option Body) → IfSome query (λ body. is_request body ≡ true) → IsSaying set (sends_query query set s)
+  unfolding sends_query
+  sends_saying None r = refuses_saying
+  sends_saying (Some body) r = record { views = of; says = All-cons (IsWish set.name set.provider) (query_under set (next_id set s) body) [] (r, refl, refl) (All-nil (IsWish set.name set.provider)) }
+
+  query_saying : (what : What) (found : Option (ℕ × View)) → IsSaying set (sends_query (query_for what found) set s)
+  query_saying what found =
+      sends_saying (query_for what found) (query_is (λ body. is_request body ≡ true) (record { summary = λ connection. refl; notifications = λ range. refl; results = λ range. refl; recursive = λ connection. refl }) what found)
+
   of_saying : (what : What) (label : List ℕ) → IsSaying set (asked_of what label (find_view label s.views) set s)
   unfolding asked_of
   of_saying (What.Reserve q) label = reserves_saying (find_view label s.views) q label (found-there label s.views)
@@ -138,10 +150,11 @@ module _ (laws : AreLaws) (set : Setting) (s : AgentState) (of : All (IsOf set.p
   of_saying What.Provision label = found_saying (find_view label s.views) Kind.Provision (found-there label s.views)
   of_saying What.Release label = found_saying (find_view label s.views) Kind.Release (found-there label s.views)
   of_saying What.Terminate label = found_saying (find_view label s.views) Kind.Terminate (found-there label s.views)
-  of_saying _ label = stays_saying
+  of_saying what label = query_saying what (find_view label s.views)
 
   asked_saying : (label : Option (List ℕ)) (what : What) → IsSaying set (asked label what set s)
   unfolding asked
+  asked_saying None What.Summary = sends_saying (Some (Body.QuerySummary None)) refl
   asked_saying None what = refuses_saying
   asked_saying (Some label) what = of_saying what label
 
@@ -180,6 +193,11 @@ module _ (laws : AreLaws) (set : Setting) (s : AgentState) where
   reserves_drawn None q label = (reserve_wishing laws set.name set.provider set.number s.base.next q (new_view set.provider q.source q.dest) refl).drawn
   reserves_drawn (Some found) q label = (reserve_wishing laws set.name found.1.child.child set.number s.base.next q found.1.child refl).drawn
 
+  sends_drawn : (query : Option Body) → Draws (sends_query query set s)
+  unfolding sends_query
+  sends_drawn None = nothing_drawn set.number s.base.next
+  sends_drawn (Some body) = one_drawn set.number s.base.next (query_under set (next_id set s) body) refl
+
   of_drawn : (what : What) (label : List ℕ) → Draws (asked_of what label (find_view label s.views) set s)
   unfolding asked_of
   of_drawn (What.Reserve q) label = reserves_drawn (find_view label s.views) q label
@@ -188,10 +206,11 @@ module _ (laws : AreLaws) (set : Setting) (s : AgentState) where
   of_drawn What.Provision label = found_drawn (find_view label s.views) Kind.Provision
   of_drawn What.Release label = found_drawn (find_view label s.views) Kind.Release
   of_drawn What.Terminate label = found_drawn (find_view label s.views) Kind.Terminate
-  of_drawn _ label = nothing_drawn set.number s.base.next
+  of_drawn what label = sends_drawn (query_for what (find_view label s.views))
 
   asked_drawn : (label : Option (List ℕ)) (what : What) → Draws (asked label what set s)
   unfolding asked
+  asked_drawn None What.Summary = sends_drawn (Some (Body.QuerySummary None))
   asked_drawn None what = nothing_drawn set.number s.base.next
   asked_drawn (Some label) what = of_drawn what label
 

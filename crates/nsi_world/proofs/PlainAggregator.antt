@@ -1,10 +1,10 @@
--- An aggregator asks no query.
+-- An aggregator doesn't ask for all that is below a connection.
 use Rattle.std.proofs.Common.{◌≡◌, ◌+◌, ◌&&◌, ℕ, Bool, true, false, List, [], ◌∷◌, ◌++◌, length, Option, Some, None, IfSome, refl, is_none, bytes_eq}
 use Rattle.std.specs.Option.{option_map}
 use Rattle.std.specs.List.{All, list_any}
 use Rattle.std.proofs.lemmas.List.Elements.{All-nil, All-cons, All-append, All-weaker}
 use Rattle.nsi_primitive.specs.Ids.{id_of}
-use Rattle.nsi_primitive.specs.Messages.{is_request, is_query, kind_of, connection_of}
+use Rattle.nsi_primitive.specs.Messages.{is_request, kind_of, connection_of}
 use Rattle.nsi_primitive.specs.declared.entry.Input.{Input}
 use Rattle.nsi_primitive.specs.declared.kind.ErrorName.{ErrorName}
 use Rattle.nsi_primitive.specs.declared.kind.Kind.{Kind}
@@ -30,7 +30,7 @@ use Rattle.child_connection.specs.Views.{ChildConnection, open_request}
 use Rattle.child_connection.specs.Asks.{request_about, to_child}
 use Rattle.child_connection.specs.Hearing.{hear}
 use Rattle.agent_state.specs.declared.parent.Due.{Due}
-use Rattle.agent_state.specs.Entries.{error_reply}
+use Rattle.agent_state.specs.Entries.{error_reply, is_recursive}
 use Rattle.agent_state.specs.State.{AgentState, record_at}
 use Rattle.aggregator_agent.specs.declared.agent.Agent.{Agent}
 use Rattle.aggregator_agent.specs.Asking.{Turn, Asked, Asking, begin, replies_by, notices_by, notices_under, asks_by, ask_one, each, if_free, if_apart, request_if, may_abort, reserve_if, passed_on, pass_one, pass_each}
@@ -84,9 +84,9 @@ tells_answers false p c now r = tt
 
 ---- What children are asked
 
--- a body that is asked is no query
+-- a body that is asked
 abbrev IsAsk : Option Body → Type 0
-IsAsk o = IfSome o (λ b. is_query b ≡ false)
+IsAsk o = IfSome o (λ b. is_recursive b ≡ false)
 
 free_body : (o : Option Sent) (body : Option Body) → IsAsk body → IsAsk (if_free o body)
 free_body None body p = p

@@ -1,21 +1,19 @@
--- No request that an agent sends is a query.
-use Rattle.std.proofs.Common.{◌≡◌, ℕ, false, refl, arith}
-use Rattle.nsi_primitive.specs.Kinds.{is_request_kind, is_query_kind}
-use Rattle.nsi_primitive.specs.Messages.{is_request, is_query, kind_of}
+-- What no agent asks for.
+use Rattle.std.proofs.Common.{◌≡◌, ℕ, false, true≢false, refl}
+use Rattle.nsi_primitive.specs.Messages.{is_request}
 use Rattle.nsi_primitive.specs.declared.kind.Kind.{Kind}
 use Rattle.nsi_primitive.specs.declared.message.Body.{Body}
 use Rattle.child_connection.specs.Asks.{request_about}
+use Rattle.agent_state.specs.Entries.{is_recursive}
 
-no_request : (k : Kind) → is_request_kind k ≡ false → is_query_kind k ≡ false
-no_request k h = grind (arith, h)
+-- what is no request doesn't ask for all that is below
+pub answer_plain : (body : Body) → is_request body ≡ false → is_recursive body ≡ false
+answer_plain (Body.QueryRecursive id) h = absurd (true≢false h)
+answer_plain _ h = refl
 
--- what is no request is no query
-pub answer_plain : (body : Body) → is_request body ≡ false → is_query body ≡ false
-answer_plain body h = no_request (kind_of body) h
-
--- a request of the kind is no query
+-- a request of the kind doesn't ask for all that is below
 abbrev pub IsAsking : Kind → Type 0
-IsAsking k = (id : ℕ) → is_query (request_about k id) ≡ false
+IsAsking k = (id : ℕ) → is_recursive (request_about k id) ≡ false
 
 pub commit_plain : IsAsking Kind.ReserveCommit
 unfolding request_about

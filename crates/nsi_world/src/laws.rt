@@ -1,7 +1,7 @@
 //! The laws of runs. Each function is its contract.
 
 ghost use Rattle.nsi_agent.specs.Laws.{WhatIsSaidIsItsOwn, RequestsAreDrawnOnce};
-ghost use Rattle.nsi_world.specs.Agents.{CausedIsPrintable, NoneIsQuery};
+ghost use Rattle.nsi_world.specs.Agents.{CausedIsPrintable, NoneIsRecursive};
 ghost use Rattle.nsi_world.specs.Laws.{HeardWasSent, SentStaysSent, RequestsAreOne, TurnRuns, RoundRuns, PlayRuns, PlayIsRun, PlayStands, PlayRests, AsksWhole};
 
 use nsi_agent::laws::{every_message, every_request, every_state};
@@ -11,7 +11,7 @@ pub fn agents()
     ensures own { WhatIsSaidIsItsOwn }
     ensures once { RequestsAreDrawnOnce }
     ensures printable { CausedIsPrintable }
-    ensures plain { NoneIsQuery }
+    ensures plain { NoneIsRecursive }
 {
     every_message();
     every_request();

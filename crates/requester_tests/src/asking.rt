@@ -1,6 +1,7 @@
 //! Entries of a requester, one after another: the answer to the last of them, what it sends, and where the views stand then.
 
 mod many;
+mod queries;
 mod taking;
 mod wishes;
 
@@ -16,15 +17,16 @@ use requester_agent::Requester;
 use std::alloc::{AllocError, Global};
 use std::test::Fail;
 use stp_topology::{AgentKind, Topology, read_topology};
-use wishes::{Said, Wish, ask_of, id, message_of};
+use wishes::{Said, Wish, ask_of, id, message_of, summary_of_all};
 
 const TOPOLOGY: &str =
     "agent p1 provider 60\nagent r1 requester p1\nstp p1 A 1000\nstp p1 B 1000\n---\n";
 
-/// An ask under a label, a message under the how manieth id of r1, an acknowledgement of that reserve, a second, or a forced end.
+/// An ask under a label, an ask for a summary of all, a message under the how manieth id of r1, an acknowledgement of that reserve, a second, or a forced end.
 #[derive(Clone, Copy)]
 enum Step {
     Ask(&'static str, Wish),
+    AskAll,
     Got(u32, Said),
     Acked(u32),
     Tick(u64),
@@ -110,6 +112,20 @@ fn ask(
     )?)
 }
 
+fn ask_all(alloc: Global, topology: &Topology, requester: &mut Requester) -> Result<Caused, Fail>
+    requires { requester.old.state.base.taken < 4194304 }
+{
+    let now = requester.now();
+    let ask = summary_of_all();
+    Ok(take(
+        alloc,
+        topology,
+        requester,
+        now,
+        Input::Ask { number: 0, ask },
+    )?)
+}
+
 fn receive(
     alloc: Global,
     topology: &Topology,
@@ -173,6 +189,7 @@ fn enter(
     }
     match step {
         Step::Ask(label, wish) => ask(alloc, topology, requester, label, wish),
+        Step::AskAll => ask_all(alloc, topology, requester),
         Step::Got(n, said) => receive(alloc, topology, requester, n, said),
         Step::Acked(n) => acked(alloc, topology, requester, n),
         Step::Tick(second) => tick(alloc, topology, requester, second),

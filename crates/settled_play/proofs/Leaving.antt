@@ -21,7 +21,7 @@ use Rattle.agent_node.specs.Seat.{Seat}
 use Rattle.nsi_play.specs.Openings.{opening}
 use Rattle.nsi_play.specs.Rounds.{Net, Homes, is_quiet_in, all_quiet}
 use Rattle.nsi_play.specs.Play.{Played, plays}
-use Rattle.nsi_world.specs.Agents.{NoneIsQuery}
+use Rattle.nsi_world.specs.Agents.{NoneIsRecursive}
 use Rattle.nsi_world.specs.Worlds.{World, empty, said}
 use Rattle.nsi_world.specs.Runs.{world_after}
 use Rattle.nsi_world.specs.Laws.{PlayRests}
@@ -112,7 +112,7 @@ settled_in t routes given past net w r quiet is =
       acknowledged = λ a b kind la lb. all_of (none_lost a b kind + none_lost b a kind) (IsOver homes w a b kind) (said homes w a) (λ m c of. both a b kind m la lb c of);
     }
 
-pub play_settles : WhatIsSaidIsItsOwn → NoneIsQuery → PlayRests → PlaySettles
+pub play_settles : WhatIsSaidIsItsOwn → NoneIsRecursive → PlayRests → PlaySettles
 play_settles own plain rests t routes plans groups events last none sound formed routed rise may p =
     let given : Given t routes = record { own = own; plain = plain; sound = sound; formed = formed; routed = routed } in
     let homes : Homes = home_in t routes in
@@ -141,6 +141,6 @@ each_done t homes w h a lt k d within =
     let both = none_but (IsOver homes w a to.0 (kind_of m.body)) (said homes w a) (h.acknowledged a to.0 (kind_of m.body) lt to.1) k d within (to.2, refl) in
     (to.0, to.1, to.2, both.0, both.1)
 
-pub play_leaves_none : WhatIsSaidIsItsOwn → NoneIsQuery → PlayRests → PlayLeavesNone
+pub play_leaves_none : WhatIsSaidIsItsOwn → NoneIsRecursive → PlayRests → PlayLeavesNone
 play_leaves_none own plain rests t routes plans groups events last none sound formed routed rise may p a lt =
     each_done t (home_in t routes) (world_after empty events) (play_settles own plain rests t routes plans groups events last none sound formed routed rise may p) a lt

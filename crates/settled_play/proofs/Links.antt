@@ -4,7 +4,7 @@ use Rattle.std.specs.Prelude.{slice_get}
 use Rattle.std.specs.List.{All, Contains, list_any, filter}
 use Rattle.std.proofs.lemmas.List.Elements.{All-contains, All-filter, All-contains_itself, filter_passes}
 use Rattle.std.proofs.lemmas.List.FromFn.{length-range_with_len, get_or-range_with_len}
-use Rattle.nsi_primitive.specs.Messages.{identity, addressee, is_request, is_query}
+use Rattle.nsi_primitive.specs.Messages.{identity, addressee, is_request}
 use Rattle.nsi_primitive.specs.declared.entry.Entry.{Entry}
 use Rattle.nsi_primitive.specs.declared.entry.Input.{Input}
 use Rattle.nsi_primitive.specs.declared.message.Message.{Message}
@@ -14,20 +14,21 @@ use Rattle.stp_topology.specs.Network.{kind_of, name_of, agent_of, children_of}
 use Rattle.stp_topology.specs.Sound.{IsSound, TakesRequests}
 use Rattle.stp_topology.specs.declared.network.AgentKind.{AgentKind}
 use Rattle.stp_topology.specs.declared.network.Network.{Network}
+use Rattle.agent_state.specs.Entries.{is_recursive}
 use Rattle.nsi_agent.specs.Homes.{Home, Routes, AreRoutes, home_in}
 use Rattle.nsi_agent.specs.Told.{told, name_in, AsksFor, HasAsked, Asks, IsSaidAs, IsSaid, IsFor, IsForIn}
 use Rattle.nsi_agent.specs.Laws.{WhatIsSaidIsItsOwn, IsAskedBy}
 use Rattle.nsi_agent.proofs.OwnMessages.{is_named_as_declared}
 use Rattle.nsi_agent.proofs.LeastWays.{asks_go_along_links}
 use Rattle.agent_node.specs.Openings.{is_provider_of, asks, are_linked, agents, others_of}
-use Rattle.nsi_world.specs.Agents.{IsPlain, NoneIsQuery}
+use Rattle.nsi_world.specs.Agents.{IsPlain, NoneIsRecursive}
 use Rattle.nsi_world.proofs.Names.{home_name}
 use Rattle.settled_play.proofs.Finding.{none_there, first_there, later_there, first_or_later}
 
 -- what is given: the laws of what agents say, and a topology that a text gives
 pub record Given (t : Network) (routes : Routes) : Type 0 where
   pub own : WhatIsSaidIsItsOwn
-  pub plain : NoneIsQuery
+  pub plain : NoneIsRecursive
   pub sound : IsSound t
   pub formed : IsWellFormed t
   pub routed : AreRoutes t routes
@@ -120,7 +121,7 @@ asked_linked t a b (inr c) = or_left (asks t a b) (asks t b a) (or_right (is_pro
 
 -- what may go from one agent to another: a message for the other one, a request in the one's name, and no query
 abbrev pub Goes : Network → (from to : ℕ) → Parcel → Type 0
-Goes t from to (Parcel.Message m) = (agent_of t (addressee (identity m)) ≡ Some to) × (addressee (identity m) ≡ name_of t to) × (is_request m.body ≡ true → m.header.requester ≡ name_of t from) × (is_query m.body ≡ false)
+Goes t from to (Parcel.Message m) = (agent_of t (addressee (identity m)) ≡ Some to) × (addressee (identity m) ≡ name_of t to) × (is_request m.body ≡ true → m.header.requester ≡ name_of t from) × (is_recursive m.body ≡ false)
 Goes t from to (Parcel.Ack i) = Unit {0}
 
 -- what an agent has taken is for it, and a request comes from one to whom it has a link
@@ -163,7 +164,7 @@ said_goes t routes given a es m lt heard c =
     let name : List ℕ = name_in h.role in
     let own_es : All (IsForIn name) es = λ k d within. for_it t routes a (get_or es k d).input (heard k d within) in
     let is_own : IsSaid name (Asks h.role) (HasAsked es) m = All-contains (IsSaid name (Asks h.role) (HasAsked es)) (told h es).out m (given.own h es own_es) c in
-    let plain : is_query m.body ≡ false = All-contains IsPlain (told h es).out m (given.plain h es own_es) c in
+    let plain : is_recursive m.body ≡ false = All-contains IsPlain (told h es).out m (given.plain h es own_es) c in
     by (is_request m.body) refl is_own plain
   where
     request_to : (m : Message) → is_request m.body ≡ true → addressee (identity m) ≡ m.header.provider
@@ -172,7 +173,7 @@ said_goes t routes given a es m lt heard c =
     answer_to : (m : Message) → is_request m.body ≡ false → addressee (identity m) ≡ m.header.requester
     answer_to m e = ap (λ b. cond b m.header.provider m.header.requester) e
 
-    by : (b : Bool) → is_request m.body ≡ b → IsSaidAs b (name_in (home_in t routes a).role) (Asks (home_in t routes a).role) (HasAsked es) m → is_query m.body ≡ false → Way t a m
+    by : (b : Bool) → is_request m.body ≡ b → IsSaidAs b (name_in (home_in t routes a).role) (Asks (home_in t routes a).role) (HasAsked es) m → is_recursive m.body ≡ false → Way t a m
     by true e k plain =
         let x = asks_go_along_links t routes a m.header.provider given.routed k.1 in
         let near : x.0 < length t.agents = asked_within t routes given a x.0 lt x.1 in

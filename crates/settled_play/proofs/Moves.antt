@@ -3,7 +3,7 @@ use Rattle.std.proofs.Common.{ℕ, zero, suc, ◌+◌, ◌<◌, ◌≡◌, ◌==
 use Rattle.std.specs.List.{All, Contains}
 use Rattle.std.proofs.lemmas.Bool.{cases_eq}
 use Rattle.std.proofs.lemmas.List.Elements.{All-nil, All-head, All-tail, All-append, All-push, All-filter, All-weaker, All-map, All-contains, Contains-append_left, Contains-push}
-use Rattle.nsi_primitive.specs.Messages.{identity, addressee, is_request, is_query}
+use Rattle.nsi_primitive.specs.Messages.{identity, addressee, is_request}
 use Rattle.nsi_primitive.specs.declared.entry.Entry.{Entry}
 use Rattle.nsi_primitive.specs.declared.entry.Input.{Input}
 use Rattle.nsi_primitive.specs.declared.message.Body.{Body}
@@ -13,6 +13,7 @@ use Rattle.nsi_primitive.specs.declared.message.Parcel.{Parcel}
 use Rattle.nsi_primitive.specs.declared.state.Machine.{Machine}
 use Rattle.stp_topology.specs.Network.{agent_of}
 use Rattle.stp_topology.specs.declared.network.Network.{Network}
+use Rattle.agent_state.specs.Entries.{is_recursive}
 use Rattle.agent_state.specs.State.{AgentState}
 use Rattle.nsi_agent.specs.Homes.{Role, provides, aggregates, requests, Home, Routes, home_in}
 use Rattle.nsi_agent.specs.Steps.{takes_kind, is_new, waits, work_of, works_left}
@@ -161,7 +162,7 @@ move_entry t routes a js hs e s link h = record { journal = js ++ e ∷ []; step
 move_twice : (t : Network) (routes : Routes) (a : ℕ) (js : List Entry) (hs hu hv : List (ℕ × Parcel)) (s u v : Seat) → (p : Moves t routes a js hs hu s u) → Moves t routes a p.journal hu hv u v → Moves t routes a js hs hv s v
 move_twice t routes a js hs hu hv s u v p q = record { journal = q.journal; step = step_twice t routes a js p.journal q.journal hs hu hv s u v p.step q.step }
 
-takes_plain : (role : Role) (body : Body) → is_query body ≡ false → takes_kind role body ≡ true
+takes_plain : (role : Role) (body : Body) → is_recursive body ≡ false → takes_kind role body ≡ true
 takes_plain (requests setting) body e = refl
 takes_plain (provides setting stp_of) body e = refl
 takes_plain (aggregates setting) body e = ap not e

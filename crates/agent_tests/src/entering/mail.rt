@@ -3,7 +3,7 @@
 ghost use Rattle.std.specs.Prelude.{◌≡◌, true, false, not, IfOk};
 ghost use Rattle.nsi_primitive.specs.Messages.{is_query};
 ghost use Rattle.nsi_primitive.specs.Printable.{IsPrintableAsk, IsPrintableBody, IsPrintableReserve, ArePointsApart};
-ghost use Rattle.requester_agent.specs.Steps.{is_query_ask};
+ghost use Rattle.requester_agent.specs.Steps.{is_recursive_ask};
 
 use nsi_base::{AgentNo, Mbps, Name, Second};
 use nsi_primitive::{Ask, Body, Header, Id, Message, ReserveAsk, ReserveRequest, What, id_of};
@@ -75,7 +75,7 @@ pub(super) fn reserve(
 
 fn wish(alloc: Global) -> Result<What, Fail>
     ensures apart { IfOk result ArePointsApart }
-    ensures served { IfOk result (λ what. is_query_ask what ≡ false) }
+    ensures served { IfOk result (λ what. is_recursive_ask what ≡ false) }
 {
     let source = Name::of(alloc, b"A")?;
     let dest = Name::of(alloc, b"B")?;
@@ -94,7 +94,7 @@ fn wish(alloc: Global) -> Result<What, Fail>
 
 pub(super) fn ask(alloc: Global) -> Result<Ask, Fail>
     ensures printable { IfOk result IsPrintableAsk }
-    ensures served { IfOk result (λ ask. is_query_ask ask.what ≡ false) }
+    ensures served { IfOk result (λ ask. is_recursive_ask ask.what ≡ false) }
 {
     let label = Name::of(alloc, b"c1")?;
     let what = wish(alloc)?;

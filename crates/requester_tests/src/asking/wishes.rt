@@ -2,12 +2,12 @@
 
 ghost use Rattle.std.specs.Prelude.{◌≡◌, false, IfOk};
 ghost use Rattle.nsi_primitive.specs.Printable.{IsPrintableAsk, IsPrintableBody, ArePointsApart, needs_label};
-ghost use Rattle.requester_agent.specs.Steps.{is_query_ask};
+ghost use Rattle.requester_agent.specs.Steps.{is_recursive_ask};
 
 use nsi_base::{AgentNo, HoldTime, Mbps, Name, Second, Version};
 use nsi_primitive::{
     Ask, Body, Cause, Directionality, ErrorName, Exception, Header, HoldTimeout, Id, Message,
-    PlaneNotice, ReserveAsk, ReserveConfirmation, What, id_of,
+    NumbersAsked, PlaneNotice, ReserveAsk, ReserveConfirmation, What, id_of,
 };
 use std::alloc::Global;
 use std::test::Fail;
@@ -20,6 +20,9 @@ pub(super) enum Wish {
     Provision,
     Release,
     Terminate,
+    Summary,
+    Notifications(Option<NumbersAsked>),
+    Results(Option<NumbersAsked>),
 }
 
 #[derive(Clone, Copy)]
@@ -49,7 +52,7 @@ fn mbps() -> Result<Mbps, Fail> {
 
 fn reserve(alloc: Global) -> Result<What, Fail>
     ensures apart { IfOk result ArePointsApart }
-    ensures served { IfOk result (λ what. is_query_ask what ≡ false) }
+    ensures served { IfOk result (λ what. is_recursive_ask what ≡ false) }
 {
     let source = Name::of(alloc, b"A")?;
     let dest = Name::of(alloc, b"B")?;
@@ -68,7 +71,7 @@ fn reserve(alloc: Global) -> Result<What, Fail>
 
 fn what_of(alloc: Global, wish: Wish) -> Result<What, Fail>
     ensures apart { IfOk result ArePointsApart }
-    ensures served { IfOk result (λ what. is_query_ask what ≡ false) }
+    ensures served { IfOk result (λ what. is_recursive_ask what ≡ false) }
 {
     match wish {
         Wish::Reserve => reserve(alloc),
@@ -77,12 +80,15 @@ fn what_of(alloc: Global, wish: Wish) -> Result<What, Fail>
         Wish::Provision => Ok(What::Provision),
         Wish::Release => Ok(What::Release),
         Wish::Terminate => Ok(What::Terminate),
+        Wish::Summary => Ok(What::Summary),
+        Wish::Notifications(numbers) => Ok(What::Notifications(numbers)),
+        Wish::Results(numbers) => Ok(What::Results(numbers)),
     }
 }
 
 pub(super) fn ask_of(alloc: Global, label: &str, wish: Wish) -> Result<Ask, Fail>
     ensures printable { IfOk result IsPrintableAsk }
-    ensures served { IfOk result (λ ask. is_query_ask ask.what ≡ false) }
+    ensures served { IfOk result (λ ask. is_recursive_ask ask.what ≡ false) }
 {
     let label = Name::of(alloc, label.as_bytes())?;
     let what = what_of(alloc, wish)?;
@@ -90,6 +96,16 @@ pub(super) fn ask_of(alloc: Global, label: &str, wish: Wish) -> Result<Ask, Fail
         label: Some(label),
         what,
     })
+}
+
+pub(super) fn summary_of_all() -> Ask
+    ensures printable { IsPrintableAsk result }
+    ensures served { is_recursive_ask result.what ≡ false }
+{
+    Ask {
+        label: None,
+        what: What::Summary,
+    }
 }
 
 fn confirmed(alloc: Global) -> Result<Body, Fail>
