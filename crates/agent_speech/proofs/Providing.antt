@@ -33,7 +33,7 @@ use Rattle.provider_agent.specs.Others.{lacking}
 use Rattle.provider_agent.specs.Setting.{Setting}
 use Rattle.provider_agent.specs.Steps.{messages_by, drawn, keeps, taken_at, with_new, opens_between, opens, accepts, answers, serves, receives, is_waiting, work_at, works, is_forcible, force_move, forces, ticks_at, is_told_at, told_at, Ticked, ticks_all, ticks, step, agent_of, own_origin}
 use Rattle.provider_agent.proofs.GoodAfter.{waits_within, forcible_within}
-use Rattle.provider_agent.proofs.Querying.{replied_by, reply_header}
+use Rattle.agent_state.proofs.Querying.{replied_by, reply_header}
 use Rattle.provider_agent.proofs.RequestCases.{seen_with, new_record}
 use Rattle.agent_speech.specs.Owing.{answers_to, is_drawn, is_foreign, owed_by, has_id, before, SaysWhatItOwes}
 use Rattle.agent_speech.proofs.Measures.{speaks_answers, speaks_drawn, speaks_own, none_begun, before_next}
