@@ -28,8 +28,8 @@ use Rattle.aggregator_agent.specs.Setting.{Setting}
 use Rattle.aggregator_agent.specs.Steps.{sees, is_seen, request_at, children_for, with_new, opens_between, opens, request_to, accepts, answers, serves, pass_then, hear_all, hears, receives, ticks, step, may_take, after_if, after}
 use Rattle.aggregator_agent.specs.Good.{IsWritable, IsGood}
 use Rattle.aggregator_agent.specs.Queries.{answer_to}
-use Rattle.agent_state.proofs.Querying.{replied_by, rows_ask_nothing}
-use Rattle.aggregator_agent.proofs.Queried.{tells_printable, tells_rows, writable_at}
+use Rattle.agent_state.proofs.Querying.{replied_by}
+use Rattle.aggregator_agent.proofs.Queried.{reply_asks_nothing, tells_printable, writable_at}
 use Rattle.aggregator_agent.specs.Laws.{AreDrawn}
 use Rattle.aggregator_agent.proofs.MildReplies.{AreMild, both_mild, IsMildMoved, stays_mild, writable_later, lives_mild}
 use Rattle.aggregator_agent.proofs.Mild.{AreLaws, IsMildAsking, none_mild, drawn_none, drawn_up, drawn_then, drawn_addressed, addressed_printable}
@@ -209,8 +209,7 @@ replied_step setting s m g =
             All-cons IsPrintable (query_reply setting.agent.name m answer) []
             (replied_by IsPrintableBody setting.agent.name m answer (λ error plain. plain) (λ body e. tells_printable setting.agent.name s m body g e)) (All-nil IsPrintable);
         drawn =
-            inl
-            (replied_by (λ body. is_request body ≡ false) setting.agent.name m answer (λ error plain. refl) (λ body e. rows_ask_nothing body (tells_rows setting.agent.name s m body e)), omega arith);
+            inl (reply_asks_nothing setting.agent.name s m, omega arith);
       };
       answer = refl;
     }

@@ -34,7 +34,7 @@ impl Core {
 
     /// What there is to answer to a query: nothing where its requester has no such connection.
     fn answer_to(&self, alloc: Global, message: &Message) -> Result<Option<Body>, AllocError>
-        ensures { let d = self.entry in
+        ensures { let d = self.entry.now in
             IfOk result (λ answer. answer ≡ answer_to d.agent.name (state_at d) message.now) }
     {
         let owner = &message.header.requester;
