@@ -221,7 +221,6 @@ answers_passed setting s m (Some error) u = record { grown = grown_state s; rise
 answers_passed setting s m None u = accepts_passed setting s m (connection_of m.body) refl u
 
 serves_passed : (is_query : Bool) (setting : Setting) (s : AgentState) (m : Message) → IsPassed s (serves is_query setting s m)
-unfolding serves
 serves_passed true setting s m = record { grown = grown_state s; rises = λ h. h }
 serves_passed false setting s m = answers_passed setting s m (refusal setting.agent.name setting.stp_of s.base.records m) refl
 

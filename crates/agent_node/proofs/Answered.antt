@@ -85,7 +85,6 @@ answers_none (Some error) setting s m = refl
 answers_none None setting s m = accepts_none (connection_of m.body) setting s m
 
 serves_none : (is_query : Bool) (setting : AggregatorSetting) (s : AgentState) (m : Message) → Unanswered (serves is_query setting s m)
-unfolding serves
 serves_none true setting s m = refl
 serves_none false setting s m = answers_none (refusal setting.agent.name setting.stp_of s.base.records m) setting s m
 

@@ -238,7 +238,6 @@ module _ (setting : Setting) (s : AgentState) (m : Message) (asks : is_request m
   answers_step None r = accepts_step (connection_of m.body) refl r
 
   pub serves_step : (b : Bool) → IsStep setting s (serves b setting t m)
-  unfolding serves
   serves_step true = told_step
   serves_step false = answers_step (refusal setting.agent.name setting.stp_of s.base.records m) refl
 

@@ -55,11 +55,9 @@ opens_known setting s m q points e n h f = sym
     ∙ ap (λ o. opens_between o setting s m q) f)
 
 pub serves_query : (setting : Setting) (s : AgentState) (m : Message) → is_query m.body ≡ true → sends s (query_reply setting.agent.name m (answer_to setting.agent.name s m) ∷ []) ≡ serves (is_query m.body) setting s m
-unfolding serves
 serves_query setting s m h = rw h refl
 
 pub serves_other : (setting : Setting) (s : AgentState) (m : Message) → is_query m.body ≡ false → answers (refusal setting.agent.name setting.stp_of s.base.records m) setting s m ≡ serves (is_query m.body) setting s m
-unfolding serves
 serves_other setting s m h = rw h refl
 
 pub takes_request : (setting : Setting) (s : AgentState) (m : Message) → is_request m.body ≡ true → serves (is_query m.body) setting s m ≡ takes_new (is_request m.body) setting s m

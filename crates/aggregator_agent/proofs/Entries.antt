@@ -215,7 +215,6 @@ replied_step setting s m g =
     }
 
 served_step : AreLaws → (is_query : Bool) (setting : Setting) (s : AgentState) (m : Message) → IsPrintable m → IsGood s → IsMildStep setting.agent.number s (serves is_query setting s m)
-unfolding serves
 served_step laws true setting s m p g = replied_step setting s m g
 served_step laws false setting s m p g =
     answered_step laws setting s m (refusal setting.agent.name setting.stp_of s.base.records m) (refusal_plain setting.agent.name setting.stp_of s.base.records m) p g

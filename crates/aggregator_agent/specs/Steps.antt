@@ -131,7 +131,7 @@ unfoldable pub hears : Setting → AgentState → Message → AgentStepped
 hears setting s m = with_passed s (hear_all setting.agent s.base.now 0 m s.base.next s.base.records s.children)
 
 -- a query is answered at once by what the agent has, which stays as it is; every other request is one to do something
-unfoldable pub serves : (is_query : Bool) → Setting → AgentState → Message → AgentStepped
+abbrev pub serves : (is_query : Bool) → Setting → AgentState → Message → AgentStepped
 serves true setting s m = sends s (query_reply setting.agent.name m (answer_to setting.agent.name s m) ∷ [])
 serves false setting s m = answers (refusal setting.agent.name setting.stp_of s.base.records m) setting s m
 

@@ -440,7 +440,6 @@ module _ (setting : Setting) (s : AgentState) (even : length s.children ≡ leng
     answering None r = accepting (connection_of m.body) refl r
 
     serving : (b : Bool) → Taken (serves b setting s' m)
-    unfolding serves
     serving true =
         let reply = query_reply setting.agent.name m (answer_to setting.agent.name s' m) in
         still (reply ∷ []) (λ z i e. false≢true (sym (reply_asks_nothing setting.agent.name s' m) ∙ ap (λ (y : Message). is_request y.body) (sym (only_one reply z i)) ∙ e))

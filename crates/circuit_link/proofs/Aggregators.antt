@@ -393,7 +393,6 @@ module _ (setting : Setting) (input : Input) (said : List Message) where
     telling q false o p e = Serves.refuses m ErrorName.WrongProvider new (λ n id own names at. absurd (another p own)) refl refl
 
     serving : (b : Bool) → is_query m.body ≡ b → Does s (serves b setting seen_now m)
-    unfolding serves
     serving true q = telling q (bytes_eq m.header.provider name) (answer_to name seen_now m) refl refl
     serving false q = answering (refusal name setting.stp_of s.base.records m) refl
 

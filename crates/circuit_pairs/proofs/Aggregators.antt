@@ -172,7 +172,6 @@ module _ (set : Setting) (child : List ℕ) (d : Child) (fair : IsFair set.agent
       answering None r = accepting (connection_of m.body) refl r
 
       serving : (b : Bool) → Now (serves b set s' m)
-      unfolding serves
       serving true = resting (query_reply parent m (answer_to parent s' m) ∷ []) (answer_reserves child (query_reply parent m (answer_to parent s' m)) (reply_asks_nothing parent s' m))
       serving false = answering (refusal parent set.stp_of s'.base.records m) refl
 

@@ -46,7 +46,6 @@ answers_quiet (Some error) setting s m = record { taken = refl; waiting = refl; 
 answers_quiet None setting s m = accepts_quiet (connection_of m.body) setting s m
 
 serves_quiet : (is_query : Bool) (setting : Setting) (s : AgentState) (m : Message) → IsQuiet s.base (serves is_query setting s m).state.base
-unfolding serves
 serves_quiet true setting s m = record { taken = refl; waiting = refl; now = refl }
 serves_quiet false setting s m = answers_quiet (refusal setting.agent.name setting.stp_of s.base.records m) setting s m
 
@@ -98,7 +97,6 @@ answers_seen (Some error) setting s m = record { seen = refl; heard = refl }
 answers_seen None setting s m = accepts_seen (connection_of m.body) setting s m
 
 serves_seen : (is_query : Bool) (setting : Setting) (s : AgentState) (m : Message) → IsSameSeen s.base (serves is_query setting s m).state.base
-unfolding serves
 serves_seen true setting s m = record { seen = refl; heard = refl }
 serves_seen false setting s m = answers_seen (refusal setting.agent.name setting.stp_of s.base.records m) setting s m
 

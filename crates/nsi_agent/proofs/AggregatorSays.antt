@@ -423,7 +423,6 @@ module _ (laws : AreLaws) (setting : Setting) (to owed : List ℕ → Type 0) (w
   answers_saying None s m all views came = accepts_saying (connection_of m.body) s m all views came.1
 
   serves_saying : (is_query : Bool) (s : AgentState) (m : Message) → All (IsOwed owed) s.base.records → All (λ xs. All (IsChild to) xs) s.children → IsHeaded setting.agent.name owed m → IsSaying setting to owed (serves is_query setting s m)
-  unfolding serves
   serves_saying true s m all views came =
       let reply = query_reply setting.agent.name m (answer_to setting.agent.name s m) in
       let headed = subst (λ (h : Header). (h.provider ≡ setting.agent.name) × owed h.requester) (sym (reply_header setting.agent.name m (answer_to setting.agent.name s m))) came in

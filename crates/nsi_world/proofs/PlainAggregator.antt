@@ -293,7 +293,6 @@ module _ (setting : Setting) where
   answers_plain None s m = accepts_plain (connection_of m.body) s m
 
   serves_plain : (b : Bool) (s : AgentState) (m : Message) → All IsPlain (serves b setting s m).out
-  unfolding serves
   serves_plain true s m =
       let reply = query_reply setting.agent.name m (answer_to setting.agent.name s m) in
       All-cons IsPlain reply [] (answer_plain reply.body (reply_asks_nothing setting.agent.name s m)) (All-nil IsPlain)
