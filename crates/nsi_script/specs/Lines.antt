@@ -26,7 +26,7 @@ use Rattle.nsi_script.specs.declared.script.Script.{Script}
 use Rattle.nsi_script.specs.declared.script.StopLine.{StopLine}
 use Rattle.nsi_script.specs.Faults.{◌>>=◌, value_or, demand}
 use Rattle.nsi_script.specs.Plans.{is_planned, is_stopped}
-use Rattle.nsi_script.specs.Scripts.{is_reserve, is_query, is_reserved, asks_of, last_second, group_at, with_act}
+use Rattle.nsi_script.specs.Scripts.{is_reserve, is_recursive, is_reserved, asks_of, last_second, group_at, with_act}
 use Rattle.nsi_script.specs.Words.{name_form, number_form, ask_form, parcel_form, image_form}
 
 -- asks of a script, at most
@@ -107,7 +107,7 @@ put_ask s agent ask = do
   Ok (record s { groups = with_act s.groups (Act.Ask agent ask) })
 
 abbrev pub form_of : What → Form
-form_of what = if is_query what then forms.Query else forms.Request
+form_of what = if is_recursive what then forms.Recursive else forms.Request
 
 unfoldable pub ask_of : Network → Script → List ℕ → List (List ℕ) → Result Script ScriptFault
 ask_of t s requester words = do

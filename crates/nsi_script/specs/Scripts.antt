@@ -28,13 +28,10 @@ abbrev pub is_reserve : What → Bool
 is_reserve (What.Reserve r) = true
 is_reserve what = false
 
--- an ask of what an agent knows
-abbrev pub is_query : What → Bool
-is_query What.Summary = true
-is_query (What.Notifications numbers) = true
-is_query (What.Results numbers) = true
-is_query What.Recursive = true
-is_query what = false
+-- an ask for all that is below a connection
+abbrev pub is_recursive : What → Bool
+is_recursive What.Recursive = true
+is_recursive what = false
 
 abbrev pub has_label : List ℕ → Option (List ℕ) → Bool
 has_label label None = false

@@ -18,7 +18,7 @@ pub enum Form {
     Plan,
     Stop,
     Request,
-    Query,
+    Recursive,
     Restart,
 }
 
@@ -41,7 +41,7 @@ pub fn form_of(what: &What) -> Form
     ensures { result ≡ form_of what.now }
 {
     match what {
-        What::Summary | What::Notifications(_) | What::Results(_) | What::Recursive => Form::Query,
+        What::Recursive => Form::Recursive,
         _ => Form::Request,
     }
 }

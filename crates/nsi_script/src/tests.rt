@@ -73,7 +73,7 @@ fn have_faults(alloc: Global, topology: &Topology, rows: &[(&str, u32, ScriptFau
     true
 }
 
-const ONE_FAULT: [(&str, u32, ScriptFault); 16] = [
+const ONE_FAULT: [(&str, u32, ScriptFault); 17] = [
     ("at 5\nat 4\n", 7, ScriptFault::Time),
     ("ask r1 commit c1", 6, ScriptFault::Time),
     ("force p1 0", 6, ScriptFault::Time),
@@ -99,9 +99,10 @@ const ONE_FAULT: [(&str, u32, ScriptFault); 16] = [
     ("repeat p1 r9 ack 1", 6, ScriptFault::Agent),
     ("stop p1 21 torn", 6, ScriptFault::Unbuilt),
     ("at 0\nrestart p1", 7, ScriptFault::Unbuilt),
-    ("at 0\nask r1 summary", 7, ScriptFault::Unbuilt),
+    ("at 0\nask r1 recursive c1", 7, ScriptFault::Unbuilt),
     ("at 0\nask p1 commit c1", 7, ScriptFault::Agent),
     ("at 0\nask r1 commit c1", 7, ScriptFault::Label),
+    ("at 0\nask r1 summary c1", 7, ScriptFault::Label),
 ];
 
 const TWO_FAULTS: [(&str, u32, ScriptFault); 8] = [
@@ -109,7 +110,7 @@ const TWO_FAULTS: [(&str, u32, ScriptFault); 8] = [
     ("stop p9 0 old", 6, ScriptFault::Word),
     ("ask r9 reserve c1 A A 1 0 1", 6, ScriptFault::Word),
     ("restart p9", 6, ScriptFault::Unbuilt),
-    ("ask p1 results c1", 6, ScriptFault::Unbuilt),
+    ("ask p1 recursive c1", 6, ScriptFault::Unbuilt),
     ("force r1 0", 6, ScriptFault::Agent),
     ("ask r9 commit c1", 6, ScriptFault::Agent),
     ("ask r1 abort c1\nask r9 abort", 6, ScriptFault::Time),
@@ -151,9 +152,9 @@ fn is_reserve(act: &Act) -> bool {
     }
 }
 
-fn is_commit(act: &Act) -> bool {
+fn is_summary(act: &Act) -> bool {
     match act {
-        Act::Ask { agent, ask } => agent.get() == 1 && matches!(ask.what, What::Commit),
+        Act::Ask { agent, ask } => agent.get() == 1 && matches!(ask.what, What::Summary),
         _ => false,
     }
 }
@@ -166,11 +167,11 @@ fn is_force(act: &Act) -> bool {
 }
 
 const WHOLE: &str = "# first\r\n\r\nat 007\r\nask\tr1 reserve c1 A B 0600 100 200\r\n\
-ask r1 commit c1\nat 7\nforce p1 4194303";
+ask r1 summary\nat 7\nforce p1 4194303";
 
 fn is_first(group: &Group) -> bool {
     match group.acts.items() {
-        [reserve, commit] => group.at.get() == 7 && is_reserve(reserve) && is_commit(commit),
+        [reserve, summary] => group.at.get() == 7 && is_reserve(reserve) && is_summary(summary),
         _ => false,
     }
 }

@@ -1,5 +1,6 @@
 mod Rows
 pub mod Asked
+pub mod Queries
 pub mod Mild
 pub mod Entries
 pub mod Listens

@@ -1,11 +1,12 @@
 -- What no entry does to a requester: an id at most is drawn, the points of its views differ, and what is sent can be written.
 use Rattle.std.proofs.Common.{ℕ, ◌+◌, ◌<◌, ◌≤◌, ◌≡◌, Bool, true, false, List, [], ◌∷◌, Option, Some, None, refl, subst, arith, length, map, slice_get, position}
 use Rattle.std.specs.Option.{option_map, option_and_then}
+use Rattle.std.specs.Prelude.{IfSome}
 use Rattle.std.specs.List.{All}
 use Rattle.std.specs.Str.{bytes_eq}
 use Rattle.std.proofs.lemmas.List.Elements.{All-nil, All-cons, All-append, All-head, All-tail, All-set, All-get_or}
 use Rattle.std.proofs.lemmas.Option.{none-some, slice_get_within, get_or_from_slice_get}
-use Rattle.nsi_primitive.specs.Printable.{IsPrintable, IsPrintableInput, ArePointsApart}
+use Rattle.nsi_primitive.specs.Printable.{IsPrintable, IsPrintableBody, IsPrintableInput, ArePointsApart}
 use Rattle.nsi_primitive.specs.declared.ask.ReserveAsk.{ReserveAsk}
 use Rattle.nsi_primitive.specs.declared.ask.What.{What}
 use Rattle.nsi_primitive.specs.declared.entry.Input.{Input}
@@ -20,11 +21,13 @@ use Rattle.child_connection.specs.Hearing.{hear}
 use Rattle.child_connection.specs.Laws.{IsSamePlace, AsksKeepThePlace, MessagesKeepThePlace, AsksArePrintable, FirstIsPrintable, ModificationIsPrintable}
 use Rattle.agent_state.specs.declared.parent.View.{View}
 use Rattle.agent_state.specs.State.{AgentState, AgentStepped, stays, counts_agent}
+use Rattle.requester_agent.specs.Queries.{query_for, query_under}
 use Rattle.requester_agent.specs.Setting.{Setting}
 use Rattle.requester_agent.specs.Views.{Asked, asks_if_free, asks_if_known, asks_about, asks_reserve, service_between, service_if, reserve_of}
 use Rattle.agent_state.specs.Entries.{retry_of}
-use Rattle.requester_agent.specs.Steps.{find_view, view_at, next_id, answers, refuses, asks_at, asks_new, asks_found, reserves, asked_of, asked, view_hears, hears_if, acked, ticks, step}
+use Rattle.requester_agent.specs.Steps.{find_view, view_at, next_id, answers, refuses, asks_at, asks_new, asks_found, reserves, sends_query, asked_of, asked, view_hears, hears_if, acked, ticks, step}
 use Rattle.requester_agent.specs.Good.{IsApart, IsGood}
+use Rattle.requester_agent.proofs.Queries.{query_is}
 
 -- the laws of views that it rests on
 pub record AreLaws : Type 0 where
@@ -132,6 +135,14 @@ module _ (laws : AreLaws) where
     reserves-mild (Some found) q label e h =
         at-mild found (asks_reserve set.name (next_id set s) q found.1.child) (h found refl) (reserve-mild set.name (next_id set s) q found.1.child (found-apart s.views found.0 found.1 (h found refl) good))
 
+    sends-mild : (query : Option Body) → IfSome query IsPrintableBody → IsMild s (sends_query query set s)
+    unfolding sends_query
+    sends-mild None p = refuses-mild
+    sends-mild (Some body) p = record { taken = refl; drawn = omega arith; apart = good; prints = All-cons IsPrintable (query_under set (next_id set s) body) [] p (All-nil IsPrintable) }
+
+    query-mild : (what : What) (found : Option (ℕ × View)) → IsMild s (sends_query (query_for what found) set s)
+    query-mild what found = sends-mild (query_for what found) (query_is IsPrintableBody (record { summary = λ connection. tt; notifications = λ range. tt; results = λ range. tt; recursive = λ connection. tt }) what found)
+
     of-mild : (what : What) (label : List ℕ) → ArePointsApart what → IsMild s (asked_of what label (find_view label s.views) set s)
     unfolding asked_of
     of-mild (What.Reserve q) label e = reserves-mild (find_view label s.views) q label e (found-there label s.views)
@@ -140,10 +151,11 @@ module _ (laws : AreLaws) where
     of-mild What.Provision label e = found-mild (find_view label s.views) Kind.Provision (found-there label s.views)
     of-mild What.Release label e = found-mild (find_view label s.views) Kind.Release (found-there label s.views)
     of-mild What.Terminate label e = found-mild (find_view label s.views) Kind.Terminate (found-there label s.views)
-    of-mild _ label e = stays-mild
+    of-mild what label e = query-mild what (find_view label s.views)
 
     asked-mild : (label : Option (List ℕ)) (what : What) → ArePointsApart what → IsMild s (asked label what set s)
     unfolding asked
+    asked-mild None What.Summary e = sends-mild (Some (Body.QuerySummary None)) tt
     asked-mild None what e = refuses-mild
     asked-mild (Some label) what e = of-mild what label e
 

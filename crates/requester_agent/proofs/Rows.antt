@@ -19,9 +19,10 @@ use Rattle.child_connection.specs.Asks.{asks, request_about, reserve_for}
 use Rattle.child_connection.specs.Hearing.{hears}
 use Rattle.agent_state.specs.declared.parent.View.{View}
 use Rattle.agent_state.specs.State.{AgentState, blank_agent}
+use Rattle.requester_agent.specs.Queries.{query_about}
 use Rattle.requester_agent.specs.Setting.{Setting}
 use Rattle.requester_agent.specs.Views.{asks_if_free, asks_if_known}
-use Rattle.requester_agent.specs.Steps.{find_view, answers, asks_at, asks_new, asks_found, reserves, asked_of, asked, hears_if, acked, ticks, step, after}
+use Rattle.requester_agent.specs.Steps.{find_view, answers, asks_at, asks_new, asks_found, reserves, sends_query, asked_of, asked, hears_if, acked, ticks, step, after}
 
 ---- The requesters, and what they take
 
@@ -180,7 +181,7 @@ pub record AreStories : Type 0 where
       record { header = record { correlation = id_of 2 1; requester = codes "r2"; provider = codes "p1" }; body = reserve } ∷ []
 
 pub are_stories : AreStories
-unfolding kind_number is_taken with_taken is_old saw is_heard with_heard without is_kind open_request asks request_about reserve_for hears asks_if_free asks_if_known find_view answers asks_at asks_new asks_found reserves asked_of asked hears_if acked ticks step after
+unfolding kind_number is_taken with_taken is_old saw is_heard with_heard without is_kind open_request asks request_about reserve_for hears asks_if_free asks_if_known find_view answers asks_at asks_new query_about asks_found reserves sends_query asked_of asked hears_if acked ticks step after
 are_stories =
     record {
       first_ask_is_sent = refl;
@@ -227,7 +228,7 @@ pub record AreRefused : Type 0 where
   pub labels_draw_from_one_count : sent_after r1 committed (ask 1 3 (codes "c2") between) ≡ m 3 reserve ∷ []
 
 pub are_refused : AreRefused
-unfolding kind_number is_taken with_taken is_old saw is_heard with_heard without is_kind open_request asks request_about reserve_for hears asks_if_free asks_if_known find_view answers asks_at asks_new asks_found reserves asked_of asked hears_if acked ticks step after
+unfolding kind_number is_taken with_taken is_old saw is_heard with_heard without is_kind open_request asks request_about reserve_for hears asks_if_free asks_if_known find_view answers asks_at asks_new query_about asks_found reserves sends_query asked_of asked hears_if acked ticks step after
 are_refused =
     record {
       unknown_label = refl;
@@ -255,7 +256,7 @@ pub record AreElse : Type 0 where
   pub late_entry_changes_nothing : after_all r1 (all r1 held) (tick 9 ∷ got 8 1 response ∷ []) ≡ after_all r1 (all r1 held) (tick 9 ∷ [])
 
 pub are_else : AreElse
-unfolding kind_number is_taken with_taken is_old saw is_heard with_heard without is_kind open_request asks request_about reserve_for hears asks_if_free asks_if_known find_view answers asks_at asks_new asks_found reserves asked_of asked hears_if acked ticks step after
+unfolding kind_number is_taken with_taken is_old saw is_heard with_heard without is_kind open_request asks request_about reserve_for hears asks_if_free asks_if_known find_view answers asks_at asks_new query_about asks_found reserves sends_query asked_of asked hears_if acked ticks step after
 are_else =
     record {
       request_is_counted = refl;
@@ -263,4 +264,52 @@ are_else =
       request_is_heard_by_none = refl;
       forced_end_changes_no_view = refl;
       late_entry_changes_nothing = refl;
+    }
+
+---- Queries
+
+-- an ask without a label
+abbrev ask_all : What → Entry
+ask_all what = record { second = 0; input = Input.Ask 1 (record { label = None; what = what }) }
+
+abbrev query : What → Entry
+query what = ask 0 1 (codes "c1") what
+
+abbrev numbers : What
+numbers = What.Results (Some (record { from = 2; to = 5 }))
+
+pub record AreQueries : Type 0 where
+  pub summary_names_the_connection : sent_after r1 held (query What.Summary) ≡ m 2 (Body.QuerySummary (Some connection)) ∷ []
+  pub notifications_without_a_range : sent_after r1 held (query (What.Notifications None)) ≡ m 2 (Body.QueryNotification (record { connection = connection; end = None; start = None })) ∷ []
+  pub results_of_a_range : sent_after r1 held (query numbers) ≡ m 2 (Body.QueryResult (record { connection = connection; end = Some 5; start = Some 2 })) ∷ []
+  pub query_is_answered : answer_after r1 held (query What.Summary) ≡ Some AskAnswer.Sent
+  pub query_waits : (after r1 (all r1 held) (query What.Summary)).state.base.waiting ≡ m 2 (Body.QuerySummary (Some connection)) ∷ []
+  pub query_changes_no_view : (after r1 (all r1 held) (query What.Summary)).state.views ≡ held_view ∷ []
+  pub query_draws_an_id : (after r1 (all r1 held) (query What.Summary)).state.base.next ≡ 3
+  pub two_queries_are_sent : sent_after r1 (tick 0 ∷ ask_all What.Summary ∷ []) (ask_all What.Summary) ≡ m 2 (Body.QuerySummary None) ∷ []
+  pub summary_of_all : sent_after r1 (tick 0 ∷ []) (ask_all What.Summary) ≡ m 1 (Body.QuerySummary None) ∷ []
+  pub unknown_label : answer_after r1 held (ask 0 1 (codes "c2") What.Summary) ≡ Some AskAnswer.NoId
+  pub id_is_unknown : answer_after r1 first (query (What.Notifications None)) ≡ Some AskAnswer.NoId
+  pub refused_query_sends_nothing : sent_after r1 first (query (What.Notifications None)) ≡ []
+  pub refused_query_draws_no_id : (after r1 (all r1 first) (query (What.Notifications None))).state.base.next ≡ 2
+  pub only_a_summary_is_of_all : answer_after r1 held (ask_all numbers) ≡ Some AskAnswer.NoId
+
+pub are_queries : AreQueries
+unfolding kind_number is_taken with_taken is_old saw is_heard with_heard without is_kind open_request asks request_about reserve_for hears asks_if_free asks_if_known find_view answers asks_at asks_new query_about asks_found reserves sends_query asked_of asked hears_if acked ticks step after
+are_queries =
+    record {
+      summary_names_the_connection = refl;
+      notifications_without_a_range = refl;
+      results_of_a_range = refl;
+      query_is_answered = refl;
+      query_waits = refl;
+      query_changes_no_view = refl;
+      query_draws_an_id = refl;
+      two_queries_are_sent = refl;
+      summary_of_all = refl;
+      unknown_label = refl;
+      id_is_unknown = refl;
+      refused_query_sends_nothing = refl;
+      refused_query_draws_no_id = refl;
+      only_a_summary_is_of_all = refl;
     }

@@ -1,6 +1,7 @@
 pub mod Setting
 pub mod State
 pub mod Views
+pub mod Queries
 pub mod Steps
 pub mod Good
 pub mod Step

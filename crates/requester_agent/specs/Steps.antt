@@ -9,6 +9,7 @@ use Rattle.nsi_primitive.specs.declared.ask.What.{What}
 use Rattle.nsi_primitive.specs.declared.entry.Entry.{Entry}
 use Rattle.nsi_primitive.specs.declared.entry.Input.{Input}
 use Rattle.nsi_primitive.specs.declared.kind.Kind.{Kind}
+use Rattle.nsi_primitive.specs.declared.message.Body.{Body}
 use Rattle.nsi_primitive.specs.declared.message.Identity.{Identity}
 use Rattle.nsi_primitive.specs.declared.message.Message.{Message}
 use Rattle.message_retry.specs.Retry.{is_old, saw, without}
@@ -17,6 +18,7 @@ use Rattle.child_connection.specs.Hearing.{hear}
 use Rattle.agent_state.specs.declared.parent.View.{View}
 use Rattle.agent_state.specs.State.{AgentState, AgentStepped, stays, counts_agent}
 use Rattle.agent_state.specs.Entries.{retry_of, with_retry, is_on_time, most_entries}
+use Rattle.requester_agent.specs.Queries.{query_for, query_under}
 use Rattle.requester_agent.specs.Setting.{Setting}
 use Rattle.requester_agent.specs.Views.{Asked, asks_about, asks_reserve}
 
@@ -65,7 +67,16 @@ unfoldable pub reserves : Option (ℕ × View) → ReserveAsk → List ℕ → S
 reserves None q label set s = asks_new label (asks_reserve set.name (next_id set s) q (new_view set.provider q.source q.dest)) s
 reserves (Some found) q label set s = asks_at found (asks_reserve set.name (next_id set s) q found.1.child) s
 
--- queries aren't asked yet
+-- a query is sent under the next id, and leaves the views as they are
+unfoldable pub sends_query : Option Body → Setting → AgentState → AgentStepped
+sends_query None set s = refuses s
+sends_query (Some body) set s =
+    record {
+      state = record s { base = record s.base { next = s.base.next + 1 } };
+      out = query_under set (next_id set s) body ∷ [];
+      answer = Some AskAnswer.Sent;
+    }
+
 unfoldable pub asked_of : What → List ℕ → Option (ℕ × View) → Setting → AgentState → AgentStepped
 asked_of (What.Reserve q) label found set s = reserves found q label set s
 asked_of What.Commit label found set s = asks_found found Kind.ReserveCommit set s
@@ -73,10 +84,11 @@ asked_of What.Abort label found set s = asks_found found Kind.ReserveAbort set s
 asked_of What.Provision label found set s = asks_found found Kind.Provision set s
 asked_of What.Release label found set s = asks_found found Kind.Release set s
 asked_of What.Terminate label found set s = asks_found found Kind.Terminate set s
-asked_of _ label found set s = stays s
+asked_of what label found set s = sends_query (query_for what found) set s
 
--- without a label no connection is known
+-- without a label no connection is known, but a summary is of all
 unfoldable pub asked : Option (List ℕ) → What → Setting → AgentState → AgentStepped
+asked None What.Summary set s = sends_query (Some (Body.QuerySummary None)) set s
 asked None what set s = refuses s
 asked (Some label) what set s = asked_of what label (find_view label s.views) set s
 
@@ -99,17 +111,14 @@ ticks second s = stays (record s { base = record s.base { now = second } })
 
 ---- One entry
 
--- what asks for what an agent knows
-abbrev pub is_query_ask : What → Bool
-is_query_ask What.Summary = true
-is_query_ask (What.Notifications range) = true
-is_query_ask (What.Results range) = true
-is_query_ask What.Recursive = true
-is_query_ask _ = false
+-- what asks for all that is below a connection
+abbrev pub is_recursive_ask : What → Bool
+is_recursive_ask What.Recursive = true
+is_recursive_ask _ = false
 
--- it asks no query yet
+-- it asks no queryRecursive yet
 abbrev pub is_for_requester : Input → Bool
-is_for_requester (Input.Ask number ask) = not (is_query_ask ask.what)
+is_for_requester (Input.Ask number ask) = not (is_recursive_ask ask.what)
 is_for_requester _ = true
 
 abbrev pub may_take : AgentState → Entry → Bool

@@ -137,7 +137,7 @@ fn send(
 }
 
 /// The message alone, a copy of which waits.
-fn keep(alloc: Global, retry: &mut Retry, message: Message) -> Result<Vec<Message>, AllocError>
+pub fn keep(alloc: Global, retry: &mut Retry, message: Message) -> Result<Vec<Message>, AllocError>
     ensures out { IfOk result (λ out. out.items ≡ message ∷ []) }
     ensures waits { OnOk result
         (retry.new ≡ record retry.old { waiting = retry.old.waiting ++ message ∷ [] }) }

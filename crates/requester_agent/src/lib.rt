@@ -5,6 +5,7 @@ mod asking;
 mod hearing;
 mod labels;
 pub mod laws;
+mod query;
 pub mod requester;
 mod requester_core;
 mod view_table;

@@ -78,7 +78,7 @@ impl Core {
         ensures taken { self.new.taken ≡ self.old.taken }
     {
         let Some(label) = &ask.label else {
-            return Ok((Some(AskAnswer::NoId), Vec::new(alloc)));
+            return self.ask_of_all(alloc, &ask.what);
         };
         match &ask.what {
             What::Reserve(q) => self.reserve(alloc, label, q),
@@ -88,7 +88,7 @@ impl Core {
             What::Release => self.ask_about(alloc, label, Kind::Release),
             What::Terminate => self.ask_about(alloc, label, Kind::Terminate),
             What::Summary | What::Notifications(_) | What::Results(_) | What::Recursive => {
-                Ok((None, Vec::new(alloc)))
+                self.ask_query(alloc, label, &ask.what)
             }
         }
     }

@@ -120,7 +120,8 @@ impl ViewTable {
         q: &ReserveAsk,
     ) -> Result<(AskAnswer, Vec<Message>), AllocError>
         requires label { position (λ v. bytes_eq view.label v.label) self.old ≡ None }
-        requires unasked { view.child ≡ new_view view.child.child view.child.source view.child.dest }
+        requires unasked { let child = view.child in
+            child ≡ new_view child.child child.source child.dest }
         requires apart { IsApart view }
         ensures { IsAskedNew view self.old self.new retry.old retry.new result
             (asks_reserve parent.now correlation q.now view.child) }
