@@ -24,6 +24,12 @@ EVENTS = {
 }
 QUERIES = ("querySummary", "queryNotification", "queryResult", "queryRecursive")
 REQUESTS = (*EVENTS, *QUERIES)
+# What a requester asks for, as the kind of its query and the name of the numbers that it may have.
+QUERIED = {
+    "summary": ("querySummary", ""),
+    "notifications": ("queryNotification", "NotificationId"),
+    "results": ("queryResult", "ResultId"),
+}
 # What answers a request at a view.
 ANSWERED_BY = {
     "reserve": ("reserveConfirmed", "reserveFailed", "error"),
@@ -272,6 +278,56 @@ class Server(Agent):
         keys = {"connectionId": request.get("connectionId"), "errorId": error, "nsaId": self.name}
         self.caused.append(message("error", *self.header(request), **keys))
 
+    def take_query(self, query):
+        """Answers a query from what is there, which stays as it is."""
+        record = self.record_of(query)
+        if query["providerNSA"] != self.name:
+            self.refuse(query, "WRONG_PROVIDER")
+        elif "connectionId" in query and record is None:
+            self.refuse(query, "NONEXISTENT")
+        else:
+            answer = getattr(self, query["kind"])(query, record)
+            self.caused.append(message(query["kind"] + "Confirmed", *self.header(query), **answer))
+
+    def querySummary(self, query, record):
+        of = [record] if record else [own for own in self.records if own["owner"] == query["requesterNSA"]]
+        return {"more": len(of) > MOST_SUMMARIES, "reservations": [self.summary(own) for own in of[:MOST_SUMMARIES]]}
+
+    def summary(self, record):
+        last = record["committed"][-1] if record["committed"] else {}
+        row = {
+            **self.states(record),
+            "active": self.status(record)["active"],
+            "sourceSTP": record["source"],
+            "destSTP": record["dest"],
+            "directionality": record["directionality"],
+            "globalReservationId": record["texts"]["globalReservationId"],
+            "description": record["texts"]["description"],
+            **{key: last.get(key) for key in ("capacity", "startTime", "endTime", "version")},
+        }
+        return {key: value for key, value in row.items() if value is not None}
+
+    def states(self, record):
+        states = {"reservationState": "Reserve", "provisionState": "Provision", "lifecycleState": "Lifecycle"}
+        return {"connectionId": record["id"], **{key: record[machine] for key, machine in states.items()}}
+
+    def queryRecursive(self, _query, record):
+        version = {"version": record["committed"][-1]["version"]} if record["committed"] else {}
+        row = {**self.states(record), "depth": 0, "providerNSA": self.name, **version}
+        return {"connectionId": record["id"], "more": False, "reservations": [row]}
+
+    def queryNotification(self, query, record):
+        return self.numbered(query, record, "notifications", "told", "otificationId", "startN", "endN")
+
+    def queryResult(self, query, record):
+        return self.numbered(query, record, "results", "outcomes", "esultId", "startR", "endR")
+
+    def numbered(self, query, record, name, kept, key, start, end):
+        first, last = query.get(start + key, 1), query.get(end + key, 2**64 - 1)
+        number = start[-1].lower() + key
+        within = [row for row in record[kept] if first <= row[number] <= last]
+        return {"connectionId": record["id"], "more": len(within) > MOST_NUMBERED, name: within[:MOST_NUMBERED]}
+
     def header(self, request):
         return request["correlationId"], request["requesterNSA"], request["providerNSA"]
 
@@ -368,56 +424,6 @@ class Provider(Server):
             self.take_query(of)
         elif of["kind"] in REQUESTS:
             self.take_request(of)
-
-    def take_query(self, query):
-        """Answers a query from what is there, which stays as it is."""
-        record = self.record_of(query)
-        if query["providerNSA"] != self.name:
-            self.refuse(query, "WRONG_PROVIDER")
-        elif "connectionId" in query and record is None:
-            self.refuse(query, "NONEXISTENT")
-        else:
-            answer = getattr(self, query["kind"])(query, record)
-            self.caused.append(message(query["kind"] + "Confirmed", *self.header(query), **answer))
-
-    def querySummary(self, query, record):
-        of = [record] if record else [own for own in self.records if own["owner"] == query["requesterNSA"]]
-        return {"more": len(of) > MOST_SUMMARIES, "reservations": [self.summary(own) for own in of[:MOST_SUMMARIES]]}
-
-    def summary(self, record):
-        last = record["committed"][-1] if record["committed"] else {}
-        row = {
-            **self.states(record),
-            "active": self.status(record)["active"],
-            "sourceSTP": record["source"],
-            "destSTP": record["dest"],
-            "directionality": record["directionality"],
-            "globalReservationId": record["texts"]["globalReservationId"],
-            "description": record["texts"]["description"],
-            **{key: last.get(key) for key in ("capacity", "startTime", "endTime", "version")},
-        }
-        return {key: value for key, value in row.items() if value is not None}
-
-    def states(self, record):
-        states = {"reservationState": "Reserve", "provisionState": "Provision", "lifecycleState": "Lifecycle"}
-        return {"connectionId": record["id"], **{key: record[machine] for key, machine in states.items()}}
-
-    def queryRecursive(self, _query, record):
-        version = {"version": record["committed"][-1]["version"]} if record["committed"] else {}
-        row = {**self.states(record), "depth": 0, "providerNSA": self.name, **version}
-        return {"connectionId": record["id"], "more": False, "reservations": [row]}
-
-    def queryNotification(self, query, record):
-        return self.numbered(query, record, "notifications", "told", "otificationId", "startN", "endN")
-
-    def queryResult(self, query, record):
-        return self.numbered(query, record, "results", "outcomes", "esultId", "startR", "endR")
-
-    def numbered(self, query, record, name, kept, key, start, end):
-        first, last = query.get(start + key, 1), query.get(end + key, 2**64 - 1)
-        number = start[-1].lower() + key
-        within = [row for row in record[kept] if first <= row[number] <= last]
-        return {"connectionId": record["id"], "more": len(within) > MOST_NUMBERED, name: within[:MOST_NUMBERED]}
 
     def is_seen(self, of):
         """What is no request is never counted as seen here."""
@@ -614,6 +620,9 @@ class Aggregator(Server):
         return joined([view["plane"] for view in record["children"]])
 
     def take(self, of):
+        if of["kind"] in QUERIES:
+            self.take_query(of)
+            return
         if of["kind"] in REQUESTS:
             self.take_request(of)
             return
@@ -732,6 +741,8 @@ class Requester(Agent):
 
     def ask(self, words):
         """Answers sent, noid or outstanding=ID."""
+        if words[0] in QUERIED:
+            return self.query(*words)
         what, label = words[:2]
         kind = {"commit": "reserveCommit", "abort": "reserveAbort"}.get(what, what)
         if kind == "reserve" and label not in self.views:
@@ -747,4 +758,15 @@ class Requester(Agent):
             self.caused.append(ask_reserve(view, self.name, self.draw(), criteria, {}))
         else:
             self.caused.append(ask(view, self.name, self.draw(), kind))
+        return "sent"
+
+    def query(self, what, label=None, *numbers):
+        """Queries leave the views as they are; a summary may be of all connections."""
+        view = self.views.get(label)
+        if label is not None and (view is None or view["connection"] is None):
+            return "noid"
+        kind, name = QUERIED[what]
+        keys = {"connectionId": view["connection"]} if view else {}
+        keys.update(zip(("start" + name, "end" + name), numbers))
+        self.caused.append(message(kind, self.draw(), self.name, self.provider, **keys))
         return "sent"

@@ -265,7 +265,7 @@ class Script:
         self.act(agent, ("requester",), ("ask", words))
         if words[0] == "reserve":
             self.labels.add((agent, words[1]))
-        elif (agent, words[1]) not in self.labels:
+        elif len(words) > 1 and (agent, words[1]) not in self.labels:
             raise Fault("Label")
         self.asks += 1
         if self.asks > MOST_ASKS:
@@ -278,9 +278,10 @@ class Script:
             demand_form(len(words) in counts)
             for word in words[:1]:
                 name(word)
-            for word in words[1:]:
-                number(word, 0, 2**64 - 1)
-            raise Fault("Unbuilt")
+            numbers = [number(word, 0, 2**64 - 1) for word in words[1:]]
+            if what == "recursive":
+                raise Fault("Unbuilt")
+            return what, *words[:1], *numbers
         if what != "reserve":
             demand_form(what in ("commit", "abort", "provision", "release", "terminate") and len(words) == 1)
             return what, name(words[0])

@@ -5,7 +5,7 @@ use Rattle.std.proofs.Math.Seq.{take-append_seam, take-length}
 use Rattle.std.proofs.lemmas.List.Elements.{All-nil, All-cons, All-append, All-head, All-tail, All-set}
 use Rattle.std.proofs.lemmas.Option.{get_or_from_slice_get}
 use Rattle.nsi_primitive.specs.Ids.{id_of}
-use Rattle.nsi_primitive.specs.Messages.{is_request, connection_of}
+use Rattle.nsi_primitive.specs.Messages.{is_request, connection_of, is_query}
 use Rattle.nsi_primitive.specs.declared.kind.ErrorName.{ErrorName}
 use Rattle.nsi_primitive.specs.declared.message.Body.{Body}
 use Rattle.nsi_primitive.specs.declared.message.Message.{Message}
@@ -33,7 +33,7 @@ use Rattle.aggregator_agent.specs.declared.agent.Agent.{Agent}
 use Rattle.aggregator_agent.specs.Asking.{Turn, views_of, with_path}
 use Rattle.aggregator_agent.specs.Clock.{Told, tell_one, tells_late, tell_all, is_late_of, ends, clocked, clock_then, clock_all}
 use Rattle.aggregator_agent.specs.Setting.{Setting}
-use Rattle.aggregator_agent.specs.Steps.{sees, is_seen, request_at, children_for, with_new, opens_between, opens, request_to, accepts, answers, pass_then, hear_all, hears, receives, ticks, step, may_take, after_if, after}
+use Rattle.aggregator_agent.specs.Steps.{sees, is_seen, request_at, children_for, with_new, opens_between, opens, request_to, accepts, answers, pass_then, hear_all, hears, receives, ticks, step, may_take, after_if, after, serves}
 use Rattle.aggregator_agent.specs.Turns.{request_turn, answer_turn}
 use Rattle.agent_growth.specs.Growth.{IsLaterView, HasGrown}
 use Rattle.agent_growth.proofs.Staying.{stay_then, stay_none, stay_set, stay_push, stay_more}
@@ -220,6 +220,10 @@ unfolding answers
 answers_passed setting s m (Some error) u = record { grown = grown_state s; rises = λ h. h }
 answers_passed setting s m None u = accepts_passed setting s m (connection_of m.body) refl u
 
+serves_passed : (is_query : Bool) (setting : Setting) (s : AgentState) (m : Message) → IsPassed s (serves is_query setting s m)
+serves_passed true setting s m = record { grown = grown_state s; rises = λ h. h }
+serves_passed false setting s m = answers_passed setting s m (refusal setting.agent.name setting.stp_of s.base.records m) refl
+
 ---- Any entry
 
 heard_step : (setting : Setting) (s : AgentState) (m : Message) → IsPassed s (hears setting s m)
@@ -231,7 +235,7 @@ heard_step setting s m =
 received_step : (asks is_old : Bool) (setting : Setting) (s : AgentState) (m : Message) → IsPassed s (receives asks is_old setting s m)
 unfolding receives
 received_step true false setting s m =
-    let x = answers_passed setting (sees m s) m (refusal setting.agent.name setting.stp_of s.base.records m) refl in
+    let x = serves_passed (is_query m.body) setting (sees m s) m in
     record { grown = record { records = x.grown.records; views = x.grown.views; children = x.grown.children }; rises = x.rises }
 received_step false false setting s m =
     let x = heard_step setting (sees m s) m in

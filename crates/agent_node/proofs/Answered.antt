@@ -1,7 +1,7 @@
 -- An ask is answered, and nothing else is.
 use Rattle.std.proofs.Common.{ℕ, ◌≡◌, ◌↔◌, ◌&&◌, Bool, true, false, not, List, Option, Some, None, IsTrue, IsSome, is_some, refl, sym, ap, ◌∙◌}
 use Rattle.nsi_primitive.specs.Printable.{is_ask}
-use Rattle.nsi_primitive.specs.Messages.{is_request, connection_of}
+use Rattle.nsi_primitive.specs.Messages.{is_request, connection_of, is_query}
 use Rattle.nsi_primitive.specs.declared.ask.ReserveAsk.{ReserveAsk}
 use Rattle.nsi_primitive.specs.declared.ask.What.{What}
 use Rattle.nsi_primitive.specs.declared.entry.Entry.{Entry}
@@ -20,7 +20,7 @@ use Rattle.agent_state.specs.Entries.{retry_of}
 use Rattle.agent_state.specs.State.{AgentState, AgentStepped, stays}
 use Rattle.agent_state.specs.declared.parent.View.{View}
 use Rattle.aggregator_agent.specs.Setting.{Setting as AggregatorSetting, setting_of as aggregator_of, agent_in}
-use Rattle.aggregator_agent.specs.Steps.{request_at, opens_between, opens, request_to, accepts, answers as aggregator_answers, hears, receives, sees, is_seen, ticks as aggregator_ticks, step as aggregator_step, after as aggregator_after, after_if as aggregator_if, may_take as aggregator_may, is_for_aggregator}
+use Rattle.aggregator_agent.specs.Steps.{request_at, opens_between, opens, request_to, accepts, answers as aggregator_answers, serves, hears, receives, sees, is_seen, ticks as aggregator_ticks, step as aggregator_step, after as aggregator_after, after_if as aggregator_if, may_take as aggregator_may, is_for_aggregator}
 use Rattle.requester_agent.specs.Queries.{query_for}
 use Rattle.requester_agent.specs.Setting.{Setting as RequesterSetting, setting_of as requester_of}
 use Rattle.requester_agent.specs.Steps.{find_view, asks_at, asks_new, asks_found, reserves, sends_query, asked_of, asked, hears_if, ticks as requester_ticks, acked, answers as requester_answers, step as requester_step, after as requester_after, after_if as requester_if, may_take as requester_may}
@@ -85,9 +85,13 @@ unfolding aggregator_answers
 answers_none (Some error) setting s m = refl
 answers_none None setting s m = accepts_none (connection_of m.body) setting s m
 
+serves_none : (is_query : Bool) (setting : AggregatorSetting) (s : AgentState) (m : Message) → Unanswered (serves is_query setting s m)
+serves_none true setting s m = refl
+serves_none false setting s m = answers_none (refusal setting.agent.name setting.stp_of s.base.records m) setting s m
+
 receives_none : (asks old : Bool) (setting : AggregatorSetting) (s : AgentState) (m : Message) → Unanswered (receives asks old setting s m)
 unfolding receives hears
-receives_none true false setting s m = answers_none (refusal setting.agent.name setting.stp_of s.base.records m) setting (sees m s) m
+receives_none true false setting s m = serves_none (is_query m.body) setting (sees m s) m
 receives_none false false setting s m = refl
 receives_none true true setting s m = refl
 receives_none false true setting s m = refl

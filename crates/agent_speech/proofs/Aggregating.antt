@@ -4,7 +4,7 @@ use Rattle.std.specs.Prelude.{sum_by}
 use Rattle.std.proofs.lemmas.List.Sums.{sum_by-cons, sum_by-append, sum_by-set}
 use Rattle.std.proofs.lemmas.Option.{slice_get_within, get_or_from_slice_get}
 use Rattle.nsi_primitive.specs.Ids.{id_of}
-use Rattle.nsi_primitive.specs.Messages.{is_request, connection_of}
+use Rattle.nsi_primitive.specs.Messages.{is_request, connection_of, is_query}
 use Rattle.nsi_primitive.specs.declared.entry.Input.{Input}
 use Rattle.nsi_primitive.specs.declared.kind.ErrorName.{ErrorName}
 use Rattle.nsi_primitive.specs.declared.message.Body.{Body}
@@ -26,13 +26,13 @@ use Rattle.connection_record.proofs.Saying.{tally_append, stays_speaks}
 use Rattle.connection_record.proofs.Unrefused.{unrefused_agent, unrefused_at}
 use Rattle.child_connection.specs.Views.{ChildConnection}
 use Rattle.agent_state.specs.declared.parent.Due.{Due}
-use Rattle.agent_state.specs.Entries.{error_reply, retry_of}
+use Rattle.agent_state.specs.Entries.{error_reply, retry_of, query_reply}
 use Rattle.agent_state.specs.State.{AgentState, AgentStepped, stays, record_at, no_record, name_or, children_at}
 use Rattle.aggregator_agent.specs.declared.agent.Agent.{Agent}
 use Rattle.aggregator_agent.specs.Asking.{Turn}
 use Rattle.aggregator_agent.specs.Clock.{tells_late, Told, tell_one, tell_all, is_late_of, ends, clocked, Clocked, clock_then, clock_all}
 use Rattle.aggregator_agent.specs.Setting.{Setting}
-use Rattle.aggregator_agent.specs.Steps.{is_seen, sees, children_for, request_at, with_new, opens_between, opens, request_to, accepts, answers, Passed, pass_then, hear_all, hears, receives, ticks, step}
+use Rattle.aggregator_agent.specs.Steps.{is_seen, sees, children_for, request_at, with_new, opens_between, opens, request_to, accepts, answers, Passed, pass_then, hear_all, hears, receives, ticks, step, serves}
 use Rattle.aggregator_agent.specs.Turns.{request_turn, answer_turn, spoken}
 use Rattle.agent_speech.specs.Owing.{answers_to, is_drawn, is_foreign, owed_under, owed_by, has_id, before, took, SaysWhatItOwes}
 use Rattle.agent_speech.specs.Unanswered.{reserves_at, answers_at, holding, held, misfitting, unfit, AreEven}
@@ -43,6 +43,10 @@ use Rattle.agent_speech.proofs.Noting.{saw_leaves, saw_other, new_request, saw_r
 use Rattle.agent_speech.proofs.Holding.{IsHolding, holds_still, holds_same, nothing_asked, answer_reserves, addressed_reserves}
 use Rattle.agent_speech.proofs.Asking.{Any, Unless, path_holds, path_fits}
 use Rattle.agent_speech.proofs.Turning.{IsTurning, request_turning, answer_turning, spoken_answers, spoken_drawn, spoken_own, spoken_reserves, lives_if_speaks, life_draws, ending_own}
+use Rattle.aggregator_agent.specs.Queries.{answer_to}
+use Rattle.agent_state.proofs.Querying.{replied_by, reply_header}
+use Rattle.aggregator_agent.proofs.Queried.{tells_rows}
+use Rattle.agent_speech.proofs.Queried.{rows_answer, rows_ask}
 
 -- what an entry says, what the views hold then but for what is heard, and that records and views stand side by side
 pub record IsStep (setting : Setting) (s : AgentState) (x : AgentStepped) : Type 0 where
@@ -147,6 +151,22 @@ module _ (setting : Setting) (s : AgentState) (m : Message) (asks : is_request m
         even = λ v. v;
       }
 
+  told_step : IsStep setting s (sends t (query_reply setting.agent.name m (answer_to setting.agent.name t m) ∷ []))
+  told_step =
+      let answer = answer_to setting.agent.name t m in
+      let reply = query_reply setting.agent.name m answer in
+      let answers : is_answering reply.body ≡ true =
+      replied_by (λ b. is_answering b ≡ true) setting.agent.name m answer (λ e plain. answer_is e) (λ body e. rows_answer body (tells_rows setting.agent.name t m body e))
+      in
+      let asks : is_asking reply.body ≡ false =
+      replied_by (λ b. is_asking b ≡ false) setting.agent.name m answer (λ e plain. answer_asks e) (λ body e. rows_ask body (tells_rows setting.agent.name t m body e))
+      in
+      record {
+        says = says_one setting.agent.name setting.agent.number s.base t.base m reply has_taken (reply_header setting.agent.name m answer) answers;
+        holds = λ v. holds_still s t _ refl refl (λ p c. answer_reserves p c reply [] asks ∙ nothing_asked p c);
+        even = λ v. v;
+      }
+
   at_step : (n : ℕ) → n < length s.base.records → (record_at n s.base.records).owner ≡ m.header.requester → m.header.provider ≡ setting.agent.name → IsStep setting s (request_at setting t n m)
   at_step n l o p =
       let a : IsPart setting m.header (record_at n s.base.records).owner t (request_at setting t n m) = request_part setting t n m l in
@@ -216,6 +236,10 @@ module _ (setting : Setting) (s : AgentState) (m : Message) (asks : is_request m
   unfolding answers
   answers_step (Some e) r = refused_step e
   answers_step None r = accepts_step (connection_of m.body) refl r
+
+  pub serves_step : (b : Bool) → IsStep setting s (serves b setting t m)
+  serves_step true = told_step
+  serves_step false = answers_step (refusal setting.agent.name setting.stp_of s.base.records m) refl
 
 ---- All else that came
 
@@ -325,7 +349,7 @@ hears_step setting s m other new =
 
 receives_step : (asks old : Bool) (setting : Setting) (s : AgentState) (m : Message) → is_request m.body ≡ asks → is_seen s m ≡ old → IsStep setting s (receives asks old setting s m)
 unfolding receives
-receives_step true false setting s m asks new = answers_step setting s m asks new (refusal setting.agent.name setting.stp_of s.base.records m) refl
+receives_step true false setting s m asks new = serves_step setting s m asks new (is_query m.body)
 receives_step false false setting s m asks new = hears_step setting s m asks new
 receives_step true true setting s m asks new = stays_step setting s
 receives_step false true setting s m asks new = stays_step setting s

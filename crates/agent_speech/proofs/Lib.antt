@@ -1,3 +1,4 @@
+pub mod Queried
 pub mod Measures
 pub mod Records
 pub mod Counting

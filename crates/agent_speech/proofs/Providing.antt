@@ -33,12 +33,13 @@ use Rattle.provider_agent.specs.Others.{lacking}
 use Rattle.provider_agent.specs.Setting.{Setting}
 use Rattle.provider_agent.specs.Steps.{messages_by, drawn, keeps, taken_at, with_new, opens_between, opens, accepts, answers, serves, receives, is_waiting, work_at, works, is_forcible, force_move, forces, ticks_at, is_told_at, told_at, Ticked, ticks_all, ticks, step, agent_of, own_origin}
 use Rattle.provider_agent.proofs.GoodAfter.{waits_within, forcible_within}
-use Rattle.provider_agent.proofs.Querying.{replied_by, reply_header}
+use Rattle.agent_state.proofs.Querying.{replied_by, reply_header}
 use Rattle.provider_agent.proofs.RequestCases.{seen_with, new_record}
 use Rattle.agent_speech.specs.Owing.{answers_to, is_drawn, is_foreign, owed_by, has_id, before, SaysWhatItOwes}
 use Rattle.agent_speech.proofs.Measures.{speaks_answers, speaks_drawn, speaks_own, none_begun, before_next}
 use Rattle.agent_speech.proofs.Records.{record_pushed}
 use Rattle.agent_speech.proofs.Once.{says_nothing, says_none, HasTaken, says_taken, says_one, IsTurned, by_itself, by_request, owed_set, owed_cons, owed_new, ids_set, ids_cons, ids_new}
+use Rattle.agent_speech.proofs.Queried.{rows_answer}
 
 pub told_next : (told : Bool) (number n c : ℕ) → drawn_if told (id_of number n) c + before number n c ≤ before number (n + drawn told) c
 told_next true number n c = before_next number n c
@@ -84,10 +85,6 @@ taken_turned setting s k m l =
 error_answers : (agent : List ℕ) (m : Message) (e : ErrorName) → is_answering (error_reply agent m e).body ≡ true
 unfolding is_answering is_asking is_noting
 error_answers agent m e = refl
-
-rows_answer : (body : Body) → has_rows body ≡ true → is_answering body ≡ true
-unfolding is_answering is_asking is_noting
-rows_answer body e = grind arith
 
 reply_answers : (setting : Setting) (s : State) (m : Message) → is_answering (query_reply setting.name m (answer_to setting.name s.now s.records m)).body ≡ true
 reply_answers setting s m =

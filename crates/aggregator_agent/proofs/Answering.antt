@@ -1,6 +1,6 @@
 -- What the definition makes of a request, exit by exit.
 use Rattle.std.proofs.Common.{◌≡◌, ◌∷◌, [], ℕ, Bool, true, false, Option, Some, None, List, ◌∙◌, refl, sym, ap}
-use Rattle.nsi_primitive.specs.Messages.{is_request, connection_of}
+use Rattle.nsi_primitive.specs.Messages.{is_request, is_query, connection_of}
 use Rattle.nsi_primitive.specs.declared.kind.ErrorName.{ErrorName}
 use Rattle.nsi_primitive.specs.declared.message.Body.{Body}
 use Rattle.nsi_primitive.specs.declared.message.Message.{Message}
@@ -10,10 +10,11 @@ use Rattle.nsi_primitive.specs.declared.entry.Input.{Input}
 use Rattle.nsi_primitive.specs.declared.message.Identity.{Identity}
 use Rattle.nsi_primitive.specs.declared.state.Machine.{Machine}
 use Rattle.connection_record.specs.Refusal.{refusal, unnamed_refusal, schedule_refusal, points_of, place_of}
-use Rattle.agent_state.specs.Entries.{error_reply}
+use Rattle.agent_state.specs.Entries.{error_reply, query_reply}
 use Rattle.agent_state.specs.State.{AgentState, stays, sends}
 use Rattle.aggregator_agent.specs.Setting.{Setting}
-use Rattle.aggregator_agent.specs.Steps.{accepts, answers, opens, opens_between, request_at, hears, receives, is_seen, sees, ticks, acknowledged, step}
+use Rattle.aggregator_agent.specs.Steps.{accepts, serves, answers, opens, opens_between, request_at, hears, receives, is_seen, sees, ticks, acknowledged, step}
+use Rattle.aggregator_agent.specs.Queries.{answer_to}
 use Rattle.aggregator_agent.specs.Step.{takes_new}
 
 pub answered_error : (setting : Setting) (s : AgentState) (m : Message) (error : ErrorName) → refusal setting.agent.name setting.stp_of s.base.records m ≡ Some error
@@ -53,7 +54,13 @@ opens_known setting s m q points e n h f = sym
     (ap (λ o. answers o setting s m) (known_none setting m q points e h f) ∙ ap (λ o. accepts o setting s m) n ∙ ap (λ b. opens b setting s m) e
     ∙ ap (λ o. opens_between o setting s m q) f)
 
-pub takes_request : (setting : Setting) (s : AgentState) (m : Message) → is_request m.body ≡ true → answers (refusal setting.agent.name setting.stp_of s.base.records m) setting s m ≡ takes_new (is_request m.body) setting s m
+pub serves_query : (setting : Setting) (s : AgentState) (m : Message) → is_query m.body ≡ true → sends s (query_reply setting.agent.name m (answer_to setting.agent.name s m) ∷ []) ≡ serves (is_query m.body) setting s m
+serves_query setting s m h = rw h refl
+
+pub serves_other : (setting : Setting) (s : AgentState) (m : Message) → is_query m.body ≡ false → answers (refusal setting.agent.name setting.stp_of s.base.records m) setting s m ≡ serves (is_query m.body) setting s m
+serves_other setting s m h = rw h refl
+
+pub takes_request : (setting : Setting) (s : AgentState) (m : Message) → is_request m.body ≡ true → serves (is_query m.body) setting s m ≡ takes_new (is_request m.body) setting s m
 takes_request setting s m h = rw h refl
 
 pub takes_other : (setting : Setting) (s : AgentState) (m : Message) → is_request m.body ≡ false → hears setting s m ≡ takes_new (is_request m.body) setting s m

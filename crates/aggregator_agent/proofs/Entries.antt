@@ -3,7 +3,7 @@ use Rattle.std.proofs.Common.{◌≡◌, ◌≤◌, ◌+◌, inl, ℕ, zero, suc
 use Rattle.std.specs.List.{All}
 use Rattle.std.proofs.lemmas.List.Elements.{All-nil, All-cons, All-append, All-head, All-tail, All-set}
 use Rattle.nsi_primitive.specs.Ids.{id_of}
-use Rattle.nsi_primitive.specs.Messages.{is_request, connection_of}
+use Rattle.nsi_primitive.specs.Messages.{is_request, is_query, connection_of}
 use Rattle.nsi_primitive.specs.Printable.{IsPrintable, IsPrintableInput, IsPrintableBody, has_further_keys}
 use Rattle.nsi_primitive.specs.declared.kind.ErrorName.{ErrorName}
 use Rattle.nsi_primitive.specs.declared.message.Body.{Body}
@@ -19,14 +19,17 @@ use Rattle.connection_record.specs.Refusal.{refusal, place_of, points_of, modifi
 use Rattle.connection_record.specs.Replies.{addressed}
 use Rattle.child_connection.specs.Views.{ChildConnection}
 use Rattle.agent_state.specs.declared.parent.Due.{Due}
-use Rattle.agent_state.specs.Entries.{error_reply}
-use Rattle.agent_state.specs.State.{AgentState, AgentStepped, stays, no_record, record_at, name_or, counts_agent}
+use Rattle.agent_state.specs.Entries.{error_reply, query_reply}
+use Rattle.agent_state.specs.State.{AgentState, AgentStepped, stays, sends, record_at, name_or, counts_agent}
 use Rattle.aggregator_agent.specs.declared.agent.Agent.{Agent}
 use Rattle.aggregator_agent.specs.Turns.{request_turn, answer_turn, spoken}
 use Rattle.aggregator_agent.specs.Clock.{Told, tell_one, tells_late, tell_all, is_late_of, ends, clocked, clock_then, clock_all}
 use Rattle.aggregator_agent.specs.Setting.{Setting}
-use Rattle.aggregator_agent.specs.Steps.{sees, is_seen, request_at, children_for, with_new, opens_between, opens, request_to, accepts, answers, pass_then, hear_all, hears, receives, ticks, step, may_take, after_if, after}
+use Rattle.aggregator_agent.specs.Steps.{sees, is_seen, request_at, children_for, with_new, opens_between, opens, request_to, accepts, answers, serves, pass_then, hear_all, hears, receives, ticks, step, may_take, after_if, after}
 use Rattle.aggregator_agent.specs.Good.{IsWritable, IsGood}
+use Rattle.aggregator_agent.specs.Queries.{answer_to}
+use Rattle.agent_state.proofs.Querying.{replied_by}
+use Rattle.aggregator_agent.proofs.Queried.{reply_asks_nothing, tells_printable, writable_at}
 use Rattle.aggregator_agent.specs.Laws.{AreDrawn}
 use Rattle.aggregator_agent.proofs.MildReplies.{AreMild, both_mild, IsMildMoved, stays_mild, writable_later, lives_mild}
 use Rattle.aggregator_agent.proofs.Mild.{AreLaws, IsMildAsking, none_mild, drawn_none, drawn_up, drawn_then, drawn_addressed, addressed_printable}
@@ -40,14 +43,6 @@ pub record IsMildStep (agent : ℕ) (s : AgentState) (x : AgentStepped) : Type 0
 
 stays_step : (agent : ℕ) (s : AgentState) → IsGood s → IsMildStep agent s (stays s)
 stays_step agent s g = record { good = g; said = none_mild agent s.base.next; answer = refl }
-
-none_writable : IsWritable no_record
-none_writable = record { description = tt; global = tt }
-
-writable_at : (n : ℕ) (rs : List Record) → All IsWritable rs → IsWritable (record_at n rs)
-writable_at n [] g = none_writable
-writable_at zero (r ∷ rs) g = All-head IsWritable r rs g
-writable_at (suc n) (r ∷ rs) g = writable_at n rs (All-tail IsWritable r rs g)
 
 ---- All connections
 
@@ -203,10 +198,31 @@ heard_step laws setting s m g =
     let all = heard_mildly laws setting.agent s.base.now 0 m s.base.next s.base.records s.children g in
     record { good = all.good; said = all.said; answer = refl }
 
+replied_step : (setting : Setting) (s : AgentState) (m : Message) → IsGood s → IsMildStep setting.agent.number s (sends s (query_reply setting.agent.name m (answer_to setting.agent.name s m) ∷ []))
+unfolding AreDrawn
+replied_step setting s m g =
+    let answer = answer_to setting.agent.name s m in
+    record {
+      good = g;
+      said = record {
+        prints =
+            All-cons IsPrintable (query_reply setting.agent.name m answer) []
+            (replied_by IsPrintableBody setting.agent.name m answer (λ error plain. plain) (λ body e. tells_printable setting.agent.name s m body g e)) (All-nil IsPrintable);
+        drawn =
+            inl (reply_asks_nothing setting.agent.name s m, omega arith);
+      };
+      answer = refl;
+    }
+
+served_step : AreLaws → (is_query : Bool) (setting : Setting) (s : AgentState) (m : Message) → IsPrintable m → IsGood s → IsMildStep setting.agent.number s (serves is_query setting s m)
+served_step laws true setting s m p g = replied_step setting s m g
+served_step laws false setting s m p g =
+    answered_step laws setting s m (refusal setting.agent.name setting.stp_of s.base.records m) (refusal_plain setting.agent.name setting.stp_of s.base.records m) p g
+
 received_step : AreLaws → (is_request is_old : Bool) (setting : Setting) (s : AgentState) (m : Message) → IsPrintable m → IsGood s → IsMildStep setting.agent.number s (receives is_request is_old setting s m)
 unfolding receives
 received_step laws true false setting s m p g =
-    let x = answered_step laws setting (sees m s) m (refusal setting.agent.name setting.stp_of s.base.records m) (refusal_plain setting.agent.name setting.stp_of s.base.records m) p g in
+    let x = served_step laws (is_query m.body) setting (sees m s) m p g in
     record { good = x.good; said = x.said; answer = x.answer }
 received_step laws false false setting s m p g =
     let x = heard_step laws setting (sees m s) m g in

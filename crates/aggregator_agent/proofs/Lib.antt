@@ -13,6 +13,7 @@ pub mod Chaining
 pub mod MildReplies
 pub mod Mild
 pub mod MildTurns
+pub mod Queried
 pub mod Entries
 pub mod Steady
 pub mod Requested

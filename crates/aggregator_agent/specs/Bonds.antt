@@ -13,7 +13,8 @@ use Rattle.aggregator_agent.specs.declared.agent.Agent.{Agent}
 use Rattle.aggregator_agent.specs.declared.connection.Connection.{Connection}
 use Rattle.aggregator_agent.specs.declared.said.Said.{Said}
 use Rattle.aggregator_agent.specs.Asking.{Turn, with_path}
-use Rattle.aggregator_agent.specs.Turns.{request_turn, answer_turn, spoken}
+use Rattle.nsi_query.specs.Summary.{Shown}
+use Rattle.aggregator_agent.specs.Turns.{joined_of, request_turn, answer_turn, spoken}
 use Rattle.aggregator_agent.specs.Clock.{Told, due_for, tell_one, tells_more, ends}
 
 -- its own record, and the views of its children
@@ -38,6 +39,10 @@ records_of bs = map own_of bs
 
 abbrev pub children_of : List Bond → List (List ChildConnection)
 children_of bs = map views_in bs
+
+-- with the status over its children
+abbrev pub shown_of : Bond → Shown
+shown_of b = (b.own, joined_of b.children)
 
 -- a connection with an id, of an owner
 abbrev pub is_owned : ℕ → List ℕ → Connection → Bool

@@ -3,6 +3,7 @@ pub mod Asking
 pub mod Settling
 pub mod Turns
 pub mod Clock
+pub mod Queries
 pub mod Steps
 pub mod Entering
 pub mod Connections

@@ -2,9 +2,9 @@
 use Rattle.std.specs.Prelude.{◌≡◌, ◌++◌, ℕ, Bool, true, false, List, Result, OnOk, OnErr, IfOk}
 use Rattle.std.specs.Global.{Vec}
 use Rattle.std.specs.declared.alloc.AllocError.{AllocError}
+use Rattle.nsi_primitive.specs.Messages.{is_query}
 use Rattle.nsi_primitive.specs.declared.message.Message.{Message}
 use Rattle.stp_topology.specs.declared.network.Network.{Network}
-use Rattle.connection_record.specs.Refusal.{refusal}
 use Rattle.agent_state.specs.declared.parent.Due.{Due}
 use Rattle.agent_state.specs.declared.parent.Leg.{Leg}
 use Rattle.agent_state.specs.State.{AgentState, AgentStepped, counts_agent}
@@ -12,7 +12,7 @@ use Rattle.aggregator_agent.specs.declared.aggregator_core.Core.{Core}
 use Rattle.aggregator_agent.specs.declared.outbox.Outbox.{Outbox}
 use Rattle.aggregator_agent.specs.declared.said.Said.{Said}
 use Rattle.aggregator_agent.specs.Setting.{Setting, IsRoute, setting_of}
-use Rattle.aggregator_agent.specs.Steps.{answers, hears}
+use Rattle.aggregator_agent.specs.Steps.{serves, hears}
 use Rattle.aggregator_agent.specs.Core.{state_at}
 
 -- what is said waits for its acknowledgement
@@ -53,7 +53,7 @@ pub record IsTakenBy (t : Network) (old new : Core) (result : Answer) (makes : S
 
 -- a message that was counted just now
 abbrev pub takes_new : (is_request : Bool) → Setting → AgentState → Message → AgentStepped
-takes_new true setting s m = answers (refusal setting.agent.name setting.stp_of s.base.records m) setting s m
+takes_new true setting s m = serves (is_query m.body) setting s m
 takes_new false setting s m = hears setting s m
 
 ---- What is kept of what was said

@@ -15,12 +15,13 @@ use Rattle.connection_record.specs.Moves.{fresh, service_of}
 use Rattle.connection_record.specs.Refusal.{refusal, place_of, points_of}
 use Rattle.child_connection.specs.Views.{ChildConnection}
 use Rattle.agent_state.specs.declared.parent.Due.{Due}
-use Rattle.agent_state.specs.Entries.{is_on_time, most_entries, error_reply, retry_of, with_retry}
+use Rattle.agent_state.specs.Entries.{is_on_time, is_recursive, most_entries, error_reply, query_reply, retry_of, with_retry}
 use Rattle.agent_state.specs.State.{AgentState, AgentStepped, stays, sends, counts_agent, record_at, children_at, name_or}
 use Rattle.aggregator_agent.specs.declared.agent.Agent.{Agent}
 use Rattle.aggregator_agent.specs.Setting.{Setting}
 use Rattle.aggregator_agent.specs.Asking.{Turn, with_path}
 use Rattle.aggregator_agent.specs.Turns.{request_turn, answer_turn, spoken}
+use Rattle.aggregator_agent.specs.Queries.{answer_to}
 use Rattle.aggregator_agent.specs.Clock.{Clocked, clock_all, due_for, told_dues}
 
 ---- Messages that came
@@ -129,9 +130,14 @@ with_passed s p =
 unfoldable pub hears : Setting → AgentState → Message → AgentStepped
 hears setting s m = with_passed s (hear_all setting.agent s.base.now 0 m s.base.next s.base.records s.children)
 
+-- a query is answered at once by what the agent has, which stays as it is; every other request is one to do something
+abbrev pub serves : (is_query : Bool) → Setting → AgentState → Message → AgentStepped
+serves true setting s m = sends s (query_reply setting.agent.name m (answer_to setting.agent.name s m) ∷ [])
+serves false setting s m = answers (refusal setting.agent.name setting.stp_of s.base.records m) setting s m
+
 -- a message is taken once
 unfoldable pub receives : (is_request is_old : Bool) → Setting → AgentState → Message → AgentStepped
-receives true false setting s m = answers (refusal setting.agent.name setting.stp_of s.base.records m) setting (sees m s) m
+receives true false setting s m = serves (is_query m.body) setting (sees m s) m
 receives false false setting s m = hears setting (sees m s) m
 receives _ true setting s m = stays s
 
@@ -153,10 +159,10 @@ acknowledged i s = record s { base = record s.base { waiting = without i s.base.
 
 ---- One entry
 
--- an aggregator has no asks of its own, and answers no query yet
+-- an aggregator has no asks of its own, and answers no queryRecursive yet
 abbrev pub is_for_aggregator : Input → Bool
 is_for_aggregator (Input.Ask _ _) = false
-is_for_aggregator (Input.Got m) = not (is_query m.body)
+is_for_aggregator (Input.Got m) = not (is_recursive m.body)
 is_for_aggregator _ = true
 
 abbrev pub may_take : AgentState → Entry → Bool

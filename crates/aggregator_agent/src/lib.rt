@@ -20,6 +20,7 @@ mod moving;
 mod outbox;
 mod passing;
 mod planes;
+mod query;
 mod receive;
 mod requesting;
 mod rounds;

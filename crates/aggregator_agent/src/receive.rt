@@ -1,14 +1,14 @@
 //! How messages are taken.
 
 ghost use Rattle.std.specs.Prelude.{◌≡◌, ◌<◌, ◌∷◌, [], length, IfOk, IfSome, IsSome, None, Some};
-ghost use Rattle.nsi_primitive.specs.Messages.{is_request, connection_of};
+ghost use Rattle.nsi_primitive.specs.Messages.{is_request, is_query, connection_of};
 ghost use Rattle.nsi_primitive.specs.declared.message.Body.{Body as BodyValue};
 ghost use Rattle.connection_record.specs.Moves.{fresh, service_of};
 ghost use Rattle.connection_record.specs.Refusal.{refusal, unnamed_refusal, points_of};
 ghost use Rattle.agent_state.specs.State.{name_or, sends};
 ghost use Rattle.agent_state.specs.Entries.{error_reply};
 ghost use Rattle.stp_topology.specs.Network.{stp_of};
-ghost use Rattle.aggregator_agent.specs.Steps.{receives, answers, opens_between, request_at, is_seen};
+ghost use Rattle.aggregator_agent.specs.Steps.{receives, serves, answers, opens_between, request_at, is_seen};
 ghost use Rattle.aggregator_agent.specs.Step.{IsStep, IsStepBy, takes_new};
 
 use crate::aggregator_core::Core;
@@ -61,13 +61,32 @@ impl Core {
         ensures taken { self.new.taken ≡ self.old.taken }
     {
         if message.is_request() {
-            self.answer(alloc, topology, message)
+            self.serve(alloc, topology, message)
         } else {
             self.hear(alloc, message)
         }
     }
 
-    /// Answers a request.
+    /// Serves a request.
+    fn serve(
+        &mut self,
+        alloc: Global,
+        topology: &Topology,
+        message: &Message,
+    ) -> Result<Vec<Message>, AllocError>
+        ensures step { let m = message.now in
+            IsStepBy topology.now self.old self.new result
+            (λ setting s. serves (is_query m.body) setting s m) }
+        ensures taken { self.new.taken ≡ self.old.taken }
+    {
+        if message.is_query() {
+            self.reply(alloc, message)
+        } else {
+            self.answer(alloc, topology, message)
+        }
+    }
+
+    /// Answers a request that is no query.
     fn answer(
         &mut self,
         alloc: Global,

@@ -4,7 +4,7 @@ use Rattle.std.specs.List.{All}
 use Rattle.std.proofs.lemmas.Bool.{cases_eq}
 use Rattle.std.proofs.lemmas.List.Elements.{All-nil, All-map, Contains-append_left, Contains-append_right, Contains-append_cases}
 use Rattle.nsi_primitive.specs.Ids.{id_of}
-use Rattle.nsi_primitive.specs.Messages.{connection_of, is_request}
+use Rattle.nsi_primitive.specs.Messages.{connection_of, is_request, is_query}
 use Rattle.nsi_primitive.specs.declared.entry.Entry.{Entry}
 use Rattle.nsi_primitive.specs.declared.entry.Input.{Input}
 use Rattle.nsi_primitive.specs.declared.kind.ErrorName.{ErrorName}
@@ -26,14 +26,14 @@ use Rattle.connection_record.proofs.Unrefused.{unrefused_fits, reserve_row}
 use Rattle.child_connection.specs.Views.{ChildConnection}
 use Rattle.agent_state.specs.declared.parent.Due.{Due}
 use Rattle.agent_state.specs.declared.parent.Leg.{Leg}
-use Rattle.agent_state.specs.Entries.{error_reply}
+use Rattle.agent_state.specs.Entries.{error_reply, query_reply}
 use Rattle.agent_state.specs.State.{AgentState, AgentStepped, no_record, record_at, children_at, name_or, stays}
 use Rattle.aggregator_agent.specs.declared.agent.Agent.{Agent}
 use Rattle.aggregator_agent.specs.Asking.{Turn, with_path, view_of, views_of}
 use Rattle.aggregator_agent.specs.Clock.{Told, tells_late, tell_one, tell_all, is_late_of, ends, clocked, clock_then, clock_all}
 use Rattle.aggregator_agent.specs.Setting.{Setting}
 use Rattle.aggregator_agent.specs.Settling.{is_held}
-use Rattle.aggregator_agent.specs.Steps.{sees, is_seen, children_for, request_at, with_new, opens_between, opens, request_to, accepts, answers, pass_then, hear_all, hears, receives, ticks, acknowledged, step, after_if, after, may_take}
+use Rattle.aggregator_agent.specs.Steps.{sees, is_seen, children_for, request_at, with_new, opens_between, opens, request_to, accepts, answers, pass_then, hear_all, hears, receives, ticks, acknowledged, step, after_if, after, may_take, serves}
 use Rattle.aggregator_agent.specs.Turns.{takes, request_turn, answer_turn, spoken}
 use Rattle.circuit_link.proofs.Aggregators.{request_from, answer_from, clocked_course}
 use Rattle.circuit_link.proofs.Answering.{only_one}
@@ -48,6 +48,9 @@ use Rattle.circuit_fit.proofs.Owning.{IsAsBefore, as_itself, as_then, lives_if_a
 use Rattle.circuit_fit.proofs.Turning.{taken_fits, first_fits, spoken_asked}
 use Rattle.circuit_fit.specs.Laws.{EntriesKeepTheFit, EntriesKeepTheEnded}
 use Rattle.circuit_fit.proofs.Ending.{dead_then, IsTurned, Anything, rests_turned, answer_turned, request_turned}
+use Rattle.aggregator_agent.specs.Queries.{answer_to}
+use Rattle.aggregator_agent.proofs.Queried.{reply_asks_nothing}
+use Rattle.std.proofs.lemmas.Bool.{false≢true}
 
 ---- Lists side by side
 
@@ -436,6 +439,12 @@ module _ (setting : Setting) (s : AgentState) (even : length s.children ≡ leng
         error_quiet m error z i e = no_request (connection_of m.body) (plain setting.agent.name error) (sym (ap (λ (y : Message). is_request y.body) (only_one (error_reply setting.agent.name m error) z i)) ∙ e)
     answering None r = accepting (connection_of m.body) refl r
 
+    serving : (b : Bool) → Taken (serves b setting s' m)
+    serving true =
+        let reply = query_reply setting.agent.name m (answer_to setting.agent.name s' m) in
+        still (reply ∷ []) (λ z i e. false≢true (sym (reply_asks_nothing setting.agent.name s' m) ∙ ap (λ (y : Message). is_request y.body) (sym (only_one reply z i)) ∙ e))
+    serving false = answering (refusal setting.agent.name setting.stp_of s'.base.records m) refl
+
   ---- Any entry
 
   -- what comes is honest to a connection, if anything comes
@@ -458,8 +467,7 @@ module _ (setting : Setting) (s : AgentState) (even : length s.children ≡ leng
   receiving : (m : Message) (a b : Bool) → is_request m.body ≡ a → Entered (Input.Got m) (receives a b setting s m)
   unfolding receives saw
   receiving m true false q =
-      anything_entered (Input.Got m) (answers (refusal setting.agent.name setting.stp_of s.base.records m) setting (sees m s) m)
-      (answering (sees m s) refl refl m (refusal setting.agent.name setting.stp_of s.base.records m) refl)
+      anything_entered (Input.Got m) (serves (is_query m.body) setting (sees m s) m) (serving (sees m s) refl refl m (is_query m.body))
   receiving m false false q = heard_entered m
   receiving m true true q = anything_entered (Input.Got m) (stays s) (rests [] none_said)
   receiving m false true q = anything_entered (Input.Got m) (stays s) (rests [] none_said)

@@ -1,9 +1,9 @@
 -- What each entry of an aggregator does to its records, as its parents' views see it.
-use Rattle.std.proofs.Common.{ℕ, ◌≡◌, ◌+◌, Bool, true, false, List, [], ◌∷◌, ◌++◌, length, Option, Some, None, inl, inr, ◌&&◌, refl, sym, ap, ◌∙◌, subst, arith, slice_set, append_assoc, append-nil, option_map, bytes_eq, if◌then◌else◌}
+use Rattle.std.proofs.Common.{ℕ, ◌≡◌, ◌+◌, Bool, true, false, List, [], ◌∷◌, ◌++◌, length, Option, Some, None, inl, inr, ◌&&◌, refl, sym, ap, ◌∙◌, subst, arith, slice_set, append_assoc, append-nil, option_map, bytes_eq, if◌then◌else◌, true≢false, option_and_then, is_some}
 use Rattle.std.proofs.lemmas.List.Elements.{Contains-append_cases}
 use Rattle.std.specs.List.{list_any}
 use Rattle.nsi_primitive.specs.Ids.{id_of}
-use Rattle.nsi_primitive.specs.Messages.{identity, kind_of, connection_of, is_request}
+use Rattle.nsi_primitive.specs.Messages.{identity, kind_of, connection_of, is_request, is_query}
 use Rattle.nsi_primitive.specs.declared.entry.Entry.{Entry}
 use Rattle.nsi_primitive.specs.declared.entry.Input.{Input}
 use Rattle.nsi_primitive.specs.declared.kind.ErrorName.{ErrorName}
@@ -29,27 +29,31 @@ use Rattle.connection_record.specs.declared.moves.Reply.{Reply}
 use Rattle.connection_record.specs.Applied.{is_terminating}
 use Rattle.connection_record.specs.Courses.{Course}
 use Rattle.connection_record.specs.Moves.{is_live}
-use Rattle.connection_record.specs.Refusal.{refusal, points_of}
+use Rattle.connection_record.specs.Refusal.{refusal, points_of, place_of}
 use Rattle.connection_record.specs.Replies.{Moved, stays, addressed}
 use Rattle.connection_record.specs.Speaking.{is_answering, is_asking, is_noting}
 use Rattle.connection_record.proofs.Courses.{course_after, merges_append, merges_first}
 use Rattle.agent_state.specs.declared.parent.Due.{Due}
-use Rattle.agent_state.specs.Entries.{retry_of, with_retry}
-use Rattle.agent_state.specs.State.{AgentState, AgentStepped, record_at}
+use Rattle.agent_state.specs.Entries.{retry_of, with_retry, reply_by}
+use Rattle.agent_state.specs.State.{AgentState, AgentStepped, record_at, sends}
 use Rattle.aggregator_agent.specs.declared.agent.Agent.{Agent}
 use Rattle.aggregator_agent.specs.Asking.{Turn, Asked, Asking, begin, replies_by, notices_by, notices_under, ask_one, each, asks_by, if_free, if_apart, request_if, reserve_if, passed_on, pass_one}
 use Rattle.aggregator_agent.specs.Clock.{Told, tells_more, tells_late, tell_one, tell_all, is_late_of, ends, clocked, clock_then, clock_all}
 use Rattle.aggregator_agent.specs.Setting.{Setting}
 use Rattle.aggregator_agent.specs.Settling.{settles, settle}
-use Rattle.aggregator_agent.specs.Steps.{sees, is_seen, children_for, request_at, with_new, opens_between, opens, request_to, accepts, answers, pass_then, hear_all, hears, receives, ticks, step, after_if, after, may_take}
+use Rattle.aggregator_agent.specs.Steps.{sees, is_seen, children_for, request_at, with_new, opens_between, opens, request_to, accepts, answers, pass_then, hear_all, hears, receives, ticks, step, after_if, after, may_take, serves}
 use Rattle.aggregator_agent.specs.Turns.{joined_of, tell_joined, pass_on, takes, turn_by_request, request_turn, loses, breaks, late_terminate, hear_one, hold_ends, force_ends, heard_by, turn_by_answer, answer_turn, spoken}
 use Rattle.circuit_link.specs.Serving.{child_of, IsByItself, Tells, TakeCourses, IsTurn, IsNew, IsAbout, Serves}
-use Rattle.circuit_link.proofs.Abouts.{addressed_append}
+use Rattle.circuit_link.proofs.Abouts.{addressed_append, same_bytes}
 use Rattle.circuit_link.proofs.Acting.{settles_course, hold_course, force_course, plane_course, ends_course, late_course}
 use Rattle.circuit_link.proofs.Answering.{only_one}
 use Rattle.circuit_link.proofs.Gathering.{AnswersNothing, tells_addressed, tells_spoken, no_courses, more_courses}
 use Rattle.circuit_link.proofs.Living.{itself_same, itself_then, itself_append, hold_itself, plane_itself, settles_itself, forced_itself, ends_itself, late_itself}
 use Rattle.circuit_link.proofs.Requests.{refused_by, found_by, first_by, unnamed_kind, reserve_unnamed}
+use Rattle.aggregator_agent.specs.Queries.{answer_by, answer_to, shown_at}
+use Rattle.aggregator_agent.proofs.Queried.{tells_rows}
+use Rattle.nsi_query.specs.Answers.{answer_about}
+use Rattle.nsi_query.proofs.Answering.{queries_are_answered}
 
 ---- What children are asked is no answer
 
@@ -373,6 +377,25 @@ module _ (setting : Setting) (input : Input) (said : List Message) where
     answering (Some error) r = Serves.refuses m error new (refused_by name setting.stp_of m error (child_of s.base said) r) refl refl
     answering None r = accepting (connection_of m.body) refl r
 
+    -- a query is answered by rows, or refused
+    is_there : (n id : ℕ) → is_query m.body ≡ true → answer_to name seen_now m ≡ None → connection_of m.body ≡ Some id → place_of id m.header.requester s.base.records ≡ Some n → ⊥
+    is_there n id q e names at =
+        true≢false
+        (sym (ap (λ o. is_some (answer_by o name seen_now m)) names ∙ ap (λ o. is_some (option_and_then (λ k. answer_about name (shown_at k seen_now) m.body) o)) at ∙ queries_are_answered name (shown_at n seen_now) m.body ∙ q)
+        ∙ ap is_some e)
+
+    another : bytes_eq m.header.provider name ≡ false → m.header.provider ≡ name → ⊥
+    another e is = true≢false (sym (same_bytes name) ∙ sym (ap (λ p. bytes_eq p name) is) ∙ e)
+
+    telling : is_query m.body ≡ true → (b : Bool) (o : Option Body) → bytes_eq m.header.provider name ≡ b → answer_to name seen_now m ≡ o → Does s (sends seen_now (reply_by b o name m ∷ []))
+    telling q true (Some body) p e = Serves.tells m body new q (tells_rows name seen_now m body e) refl refl
+    telling q true None p e = Serves.refuses m ErrorName.Nonexistent new (λ n id own names at. absurd (is_there n id q e names at)) refl refl
+    telling q false o p e = Serves.refuses m ErrorName.WrongProvider new (λ n id own names at. absurd (another p own)) refl refl
+
+    serving : (b : Bool) → is_query m.body ≡ b → Does s (serves b setting seen_now m)
+    serving true q = telling q (bytes_eq m.header.provider name) (answer_to name seen_now m) refl refl
+    serving false q = answering (refusal name setting.stp_of s.base.records m) refl
+
   ---- Any message
 
   sees_request : (m : Message) (s : AgentState) → is_request m.body ≡ true → sees m s ≡ record s { base = record s.base { seen = with_taken m.header s.base.seen } }
@@ -397,8 +420,7 @@ module _ (setting : Setting) (input : Input) (said : List Message) where
   receiving : (m : Message) (s : AgentState) (a b : Bool) → input ≡ Input.Got m → is_request m.body ≡ a → is_seen s m ≡ b → Does s (receives a b setting s m)
   unfolding receives
   receiving m s true false got q o =
-      subst (λ z. Does s (answers (refusal setting.agent.name setting.stp_of s.base.records m) setting z m)) (sym (sees_request m s q))
-      (answering m s got q (sym (old_request m s q) ∙ o) (refusal setting.agent.name setting.stp_of s.base.records m) refl)
+      subst (λ z. Does s (serves (is_query m.body) setting z m)) (sym (sees_request m s q)) (serving m s got q (sym (old_request m s q) ∙ o) (is_query m.body) refl)
   receiving m s false false got q o = heard_serve m s (sees m s) refl (sees_other m s q)
   receiving m s true true got q o = nothing s s refl refl
   receiving m s false true got q o = nothing s s refl refl

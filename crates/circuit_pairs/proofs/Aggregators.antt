@@ -3,7 +3,7 @@ use Rattle.std.proofs.Common.{ℕ, ◌≡◌, ◌<◌, ◌≤◌, Bool, true, fa
 use Rattle.std.proofs.lemmas.Bool.{cases_eq}
 use Rattle.std.proofs.lemmas.List.Elements.{Contains-append_cases}
 use Rattle.nsi_primitive.specs.Ids.{id_of}
-use Rattle.nsi_primitive.specs.Messages.{kind_of, connection_of, is_request}
+use Rattle.nsi_primitive.specs.Messages.{kind_of, connection_of, is_request, is_query}
 use Rattle.nsi_primitive.specs.declared.entry.Entry.{Entry}
 use Rattle.nsi_primitive.specs.declared.entry.Input.{Input}
 use Rattle.nsi_primitive.specs.declared.kind.ErrorName.{ErrorName}
@@ -20,13 +20,13 @@ use Rattle.connection_record.specs.Refusal.{refusal, points_of}
 use Rattle.connection_record.specs.Replies.{Moved, addressed}
 use Rattle.connection_record.specs.Speaking.{tally, is_answering, asks_for}
 use Rattle.connection_record.proofs.Saying.{takes_speaks}
-use Rattle.agent_state.specs.Entries.{error_reply}
+use Rattle.agent_state.specs.Entries.{error_reply, query_reply}
 use Rattle.agent_state.specs.State.{AgentState, AgentStepped, record_at, children_at}
 use Rattle.aggregator_agent.specs.declared.agent.Agent.{Agent}
 use Rattle.aggregator_agent.specs.Asking.{Turn, Asking, passed_on, pass_each}
 use Rattle.aggregator_agent.specs.Clock.{clock_all}
 use Rattle.aggregator_agent.specs.Setting.{Setting}
-use Rattle.aggregator_agent.specs.Steps.{sees, is_seen, children_for, request_at, with_new, opens_between, opens, request_to, accepts, answers, Passed, hear_all, hears, receives, ticks, step, after_if, after, may_take}
+use Rattle.aggregator_agent.specs.Steps.{sees, is_seen, children_for, request_at, with_new, opens_between, opens, request_to, accepts, answers, Passed, hear_all, hears, receives, ticks, step, after_if, after, may_take, serves}
 use Rattle.aggregator_agent.specs.Turns.{takes, request_turn, spoken}
 use Rattle.circuit_link.specs.Children.{Child, about, header_of, IsFair}
 use Rattle.circuit_link.proofs.Aggregators.{request_from}
@@ -37,7 +37,9 @@ use Rattle.circuit_pairs.specs.Minding.{ReservesNothing, Minds, no_child, mine, 
 use Rattle.circuit_pairs.proofs.Minding.{alike_same, alike_then, alike_pair, more_pair, minding_pair}
 use Rattle.circuit_pairs.proofs.Overseeing.{turn_asks, clock_reserves, request_children, all_hear, hear_all_reserves, path_slot}
 use Rattle.circuit_pairs.proofs.Parenting.{dec_pair, passed_may, fresh_later, each_pair}
-use Rattle.circuit_pairs.proofs.Plain.{none_reserves, addressed_asks, addressed_reserves, error_reserves}
+use Rattle.circuit_pairs.proofs.Plain.{none_reserves, addressed_asks, addressed_reserves, answer_reserves, error_reserves}
+use Rattle.aggregator_agent.specs.Queries.{answer_to}
+use Rattle.aggregator_agent.proofs.Queried.{reply_asks_nothing}
 
 beyond : {X : Type 0} (xs : List X) (d : X) → get_or xs (length xs) d ≡ d
 beyond [] d = refl
@@ -169,6 +171,10 @@ module _ (set : Setting) (child : List ℕ) (d : Child) (fair : IsFair set.agent
       answering (Some error) r = resting (error_reply parent m error ∷ []) (error_reserves child parent m error)
       answering None r = accepting (connection_of m.body) refl r
 
+      serving : (b : Bool) → Now (serves b set s' m)
+      serving true = resting (query_reply parent m (answer_to parent s' m) ∷ []) (answer_reserves child (query_reply parent m (answer_to parent s' m)) (reply_asks_nothing parent s' m))
+      serving false = answering (refusal parent set.stp_of s'.base.records m) refl
+
     ---- A message of a child
 
     module _ (once : IsOnce set.agent.name asked) (input : Input)
@@ -189,7 +195,7 @@ module _ (set : Setting) (child : List ℕ) (d : Child) (fair : IsFair set.agent
 
       receiving : (m : Message) (a b : Bool) → input ≡ Input.Got m → is_request m.body ≡ a → Now (receives a b set s m)
       unfolding receives saw
-      receiving m true false got q = answering (sees m s) refl (saw_rows m) refl m (refusal parent set.stp_of s.base.records m) (ap (λ z. refusal parent set.stp_of z m) (saw_rows m))
+      receiving m true false got q = serving (sees m s) refl (saw_rows m) refl m (is_query m.body)
         where
           saw_rows : (m : Message) → (sees m s).base.records ≡ s.base.records
           saw_rows m = refl

@@ -66,10 +66,17 @@ addressed_reserves child name owner xs e m i r p = addressed_asks name owner xs 
 pub split_asks : (xs ys : List Reply) → tally asks_for (xs ++ ys) ≡ 0 → (tally asks_for xs ≡ 0) × (tally asks_for ys ≡ 0)
 split_asks xs ys e = (omega (arith, tally_append asks_for xs ys, e), omega (arith, tally_append asks_for xs ys, e))
 
--- an error
-pub error_reserves : (child name : List ℕ) (m : Message) (error : ErrorName) → ReservesNothing child (error_reply name m error ∷ [])
+reservation_asks : (body : Body) → is_reservation (kind_of body) ≡ true → is_request body ≡ true
 unfolding is_reservation
-error_reserves child name m error n i r p = elim (contains_first (error_reply name m error) n [] i) [
-  | inl q ↦ true≢false (sym r ∙ ap (λ (z : Message). is_reservation (kind_of z.body)) q)
+reservation_asks body e = grind (arith, e)
+
+-- one answer
+pub answer_reserves : (child : List ℕ) (m : Message) → is_request m.body ≡ false → ReservesNothing child (m ∷ [])
+answer_reserves child m e n i r p = elim (contains_first m n [] i) [
+  | inl q ↦ true≢false (sym (reservation_asks n.body r) ∙ ap (λ (z : Message). is_request z.body) q ∙ e)
   | inr j ↦ nothing_in n j
 ]
+
+-- an error
+pub error_reserves : (child name : List ℕ) (m : Message) (error : ErrorName) → ReservesNothing child (error_reply name m error ∷ [])
+error_reserves child name m error = answer_reserves child (error_reply name m error) refl

@@ -9,6 +9,7 @@ pub(crate) mod modifications;
 pub(crate) mod plain_provider;
 pub(crate) mod playing;
 pub(crate) mod provisioning;
+pub(crate) mod queried;
 pub(crate) mod queries;
 pub(crate) mod rows;
 pub(crate) mod terminating;

@@ -1,6 +1,6 @@
 -- What an aggregator's step leaves alone: it counts nothing, and puts nothing to what waits; it notes the message that came.
 use Rattle.std.proofs.Common.{◌≡◌, inl, inr, ℕ, Bool, true, false, Option, Some, None, refl}
-use Rattle.nsi_primitive.specs.Messages.{is_request, connection_of}
+use Rattle.nsi_primitive.specs.Messages.{is_request, connection_of, is_query}
 use Rattle.nsi_primitive.specs.declared.entry.Input.{Input}
 use Rattle.nsi_primitive.specs.declared.kind.ErrorName.{ErrorName}
 use Rattle.nsi_primitive.specs.declared.message.Body.{Body}
@@ -11,7 +11,7 @@ use Rattle.connection_record.specs.Refusal.{refusal, place_of, points_of}
 use Rattle.agent_state.specs.Entries.{retry_of}
 use Rattle.agent_state.specs.State.{State, AgentState}
 use Rattle.aggregator_agent.specs.Setting.{Setting}
-use Rattle.aggregator_agent.specs.Steps.{step, receives, answers, accepts, opens, opens_between, request_to, request_at, hears, ticks, sees, is_seen}
+use Rattle.aggregator_agent.specs.Steps.{step, receives, serves, answers, accepts, opens, opens_between, request_to, request_at, hears, ticks, sees, is_seen}
 use Rattle.nsi_agent.proofs.ProviderKeeps.{IsStep, IsQuiet, IsSameSeen, HasSeen}
 
 saw_waiting : (is_request : Bool) (m : Message) (s : AgentState) → (saw_if is_request m (retry_of s.base)).waiting ≡ s.base.waiting
@@ -45,13 +45,17 @@ unfolding answers
 answers_quiet (Some error) setting s m = record { taken = refl; waiting = refl; now = refl }
 answers_quiet None setting s m = accepts_quiet (connection_of m.body) setting s m
 
+serves_quiet : (is_query : Bool) (setting : Setting) (s : AgentState) (m : Message) → IsQuiet s.base (serves is_query setting s m).state.base
+serves_quiet true setting s m = record { taken = refl; waiting = refl; now = refl }
+serves_quiet false setting s m = answers_quiet (refusal setting.agent.name setting.stp_of s.base.records m) setting s m
+
 then_quiet : (a b c : State) → IsQuiet a b → IsQuiet b c → IsQuiet a c
 then_quiet a b c p q = record { taken = cc; waiting = cc; now = cc }
 
 received : (is_request is_old : Bool) (setting : Setting) (s : AgentState) (m : Message) → IsQuiet s.base (receives is_request is_old setting s m).state.base
 unfolding receives hears
 received true false setting s m =
-    then_quiet s.base (sees m s).base _ (seen_quiet m s) (answers_quiet (refusal setting.agent.name setting.stp_of s.base.records m) setting (sees m s) m)
+    then_quiet s.base (sees m s).base _ (seen_quiet m s) (serves_quiet (is_query m.body) setting (sees m s) m)
 received false false setting s m = let q = seen_quiet m s in record { taken = q.taken; waiting = q.waiting; now = q.now }
 received true true setting s m = record { taken = refl; waiting = refl; now = refl }
 received false true setting s m = record { taken = refl; waiting = refl; now = refl }
@@ -92,10 +96,14 @@ unfolding answers
 answers_seen (Some error) setting s m = record { seen = refl; heard = refl }
 answers_seen None setting s m = accepts_seen (connection_of m.body) setting s m
 
+serves_seen : (is_query : Bool) (setting : Setting) (s : AgentState) (m : Message) → IsSameSeen s.base (serves is_query setting s m).state.base
+serves_seen true setting s m = record { seen = refl; heard = refl }
+serves_seen false setting s m = answers_seen (refusal setting.agent.name setting.stp_of s.base.records m) setting s m
+
 received_saw : (asks is_old : Bool) (setting : Setting) (s : AgentState) (m : Message) → HasSeen (Input.Got m) s.base (receives asks is_old setting s m).state.base
 unfolding receives hears
 received_saw true false setting s m =
-    let same = answers_seen (refusal setting.agent.name setting.stp_of s.base.records m) setting (sees m s) m in
+    let same = serves_seen (is_query m.body) setting (sees m s) m in
     inr (record { seen = same.seen; heard = same.heard })
 received_saw false false setting s m = inr (record { seen = refl; heard = refl })
 received_saw true true setting s m = inl (record { seen = refl; heard = refl })

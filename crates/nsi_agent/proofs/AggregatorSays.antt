@@ -7,7 +7,7 @@ use Rattle.std.proofs.lemmas.List.{length_push}
 use Rattle.std.proofs.lemmas.List.Elements.{All-nil, All-cons, All-append, All-head, All-tail, All-set, All-get_or, All-map, All-weaker}
 use Rattle.std.proofs.lemmas.List.Quantifiers.{position-Some}
 use Rattle.nsi_primitive.specs.Ids.{id_of}
-use Rattle.nsi_primitive.specs.Messages.{is_request, kind_of, connection_of}
+use Rattle.nsi_primitive.specs.Messages.{is_request, kind_of, connection_of, is_query}
 use Rattle.nsi_primitive.specs.declared.entry.Input.{Input}
 use Rattle.nsi_primitive.specs.declared.kind.ErrorName.{ErrorName}
 use Rattle.nsi_primitive.specs.declared.kind.Kind.{Kind}
@@ -36,7 +36,7 @@ use Rattle.child_connection.specs.Asks.{request_about, to_child}
 use Rattle.child_connection.specs.Hearing.{hear}
 use Rattle.agent_state.specs.declared.parent.Due.{Due}
 use Rattle.agent_state.specs.declared.parent.Leg.{Leg}
-use Rattle.agent_state.specs.Entries.{error_reply}
+use Rattle.agent_state.specs.Entries.{error_reply, query_reply}
 use Rattle.agent_state.specs.State.{AgentState, AgentStepped, stays, no_record, record_at, children_at}
 use Rattle.aggregator_agent.specs.declared.agent.Agent.{Agent}
 use Rattle.aggregator_agent.specs.Asking.{Turn, Asked, Asking, begin, replies_by, notices_by, notices_under, asks_by, ask_one, asked_view, each, if_free, if_apart, request_if, may_abort, reserve_if, passed_on, pass_one, pass_each, view_of, views_of, with_path}
@@ -44,10 +44,14 @@ use Rattle.aggregator_agent.specs.Settling.{reservation_due, is_quiet, provision
 use Rattle.aggregator_agent.specs.Turns.{joined_of, tell_joined, pass_on, takes, turn_by_request, request_turn, loses, breaks, late_terminate, hear_one, hear_each, hold_end_by, force_by, hold_ends, force_ends, heard_by, turn_by_answer, answer_turn, spoken}
 use Rattle.aggregator_agent.specs.Clock.{Told, tells_late, tell_one, tell_all, is_late_of, ends, clocked, clock_then, clock_all}
 use Rattle.aggregator_agent.specs.Setting.{Setting}
-use Rattle.aggregator_agent.specs.Steps.{step, receives, answers, accepts, opens, opens_between, with_new, request_to, request_at, children_for, hears, hear_all, pass_then, ticks, sees, is_seen}
+use Rattle.aggregator_agent.specs.Steps.{step, receives, answers, accepts, opens, opens_between, with_new, request_to, request_at, children_for, hears, hear_all, pass_then, ticks, sees, is_seen, serves}
 use Rattle.provider_agent.proofs.EachSays.{EachReply, both_said, closes_each}
 use Rattle.nsi_agent.proofs.ProviderSays.{AsksNothing, reserves_if_answers, provisions_if_answers, lives_if_answers, lives_answers, moves_if_answers, IsHeaded, IsAnswer, IsOwed, addressed_headed, both_answer, addressed_answers, CameFor}
 use Rattle.nsi_agent.proofs.RequesterSays.{AreLaws, about_asks}
+use Rattle.aggregator_agent.specs.Queries.{answer_to}
+use Rattle.agent_state.proofs.Querying.{reply_header}
+use Rattle.aggregator_agent.proofs.Queried.{reply_asks_nothing}
+use Rattle.nsi_primitive.specs.declared.message.Header.{Header}
 
 -- a view of a child that is asked
 abbrev pub IsChild : (List ℕ → Type 0) → ChildConnection → Type 0
@@ -418,10 +422,17 @@ module _ (laws : AreLaws) (setting : Setting) (to owed : List ℕ → Type 0) (w
       record { owners = all; children = views; says = All-cons (IsMine setting.agent.name to owed) (error_reply setting.agent.name m error) [] (inl (refl, came)) (All-nil (IsMine setting.agent.name to owed)) }
   answers_saying None s m all views came = accepts_saying (connection_of m.body) s m all views came.1
 
+  serves_saying : (is_query : Bool) (s : AgentState) (m : Message) → All (IsOwed owed) s.base.records → All (λ xs. All (IsChild to) xs) s.children → IsHeaded setting.agent.name owed m → IsSaying setting to owed (serves is_query setting s m)
+  serves_saying true s m all views came =
+      let reply = query_reply setting.agent.name m (answer_to setting.agent.name s m) in
+      let headed = subst (λ (h : Header). (h.provider ≡ setting.agent.name) × owed h.requester) (sym (reply_header setting.agent.name m (answer_to setting.agent.name s m))) came in
+      record { owners = all; children = views; says = All-cons (IsMine setting.agent.name to owed) reply [] (inl (reply_asks_nothing setting.agent.name s m, headed)) (All-nil (IsMine setting.agent.name to owed)) }
+  serves_saying false s m all views came = answers_saying (refusal setting.agent.name setting.stp_of s.base.records m) s m all views came
+
   received_saying : (asks is_old : Bool) (s : AgentState) (m : Message) → is_request m.body ≡ asks → All (IsOwed owed) s.base.records → All (λ xs. All (IsChild to) xs) s.children → (is_request m.body ≡ true → IsHeaded setting.agent.name owed m)
       → IsSaying setting to owed (receives asks is_old setting s m)
   unfolding receives hears
-  received_saying true false s m e all views came = answers_saying (refusal setting.agent.name setting.stp_of s.base.records m) (sees m s) m all views (came e)
+  received_saying true false s m e all views came = serves_saying (is_query m.body) (sees m s) m all views (came e)
   received_saying false false s m e all views came = heard_said laws to owed setting.agent s.base.now 0 m s.base.next s.base.records s.children all views
   received_saying true true s m e all views came = stays_saying s all views
   received_saying false true s m e all views came = stays_saying s all views

@@ -42,7 +42,7 @@ use Rattle.provider_agent.specs.Steps.{step, receives, works, work_at, forces, f
 use Rattle.provider_agent.proofs.EachSays.{EachReply, EachMessage, nothing_said, one_said, closes_each, ticked_each, kept_each, ticks_each}
 use Rattle.provider_agent.proofs.GoodAfter.{waits_within, forcible_within}
 use Rattle.provider_agent.proofs.Growing.{ticked_later}
-use Rattle.provider_agent.proofs.Querying.{replied_by, reply_header, rows_ask_nothing}
+use Rattle.agent_state.proofs.Querying.{replied_by, reply_header, rows_ask_nothing}
 use Rattle.provider_agent.proofs.RequestCases.{seen_with, received_by}
 
 ---- No request

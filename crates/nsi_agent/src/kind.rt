@@ -17,7 +17,7 @@ ghost use Rattle.nsi_agent.specs.Kinds.{IsAt, IsStepped, IsSteppedBySome, may_ta
 
 use aggregator_agent::Aggregator;
 use nsi_base::{AgentNo, RecordNo, Second};
-use nsi_primitive::{AskAnswer, Entry, Identity, Machine, Message};
+use nsi_primitive::{AskAnswer, Body, Entry, Identity, Machine, Message};
 use provider_agent::Provider;
 use requester_agent::Requester;
 use std::alloc::{AllocError, Global};
@@ -105,13 +105,13 @@ impl Kind {
         }
     }
 
-    /// Whether it takes messages of that kind: an aggregator takes no queries yet.
+    /// Whether it takes messages of that kind: an aggregator takes no queryRecursive yet.
     pub fn takes(&self, message: &Message) -> bool
         ensures { (route : ℕ → ℕ → Sequence LegValue) (t : Network) →
             result ≡ takes_kind (role_by t route self.now) message.now.body }
     {
         match self {
-            Kind::Aggregator(_) => !message.is_query(),
+            Kind::Aggregator(_) => !matches!(message.body, Body::QueryRecursive { .. }),
             _ => true,
         }
     }

@@ -30,7 +30,7 @@ use Rattle.child_connection.specs.Views.{ChildConnection, open_request}
 use Rattle.child_connection.specs.Asks.{request_about, to_child}
 use Rattle.child_connection.specs.Hearing.{hear}
 use Rattle.agent_state.specs.declared.parent.Due.{Due}
-use Rattle.agent_state.specs.Entries.{error_reply, is_recursive}
+use Rattle.agent_state.specs.Entries.{error_reply, query_reply, is_recursive}
 use Rattle.agent_state.specs.State.{AgentState, record_at}
 use Rattle.aggregator_agent.specs.declared.agent.Agent.{Agent}
 use Rattle.aggregator_agent.specs.Asking.{Turn, Asked, Asking, begin, replies_by, notices_by, notices_under, asks_by, ask_one, each, if_free, if_apart, request_if, may_abort, reserve_if, passed_on, pass_one, pass_each}
@@ -38,11 +38,13 @@ use Rattle.aggregator_agent.specs.Settling.{reservation_due, is_quiet, provision
 use Rattle.aggregator_agent.specs.Turns.{joined_of, tell_joined, pass_on, takes, turn_by_request, request_turn, loses, breaks, late_terminate, hear_one, hear_each, hold_end_by, force_by, hold_ends, force_ends, heard_by, turn_by_answer, answer_turn, spoken}
 use Rattle.aggregator_agent.specs.Clock.{Told, tells_late, tell_one, tell_all, is_late_of, ends, clocked, clock_then, clock_all}
 use Rattle.aggregator_agent.specs.Setting.{Setting}
-use Rattle.aggregator_agent.specs.Steps.{step, receives, answers, accepts, opens, opens_between, with_new, request_to, request_at, children_for, hears, hear_all, pass_then, ticks, sees, is_seen}
+use Rattle.aggregator_agent.specs.Steps.{step, receives, answers, accepts, opens, opens_between, with_new, request_to, request_at, children_for, hears, hear_all, pass_then, ticks, sees, is_seen, serves}
 use Rattle.provider_agent.proofs.EachSays.{EachReply, both_said, closes_each}
 use Rattle.nsi_agent.proofs.ProviderSays.{AsksNothing, reserves_if_answers, provisions_if_answers, lives_if_answers, lives_answers, moves_if_answers, addressed_answers}
 use Rattle.nsi_world.specs.Agents.{IsPlain}
 use Rattle.nsi_world.proofs.PlainRequests.{answer_plain, IsAsking, commit_plain, abort_plain, provision_plain, release_plain, terminate_plain}
+use Rattle.aggregator_agent.specs.Queries.{answer_to}
+use Rattle.aggregator_agent.proofs.Queried.{reply_asks_nothing}
 
 ---- Records
 
@@ -290,9 +292,15 @@ module _ (setting : Setting) where
   answers_plain (Some error) s m = All-cons IsPlain (error_reply setting.agent.name m error) [] refl (All-nil IsPlain)
   answers_plain None s m = accepts_plain (connection_of m.body) s m
 
+  serves_plain : (b : Bool) (s : AgentState) (m : Message) → All IsPlain (serves b setting s m).out
+  serves_plain true s m =
+      let reply = query_reply setting.agent.name m (answer_to setting.agent.name s m) in
+      All-cons IsPlain reply [] (answer_plain reply.body (reply_asks_nothing setting.agent.name s m)) (All-nil IsPlain)
+  serves_plain false s m = answers_plain (refusal setting.agent.name setting.stp_of s.base.records m) s m
+
   received_plain : (asks is_old : Bool) (s : AgentState) (m : Message) → All IsPlain (receives asks is_old setting s m).out
   unfolding receives hears
-  received_plain true false s m = answers_plain (refusal setting.agent.name setting.stp_of s.base.records m) (sees m s) m
+  received_plain true false s m = serves_plain (is_query m.body) (sees m s) m
   received_plain false false s m = heard_plain setting.agent s.base.now 0 m s.base.next s.base.records s.children
   received_plain true true s m = All-nil IsPlain
   received_plain false true s m = All-nil IsPlain

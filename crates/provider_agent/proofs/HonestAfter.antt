@@ -49,7 +49,7 @@ use Rattle.provider_agent.proofs.EachSays.{EachReply, EachMessage, EachPlane, no
 use Rattle.provider_agent.proofs.FirstIsOne.{first_lack_found, none_where_room}
 use Rattle.provider_agent.proofs.GoodAfter.{waits_within, asked_at}
 use Rattle.provider_agent.proofs.RequestCases.{seen_with, received_by}
-use Rattle.provider_agent.proofs.Querying.{replied_by}
+use Rattle.agent_state.proofs.Querying.{replied_by}
 
 ---- Work on a reserve
 

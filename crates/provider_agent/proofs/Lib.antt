@@ -14,7 +14,6 @@ pub mod GoodMoves
 pub mod Demands
 pub mod FittingMoves
 pub mod RequestCases
-pub mod Querying
 pub mod WaitingWork
 pub mod EachTicked
 pub mod SoundRecords

@@ -45,7 +45,7 @@ use Rattle.provider_agent.specs.Good.{IsGoodRecord, IsGood}
 use Rattle.provider_agent.proofs.EachSays.{EachReply, EachMessage, nothing_said, one_said, closes_each, ticked_each, kept_each, ticks_each}
 use Rattle.provider_agent.proofs.GoodAfter.{waits_within}
 use Rattle.provider_agent.proofs.RequestCases.{seen_with, received_by}
-use Rattle.provider_agent.proofs.Querying.{replied_by}
+use Rattle.agent_state.proofs.Querying.{replied_by}
 
 ---- Replies
 

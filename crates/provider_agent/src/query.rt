@@ -45,6 +45,12 @@ impl Core {
             return Ok(None);
         };
         let own = &self.records[place];
-        answer_about(alloc, &self.agent.name, own, &own.status(self.now), &message.body)
+        answer_about(
+            alloc,
+            &self.agent.name,
+            own,
+            &own.status(self.now),
+            &message.body,
+        )
     }
 }

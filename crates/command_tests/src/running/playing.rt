@@ -5,6 +5,7 @@ use crate::tables::playing::{
     ASKED, ASKS, AT_ONCE, FAULTS, LACKING, LOST_CONFIRMATION, LOST_TIMEOUT, Played, RANKED,
     RESERVE, RESERVED, TICKED, WHOLE, WITHOUT_PATH,
 };
+use crate::tables::queried::{QUERIED, QUERIED_OVER};
 use std::alloc::{AllocError, Global};
 use std::test::Fail;
 use std::thread::Threads;
@@ -131,6 +132,15 @@ fn is_taken(rt: &(impl Threads + Sync), alloc: Global, row: &Played) -> Result<b
 #[test]
 fn circuits_go_over_networks(rt: HostRuntime) -> Result<(), Fail> {
     for row in &[LACKING, WHOLE, WITHOUT_PATH, AT_ONCE, RANKED] {
+        let is_right = is_taken(&rt, rt.alloc(), row)?;
+        assert!(rt; is_right, "{}", row.settled);
+    }
+    Ok(())
+}
+
+#[test]
+fn queries_are_answered_in_nets(rt: HostRuntime) -> Result<(), Fail> {
+    for row in &[QUERIED, QUERIED_OVER] {
         let is_right = is_taken(&rt, rt.alloc(), row)?;
         assert!(rt; is_right, "{}", row.settled);
     }
