@@ -27,7 +27,7 @@ use Rattle.connection_record.proofs.Unrefused.{unrefused_agent, unrefused_at}
 use Rattle.child_connection.specs.Views.{ChildConnection}
 use Rattle.agent_state.specs.declared.parent.Due.{Due}
 use Rattle.agent_state.specs.Entries.{error_reply, retry_of, query_reply}
-use Rattle.agent_state.specs.State.{AgentState, AgentStepped, stays, record_at, no_record, name_or, children_at}
+use Rattle.agent_state.specs.State.{sends, AgentState, AgentStepped, stays, record_at, no_record, name_or, children_at}
 use Rattle.aggregator_agent.specs.declared.agent.Agent.{Agent}
 use Rattle.aggregator_agent.specs.Asking.{Turn}
 use Rattle.aggregator_agent.specs.Clock.{tells_late, Told, tell_one, tell_all, is_late_of, ends, clocked, Clocked, clock_then, clock_all}

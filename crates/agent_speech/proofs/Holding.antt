@@ -59,7 +59,11 @@ answer_reserves p c m rest e = by (is_reservation (kind_of m.body)) refl
 -- what isn't of the reservation machine
 pub other_reserves : (p : List ℕ) (c : ℕ) (m : Message) (rest : List Message) → is_reservation (kind_of m.body) ≡ false → tally (reserves_at p c) (m ∷ rest) ≡ tally (reserves_at p c) rest
 unfolding tally
-other_reserves p c m rest e = ap (λ b. one (b && (bytes_eq p m.header.provider && (c == m.header.correlation))) + tally (reserves_at p c) rest) e
+other_reserves p c m rest e = by (is_reservation (kind_of m.body)) e
+  where
+    by : (b : Bool) → b ≡ false → one (b && (bytes_eq p m.header.provider && (c == m.header.correlation))) + tally (reserves_at p c) rest ≡ tally (reserves_at p c) rest
+    by false q = omega arith
+    by true q = absurd (cc)
 
 pub addressed_reserves : (p : List ℕ) (c : ℕ) (name owner : List ℕ) (out : List Reply) → tally (reserves_at p c) (addressed name owner out) ≤ tally asks_for out
 unfolding tally is_asking
