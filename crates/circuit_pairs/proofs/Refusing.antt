@@ -1,5 +1,5 @@
 -- An abort of a child that has something to give back is refused only where its record doesn't live.
-use Rattle.std.proofs.Common.{ℕ, ◌≡◌, ◌∙◌, ◌⊎◌, inl, inr, Bool, true, false, List, [], ◌∷◌, ◌++◌, length, Contains, Option, Some, None, ◌==◌, refl, sym, ap, subst, arith, eqb-true}
+use Rattle.std.proofs.Common.{ℕ, ◌≡◌, ◌∙◌, ◌⊎◌, inl, inr, Bool, true, false, List, [], ◌∷◌, ◌++◌, length, Contains, Option, Some, None, ◌==◌, refl, sym, ap, subst, arith, eqb-true, true≢false}
 use Rattle.std.proofs.lemmas.Bool.{cases_eq}
 use Rattle.nsi_primitive.specs.Kinds.{kind_number, is_request_kind}
 use Rattle.nsi_primitive.specs.Messages.{kind_of, connection_of, has_rows, is_request}
