@@ -4,7 +4,7 @@ use Rattle.std.specs.Option.{option_map}
 use Rattle.std.specs.List.{All, list_any}
 use Rattle.std.proofs.lemmas.List.Elements.{All-nil, All-cons, All-append, All-weaker}
 use Rattle.nsi_primitive.specs.Ids.{id_of}
-use Rattle.nsi_primitive.specs.Messages.{is_request, kind_of, connection_of}
+use Rattle.nsi_primitive.specs.Messages.{is_request, is_query, kind_of, connection_of}
 use Rattle.nsi_primitive.specs.declared.entry.Input.{Input}
 use Rattle.nsi_primitive.specs.declared.kind.ErrorName.{ErrorName}
 use Rattle.nsi_primitive.specs.declared.kind.Kind.{Kind}
