@@ -18,7 +18,7 @@ use Rattle.run_totals.specs.Totals.{plus, totals_of}
 use Rattle.run_totals.specs.declared.totals.Totals.{Totals}
 use Rattle.run_totals.proofs.Appending.{totals_append}
 use Rattle.agent_threads.specs.Reports.{written}
-use Rattle.agent_threads.specs.declared.report.Report.{Report}
+use Rattle.run_totals.specs.declared.report.Report.{Report}
 use Rattle.agent_threads.specs.declared.report.RunOptions.{RunOptions}
 use Rattle.agent_threads.specs.Promise.{AllCanBeDone, CanBeDone, CanBePlayed, WritesSomeOfGroup, WritesSomeOfPlay}
 use Rattle.agent_threads.proofs.Same.{still_of}

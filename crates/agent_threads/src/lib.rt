@@ -11,7 +11,7 @@ mod rounds;
 mod run;
 
 pub use fault::{RoundFault, RunFault};
-pub use report::{Report, RunOptions};
+pub use report::RunOptions;
 pub use resources::Resources;
 pub use rounds::{round, settled};
 pub use run::play_all;

@@ -6,17 +6,10 @@ ghost use Rattle.trace_text.specs.Lines.{HasLine};
 ghost use Rattle.agent_threads.specs.Reports.{written};
 
 use nsi_primitive::Event;
+use run_totals::Report;
 use std::alloc::{AllocError, Global};
 use stp_topology::Topology;
 use trace_text::print_events;
-
-#[derive(Clone, Copy, Debug, PartialEq, Eq)]
-pub enum Report {
-    /// A line for each event.
-    Trace,
-    /// None of the events: they are only counted.
-    Summary,
-}
 
 /// How far a run may go, and what is written of it.
 #[derive(Clone, Copy, Debug, PartialEq, Eq)]

@@ -23,7 +23,7 @@ use Rattle.nsi_play.specs.Play.{IsPlayFrom, PassesFrom, IsPlay, Passes}
 use Rattle.nsi_play.proofs.Settling.{plays_nil}
 use Rattle.agent_threads.specs.declared.fault.RunFault.{RunFault}
 use Rattle.agent_threads.specs.Reports.{written}
-use Rattle.agent_threads.specs.declared.report.Report.{Report}
+use Rattle.run_totals.specs.declared.report.Report.{Report}
 use Rattle.agent_threads.specs.declared.report.RunOptions.{RunOptions}
 use Rattle.agent_threads.proofs.Told.{writes_none}
 use Rattle.agent_threads.specs.Nets.{seats, AtHomes, AreCalm}

@@ -1,7 +1,7 @@
 -- When the words are refused.
 use Rattle.std.specs.Prelude.{◌≡◌, ◌↔◌, ℕ, List, None, true}
 use Rattle.nsi_program.specs.Promise.{is_told}
-use Rattle.nsi_program.specs.Words.{command_of}
+use Rattle.command_words.specs.Words.{command_of}
 use Rattle.nsi_program.specs.declared.status.Status.{Status}
 
 -- a status that is told is Usage exactly where the words name no command

@@ -6,11 +6,9 @@ use Rattle.stp_topology.specs.declared.network.AgentKind.{AgentKind}
 use Rattle.stp_topology.specs.Network.{sdps_of}
 use Rattle.nsi_base.specs.Words.{words_of}
 use Rattle.nsi_program.specs.declared.asked.Ask.{Ask}
-use Rattle.nsi_program.specs.declared.words.Command.{Command}
 use Rattle.nsi_program.specs.Asked.{ask_of, wanted_of}
 use Rattle.nsi_program.specs.Check.{path_line}
 use Rattle.nsi_program.specs.Lines.{as_line}
-use Rattle.nsi_program.specs.Words.{command_of}
 
 abbrev joined : Network
 joined =
@@ -54,9 +52,3 @@ a_tab_is_bad = refl
 pub an_empty_line_asks_for_nothing : ask_of joined [] ≡ Ask.Nothing
 unfolding ask_of wanted_of words_of
 an_empty_line_asks_for_nothing = refl
-
-pub one_word_is_a_command : command_of (codes "check" ∷ []) ≡ Some Command.Check
-one_word_is_a_command = refl
-
-pub two_words_are_none : command_of (codes "check" ∷ codes "check" ∷ []) ≡ None
-two_words_are_none = refl

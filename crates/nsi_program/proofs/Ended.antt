@@ -2,9 +2,9 @@
 use Rattle.std.proofs.Common.{◌≡◌, ◌≤◌, ◌<◌, ℕ, ◌⊎◌, inl, inr, List, ◌++◌, length, leb, Bool, true, false, Option, Some, None, Result, Err, refl, sym, ap, ◌∙◌, subst, arith}
 use Rattle.std.specs.Prelude.{IfSome, codes}
 use Rattle.nsi_program.specs.declared.status.Status.{Status}
-use Rattle.nsi_program.specs.declared.words.Command.{Command}
-use Rattle.nsi_program.specs.declared.words.Load.{Load}
-use Rattle.nsi_program.specs.declared.words.Play.{Play}
+use Rattle.command_words.specs.declared.command.Command.{Command}
+use Rattle.command_words.specs.declared.command.Load.{Load}
+use Rattle.command_words.specs.declared.command.Play.{Play}
 use Rattle.nsi_script.specs.Load.{load_of}
 use Rattle.nsi_program.specs.Lines.{as_line}
 use Rattle.nsi_program.specs.Check.{Checks, Begins}

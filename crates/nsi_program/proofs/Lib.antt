@@ -3,7 +3,6 @@ pub mod Promised
 pub mod Declared
 pub mod Served
 pub mod Serves
-pub mod Limits
 pub mod Written
 pub mod Checks
 pub mod Ended
@@ -16,5 +15,5 @@ pub mod Stepping
 pub mod TopologyLines
 pub mod Kept
 pub mod Backing
-pub mod Optioning
+pub mod Nothing
 mod CheckRows

@@ -8,8 +8,8 @@ use Rattle.stp_topology.specs.declared.network.Network.{Network}
 use Rattle.stp_topology.specs.Network.{nothing, first_provider, name_of}
 use Rattle.stp_topology.specs.Text.{read_lines}
 use Rattle.nsi_program.specs.declared.status.Status.{Status}
-use Rattle.nsi_program.specs.declared.words.Command.{Command}
-use Rattle.nsi_program.specs.declared.words.Load.{Load}
+use Rattle.command_words.specs.declared.command.Command.{Command}
+use Rattle.command_words.specs.declared.command.Load.{Load}
 use Rattle.nsi_program.specs.Check.{Checks, Begins}
 pub use Rattle.run_command.specs.Ends.{Counts, counted, HasRisen, HasDiskFault}
 use Rattle.run_command.specs.Runs.{Begins as RunBegins, Breaks}

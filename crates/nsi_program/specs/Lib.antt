@@ -11,7 +11,6 @@ pub mod Declares
 pub mod Promise
 pub mod Cut
 pub mod UpTo
-pub mod Words
 pub mod Asked
 pub mod Check
 pub mod Writes

@@ -16,7 +16,7 @@ use Rattle.nsi_program.specs.declared.output.Fault.{Fault}
 use Rattle.nsi_program.specs.declared.output.Halt.{Halt}
 use Rattle.nsi_program.specs.declared.status.Ending.{Ending}
 use Rattle.nsi_program.specs.declared.status.Status.{Status}
-use Rattle.nsi_program.specs.declared.words.Command.{Command}
+use Rattle.command_words.specs.declared.command.Command.{Command}
 
 ---- Behind a disk
 

@@ -4,7 +4,7 @@ use Rattle.agent_threads.specs.declared.report.RunOptions.{RunOptions}
 use Rattle.run_command.specs.declared.command.RunEnd.{RunEnd}
 use Rattle.run_command.specs.Runs.{Runs}
 use Rattle.nsi_program.specs.declared.status.Status.{Status}
-use Rattle.nsi_program.specs.declared.words.Play.{Play}
+use Rattle.command_words.specs.declared.command.Play.{Play}
 
 abbrev pub status_of_run : RunEnd → Status
 status_of_run RunEnd.Done = Status.Done

@@ -16,7 +16,7 @@ ghost use Rattle.nsi_program.specs.Declares.{DeclaresLine, DeclaresNext, goes_fu
 
 use crate::output::{Fault, write_text};
 use crate::status::Ending;
-use crate::words::EventLimit;
+use command_words::EventLimit;
 use fault_lines::topology_fault;
 use line_reader::{LineReader, Next, ReadError};
 use nsi_base::AgentNo;

@@ -6,7 +6,7 @@ ghost use Rattle.nsi_script.specs.Load.{load_of};
 
 use crate::output::{Fault, write_text};
 use crate::status::Status;
-use crate::words::Load;
+use command_words::Load;
 use nsi_outside::Sink;
 use nsi_script::make_load;
 use std::alloc::Global;

@@ -17,7 +17,6 @@ mod service;
 mod serving;
 pub mod status;
 mod top;
-mod words;
 
 pub use check::one_check;
 pub use status::Status;

@@ -10,8 +10,8 @@ ghost use Rattle.nsi_program.specs.RunsTo.{RunsTo, options_of, status_of_run};
 ghost use Rattle.nsi_program.specs.Writes.{WritesSome};
 
 use crate::status::Status;
-use crate::words::Play;
 use agent_threads::{Resources, RunOptions};
+use command_words::Play;
 use nsi_disk::Shelf;
 use nsi_outside::{Sink, Source};
 use run_command::RunEnd;

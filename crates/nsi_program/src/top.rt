@@ -5,10 +5,10 @@ ghost use Rattle.nsi_disk.specs.ShelfCounts.{Raised};
 ghost use Rattle.nsi_program.specs.Backed.{Backs};
 ghost use Rattle.nsi_program.specs.Lines.{as_line};
 ghost use Rattle.nsi_program.specs.Promise.{is_told, read_fault_line, Writes, WritesFront, IsComplete, IsSafe, NamesFault};
-ghost use Rattle.nsi_program.specs.Words.{command_of};
-ghost use Rattle.nsi_program.specs.declared.words.Command.TheVariants.{Provide as ProvideValue, Run as RunValue, Generate as GenerateValue};
-ghost use Rattle.nsi_program.specs.declared.words.Load.{Load};
-ghost use Rattle.nsi_program.specs.declared.words.Play.{Play};
+ghost use Rattle.command_words.specs.Words.{command_of};
+ghost use Rattle.command_words.specs.declared.command.Command.TheVariants.{Provide as ProvideValue, Run as RunValue, Generate as GenerateValue};
+ghost use Rattle.command_words.specs.declared.command.Load.{Load};
+ghost use Rattle.command_words.specs.declared.command.Play.{Play};
 ghost use Rattle.nsi_script.specs.Load.{load_of};
 ghost use Rattle.run_command.specs.Runs.{KeepsRun};
 ghost use Rattle.nsi_program.specs.Ends.{HasEnded, IsChecked, IsCut, IsBroken, IsCutShort, WithReading, counted, HasDiskFault, ReadsTopology, TellsDisks};
@@ -19,9 +19,10 @@ use crate::output::{Fault, write_text};
 use crate::provide::provide;
 use crate::running::run;
 use crate::status::Status;
-use crate::words::{Command, command_of};
+use command_words::{Command, command_of};
 use nsi_disk::Shelf;
 use nsi_outside::{Sink, Source};
+use run_command::begins_with_nothing;
 use std::alloc::Global;
 use std::thread::Threads;
 
@@ -108,7 +109,11 @@ where
     ensures reading { result ≡ Status.ReadFault → K.faults out.new ≡ K.faults out.old }
     ensures memory { result ≡ Status.NoMemory → K.faults out.new ≡ K.faults out.old }
 {
-    let Some(command) = command_of(words) else {
+    let Ok(named) = command_of(alloc, words) else {
+        begins_with_nothing();
+        return Status::NoMemory;
+    };
+    let Some(command) = named else {
         return usage(out);
     };
     match &command {

@@ -15,7 +15,7 @@ use Rattle.nsi_play.specs.Openings.{plans_of, opening}
 use Rattle.nsi_play.specs.Play.{plays}
 use Rattle.fault_lines.specs.Lines.{topology_fault, script_fault, long_line}
 use Rattle.agent_threads.specs.Reports.{written}
-use Rattle.agent_threads.specs.declared.report.Report.{Report}
+use Rattle.run_totals.specs.declared.report.Report.{Report}
 use Rattle.agent_threads.specs.declared.report.RunOptions.{RunOptions}
 use Rattle.run_command.specs.declared.command.RunEnd.{RunEnd}
 use Rattle.run_command.specs.declared.reading.Declared.{Declared}

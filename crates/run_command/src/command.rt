@@ -1,20 +1,20 @@
 //! A topology and a script come in, and every step of every agent goes out, or how many there were.
 
-ghost use Rattle.std.specs.Prelude.{◌≡◌, ◌≤◌, ◌<◌, ◌+◌, ◌⊎◌, ℕ, true, length, IfSome};
+ghost use Rattle.std.specs.Prelude.{◌≡◌, ◌≤◌, ◌<◌, ◌+◌, ◌⊎◌, ℕ, List, Option, true, length, IfSome};
 ghost use Rattle.nsi_base.specs.Range.{greatest_input};
 ghost use Rattle.nsi_outside.specs.Stream.{WritesAll};
 ghost use Rattle.stp_topology.specs.Network.{name_of};
 ghost use Rattle.nsi_script.specs.Fits.{Fits};
 ghost use Rattle.nsi_play.specs.Openings.{plans_of};
 ghost use Rattle.fault_lines.specs.Lines.{topology_fault, script_fault, disk_fault_line, read_fault_line};
-ghost use Rattle.run_command.specs.Ends.{is_told, WritesSome, IsCutShort, IsQuiet, HasDiskFault, IsTold, Closes, IsOfAgent, FailsAs, HasPlayed, HasRead, counted};
+ghost use Rattle.run_command.specs.Ends.{is_told, WritesSome, WritesSomeFront, IsCutShort, IsQuiet, HasDiskFault, IsTold, Closes, IsOfAgent, FailsAs, HasPlayed, HasRead, counted};
 ghost use Rattle.run_command.specs.Reading.{IsDeclared};
 ghost use Rattle.net_run.specs.Journals.{HoldsJournals};
-ghost use Rattle.run_command.specs.Runs.{Runs, Breaks, KeepsRun, closing_line};
+ghost use Rattle.run_command.specs.Runs.{Runs, Begins, Breaks, KeepsRun, closing_line};
 
 use crate::reading::{Declared, read_declared};
 use crate::texts::closing_line;
-use agent_threads::{Report, Resources, RunFault, RunOptions};
+use agent_threads::{Resources, RunFault, RunOptions};
 use circuit_laws::laws::{circuits, views};
 use fault_lines::{disk_fault_text, script_fault, topology_fault};
 use line_reader::{ReadError, read_whole};
@@ -24,7 +24,7 @@ use nsi_disk::Shelf;
 use nsi_outside::{Sink, SinkError, Source, write_all};
 use nsi_script::{Script, ScriptFault, ScriptRefusal, read_script};
 use nsi_world::laws::{asks_whole, play_runs};
-use run_totals::Totals;
+use run_totals::{Report, Totals};
 use safe_runs::laws::{every_play_safe_at_each_agent, every_run_safe_at_each_agent};
 use settled_play::laws::settled;
 use std::alloc::Global;
@@ -270,4 +270,12 @@ where
         Err(ReadError::Failed) => close(out, b"fault read\n", RunEnd::ReadFault),
         Err(ReadError::NoMemory) => RunEnd::NoMemory,
     }
+}
+
+/// Nothing is a front of what a run writes, whatever the input.
+pub fn begins_with_nothing()
+    ensures { (options : _) (left old : Option (List ℕ)) → IfSome left
+        (λ bytes. WritesSomeFront (Begins options bytes) old old) }
+{
+    every_run_safe_at_each_agent();
 }

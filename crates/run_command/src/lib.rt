@@ -5,4 +5,4 @@ mod command;
 mod reading;
 mod texts;
 
-pub use command::{RunEnd, run};
+pub use command::{RunEnd, begins_with_nothing, run};

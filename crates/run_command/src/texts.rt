@@ -3,9 +3,8 @@
 ghost use Rattle.std.specs.Prelude.{◌≡◌, ◌++◌, decimal, IfOk, OnOk};
 ghost use Rattle.run_command.specs.Runs.{closing_line, settled_line, summary_line};
 
-use agent_threads::Report;
 use fault_lines::as_line;
-use run_totals::Totals;
+use run_totals::{Report, Totals};
 use std::alloc::{AllocError, Global};
 
 /// `settled`, and how many events the run has.

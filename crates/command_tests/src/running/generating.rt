@@ -25,7 +25,7 @@ at 11
 ask r1 commit c5
 ";
 
-const REFUSED: [&str; 20] = [
+const REFUSED: [&str; 30] = [
     "generate",
     "generate --from 1",
     "generate --size 6",
@@ -42,6 +42,16 @@ const REFUSED: [&str; 20] = [
     "generate --from x --size 6",
     "generate --from +1 --size 6",
     "generate -- --from 1 --size 6",
+    "generate --from 1 --size 6 --",
+    "generate --from -- 1 --size 6",
+    "generate --from 1 --size --",
+    "generate --from=1 --size=6 --from 1",
+    "generate --from 1 --size 6 --workers 2",
+    "generate --from 1 --size -",
+    "generate --from=1=1 --size=6",
+    "generate --from 1 --size 6 --help",
+    "generate --help",
+    "generate -h",
     "generate --events 3",
     "generate --from 1 --events 6",
     "provide --from 1 --size 6",

@@ -68,7 +68,7 @@ fn bad_topologies_are_refused(rt: HostRuntime) -> Result<(), Fail> {
 }
 
 /// Words that name no command, or an option in no form of it.
-const WORDS: [&str; 35] = [
+const WORDS: [&str; 55] = [
     "",
     "run --workers 0",
     "run 3",
@@ -101,6 +101,26 @@ const WORDS: [&str; 35] = [
     "provide --event 3",
     "provide --Events=3",
     "provide --workers 1",
+    "provide --events 3 --",
+    "provide --events -- 3",
+    "provide --events=--",
+    "provide --events --",
+    "provide --events -",
+    "provide --events -x",
+    "provide --events 3 --events=3",
+    "provide --events=3=3",
+    "provide --=3",
+    "provide -e 3",
+    "provide -",
+    "provide -h",
+    "provide --help",
+    "provide --events --help",
+    "provide --size 3",
+    "provide --from=3",
+    "-- provide",
+    "--",
+    "-h",
+    "help provide",
     "--events 3 provide",
     "--help",
     "provid\u{e9}",

@@ -558,11 +558,17 @@ fn a_failed_write_ends_the_run(rt: HostRuntime) -> Result<(), Fail> {
 }
 
 /// Words that aren't the one word `check`.
-const WORDS: [&str; 7] = [
+const WORDS: [&str; 13] = [
     "check check",
     "check provide",
     "Check",
     "chec",
+    "check --",
+    "-- check",
+    "check -",
+    "check -h",
+    "check --help",
+    "check --summary",
     "check --events",
     "check --events 3",
     "check --events=3",

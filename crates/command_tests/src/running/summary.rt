@@ -172,6 +172,8 @@ fn the_flag_stands_anywhere(rt: HostRuntime) -> Result<(), Fail> {
         "run --workers 2 --summary --events=15",
         "run --workers=2 --events 15 --summary",
         "run --events 15 --workers 2 --summary",
+        "run --events=15 --workers 2 --summary",
+        "run --summary --events 15 --workers=2",
     ] {
         let is_right = is_written(&rt, rt.alloc(), words, RESERVE, 0, RESERVED)?;
         assert!(rt; is_right, "{words}");

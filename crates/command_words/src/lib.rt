@@ -1,0 +1,11 @@
+//! The words of a command line: which command they name.
+#![tactic(auto)]
+
+mod command;
+mod limits;
+mod parsing;
+mod words;
+
+pub use command::{Command, Load, Play};
+pub use limits::{EventLimit, Workers};
+pub use words::command_of;
