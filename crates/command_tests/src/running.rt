@@ -9,6 +9,7 @@ mod holds;
 mod hostile;
 mod journals;
 mod kinds;
+mod losing;
 mod modifications;
 mod outside;
 mod paths;

@@ -5,6 +5,7 @@ pub(crate) mod counting;
 pub(crate) mod holds;
 pub(crate) mod hostile;
 pub(crate) mod kinds;
+pub(crate) mod losing;
 pub(crate) mod modifications;
 pub(crate) mod plain_provider;
 pub(crate) mod playing;
