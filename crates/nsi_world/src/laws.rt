@@ -6,7 +6,7 @@ ghost use Rattle.nsi_world.specs.Laws.{HeardWasSent, SentStaysSent, RequestsAreO
 
 use nsi_agent::laws::{every_message, every_request, every_state};
 
-/// What an agent says is its own and can be written; no two of its requests have one correlationId, and it asks no query yet.
+/// What an agent says is its own and can be written; no two of its requests have one correlationId, and it asks no queryRecursive yet.
 pub fn agents()
     ensures own { WhatIsSaidIsItsOwn }
     ensures once { RequestsAreDrawnOnce }
