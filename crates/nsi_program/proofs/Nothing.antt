@@ -1,5 +1,5 @@
 -- Where memory is wanting for the words, nothing is done.
-use Rattle.std.proofs.Common.{◌≡◌, ◌≤◌, ℕ, inl, List, [], ◌++◌, Option, Some, None, refl, sym, ap, append-nil}
+use Rattle.std.proofs.Common.{◌≡◌, ◌≤◌, ℕ, inl, List, [], Option, Some, None, refl, sym, ap, append-nil}
 use Rattle.std.specs.Prelude.{IfSome, codes}
 use Rattle.agent_threads.specs.declared.report.RunOptions.{RunOptions}
 use Rattle.command_words.proofs.FewEvents.{limit_few}
