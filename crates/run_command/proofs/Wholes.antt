@@ -24,7 +24,7 @@ use Rattle.safe_runs.specs.Laws.{EveryRunIsSafe, EveryPlayIsSafe}
 use Rattle.circuit_laws.specs.Backed.{EachViewIsBacked, EachViewRises, EachCircuitStands}
 use Rattle.circuit_laws.specs.Laws.{RunsAreBacked, ViewsRise, CircuitsStand}
 use Rattle.circuit_laws.proofs.Nothing.{nothing_is_unbacked, nothing_falls, no_circuit_lacks}
-use Rattle.settled_play.specs.Settled.{PlayLeavesNone}
+use Rattle.settled_play.specs.Settled.{PlaySettles, PlayLeavesNone}
 use Rattle.run_command.specs.Runs.{IsSafeRun, IsWholeRun}
 
 -- a play of no more events than that is such a run
@@ -41,6 +41,7 @@ pub record PlayLaws : Type 0 where
   pub backed : RunsAreBacked
   pub rising : ViewsRise
   pub circuits : CircuitsStand
+  pub left : PlaySettles
   pub over : PlayLeavesNone
 
 -- a run of a topology that a text gives is safe
@@ -66,6 +67,7 @@ plays_run laws limit t s few sound well fits = λ events last play within routes
           (laws.safe t routes (plans_of s.lose) s.groups events last well fits.rising fits.acts (play routes r) (omega (arith, few, within)));
       asks = laws.asks t routes (plans_of s.lose) s.groups events last well fits.rising fits.acts (play routes r);
       rests = laws.rests t routes (plans_of s.lose) s.groups events last well fits.rising fits.acts (play routes r);
+      left = laws.left t routes (plans_of s.lose) s.groups events last sound well r fits.rising fits.acts (play routes r);
       over = λ none. laws.over t routes (plans_of s.lose) s.groups events last none sound well r fits.rising fits.acts (play routes r);
     }
 

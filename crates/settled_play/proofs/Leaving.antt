@@ -1,36 +1,43 @@
--- What a play leaves: nothing.
-use Rattle.std.proofs.Common.{ℕ, ◌<◌, ◌+◌, ◌≡◌, ◌==◌, ◌&&◌, true, List, [], ◌∷◌, is_none, inl, inr, refl, sym, ap, ◌∙◌, subst, arith, length, get_or, eqb-true}
+-- What a play leaves: nothing but what was lost.
+use Rattle.std.proofs.Common.{ℕ, ◌<◌, ◌≤◌, ◌+◌, ◌≡◌, ◌==◌, ◌&&◌, ◌⊎◌, true, List, [], ◌∷◌, ◌++◌, Option, Some, None, is_none, inl, inr, refl, sym, ap, ◌∙◌, subst, arith, length, get_or, eqb-true, length-append}
 use Rattle.std.specs.List.{All, Contains}
-use Rattle.std.proofs.lemmas.Bool.{and_parts}
+use Rattle.std.proofs.lemmas.Bool.{and_parts, cases_eq}
 use Rattle.std.proofs.lemmas.List.{take_all}
-use Rattle.std.proofs.lemmas.List.Elements.{Contains-get_or}
-use Rattle.nsi_primitive.specs.Messages.{identity, kind_of}
+use Rattle.std.proofs.lemmas.List.Elements.{Contains-get_or, Contains-append_left, Contains-append_right}
+use Rattle.nsi_primitive.specs.Kinds.{kind_number}
+use Rattle.nsi_primitive.specs.Messages.{identity, addressee, kind_of}
 use Rattle.nsi_primitive.specs.declared.entry.Entry.{Entry}
 use Rattle.nsi_primitive.specs.declared.entry.Event.{Event}
 use Rattle.nsi_primitive.specs.declared.kind.Kind.{Kind}
 use Rattle.nsi_primitive.specs.declared.message.Message.{Message}
+use Rattle.nsi_primitive.specs.declared.message.Parcel.{Parcel}
 use Rattle.stp_topology.specs.Network.{agent_of}
 use Rattle.stp_topology.specs.declared.network.Network.{Network}
 use Rattle.nsi_agent.specs.Homes.{Home, Routes, home_in}
 use Rattle.nsi_agent.specs.Laws.{WhatIsSaidIsItsOwn}
 use Rattle.nsi_agent.specs.Steps.{work_of}
 use Rattle.nsi_agent.specs.Told.{told, WasGot}
+use Rattle.agent_link.specs.Plans.{parcel_number}
+use Rattle.agent_link.specs.declared.plan.ParcelKind.{ParcelKind}
+use Rattle.agent_speech.specs.Laws.{NothingIsSaidTwice}
 use Rattle.agent_node.specs.Acts.{is_quiet}
 use Rattle.agent_node.specs.Doors.{all_idle}
 use Rattle.agent_node.specs.Seat.{Seat}
-use Rattle.nsi_play.specs.Openings.{opening}
+use Rattle.nsi_play.specs.Openings.{Plans, opening}
 use Rattle.nsi_play.specs.Rounds.{Net, Homes, is_quiet_in, all_quiet}
 use Rattle.nsi_play.specs.Play.{Played, plays}
 use Rattle.nsi_world.specs.Agents.{NoneIsRecursive}
-use Rattle.nsi_world.specs.Worlds.{World, empty, said}
+use Rattle.nsi_world.specs.Worlds.{World, empty, IsTo, said}
 use Rattle.nsi_world.specs.Runs.{world_after}
 use Rattle.nsi_world.specs.Laws.{PlayRests}
-use Rattle.settled_play.specs.Settled.{AllBut, WasAcked, IsOf, IsHeard, IsOver, none_lost, IsSettled, PlaySettles, IsDone, PlayLeavesNone}
+use Rattle.settled_play.specs.Settled.{AllBut, WasAcked, IsOf, IsHeard, IsOver, losses, LeavesOnlyLost, PlaySettles, LoseNothing, IsDone, PlayLeavesNone}
 use Rattle.settled_play.proofs.Finding.{none_there, first_or_later, idle_door}
 use Rattle.nsi_world.proofs.Names.{home_name}
 use Rattle.nsi_world.proofs.Resting.{opening_quiet}
 use Rattle.settled_play.proofs.Links.{Given, IsLinked, Way, agent_there, others_within, said_goes}
-use Rattle.settled_play.proofs.Pairs.{IsFor, IsEmpty, pair_over}
+use Rattle.settled_play.proofs.Pairs.{IsFor, IsEmpty, Pair, pair_heard, pair_acked}
+use Rattle.settled_play.proofs.Putting.{counted, ahead}
+use Rattle.settled_play.proofs.Places.{places_of, as_many, place_there, said_once, ahead_within, losses_none}
 use Rattle.settled_play.proofs.Journals.{entered_at, journal_after}
 use Rattle.settled_play.proofs.Rounds.{SitsIn, HasMetAll, Rests, numbered}
 use Rattle.settled_play.proofs.Plays.{Ends, plays_end, opening_rests}
@@ -62,21 +69,42 @@ quiet_empty t routes past s h met q =
 
 ---- What an agent has said
 
--- a message that an agent has caused for another one was got, and its acknowledgement was taken
-over : (t : Network) (routes : Routes) (past : List Event) (net : Net) → Rests t routes past net → all_quiet (home_in t routes) net ≡ true → (a b : ℕ) (m : Message) → a < length t.agents → b < length t.agents → IsFor t b m
-    → Contains (told (home_in t routes a) (entered_at a past)).out m → WasGot m (entered_at b past) × WasAcked (identity m) (entered_at a past)
-over t routes past net r quiet a b m la lb e c =
+-- what two agents leave between them: what the one has caused for the other one was got, or was lost; and its acknowledgement was taken, or one
+-- of the two was lost
+record Left (t : Network) (routes : Routes) (plans : Plans) (past : List Event) (a b : ℕ) : Type 0 where
+  pub there : List Parcel
+  pub back : List Parcel
+  pub few : (n : ℕ) → counted n there ≤ ahead n (plans a b)
+  pub few_back : (n : ℕ) → counted n back ≤ ahead n (plans b a)
+  pub heard : (m : Message) → IsFor t b m → Contains (told (home_in t routes a) (entered_at a past)).out m → WasGot m (entered_at b past) ⊎ Contains there (Parcel.Message m)
+  pub acked : (m : Message) → IsFor t b m → Contains (told (home_in t routes a) (entered_at a past)).out m
+      → WasAcked (identity m) (entered_at a past) ⊎ (Contains there (Parcel.Message m) ⊎ Contains back (Parcel.Ack (identity m)))
+
+left_between : (t : Network) (routes : Routes) (plans : Plans) (past : List Event) (net : Net) → Rests t routes plans past net → all_quiet (home_in t routes) net ≡ true → (a b : ℕ) → a < length t.agents → b < length t.agents → Left t routes plans past a b
+left_between t routes plans past net r quiet a b la lb =
     let homes : Homes = home_in t routes in
     let x = numbered net a (subst (λ ns. Contains ns a) (sym r.numbers) (agent_there t a la)) in
     let y = numbered net b (subst (λ ns. Contains ns b) (sym r.numbers) (agent_there t b lb)) in
     let none = λ (s : Seat) (k : Contains net s). quiet_empty t routes past s (r.sits s k) (r.met s k) (quiet_one homes net s quiet k) in
-    let both : WasGot m (entered_at y.0.number past) × WasAcked (identity m) (entered_at x.0.number past) =
-    pair_over t routes x.0.number y.0.number (entered_at x.0.number past) (entered_at y.0.number past) x.0 y.0 m (none x.0 x.1) (none y.0 y.1) (r.pairs x.0 y.0 x.1 y.1) (subst (λ n. IsFor t n m) (sym y.2) e)
-    (subst (λ n. Contains (told (home_in t routes n) (entered_at n past)).out m) (sym x.2) c) in
-    (subst (λ n. WasGot m (entered_at n past)) y.2 both.0, subst (λ n. WasAcked (identity m) (entered_at n past)) x.2 both.1)
+    let q : Pair t routes plans x.0.number y.0.number (entered_at x.0.number past) (entered_at y.0.number past) [] [] x.0 y.0 = r.pairs x.0 y.0 x.1 y.1 in
+    let left : Left t routes plans past x.0.number y.0.number = record {
+      there = q.there;
+      back = q.back;
+      few = λ n. let h = q.within n in omega (arith, h);
+      few_back = λ n. let h = q.within_back n in omega (arith, h);
+      heard = λ m e c. pair_heard t routes x.0.number y.0.number (entered_at x.0.number past) (entered_at y.0.number past) x.0 y.0 m (none x.0 x.1) (none y.0 y.1) q e c;
+      acked = λ m e c. pair_acked t routes x.0.number y.0.number (entered_at x.0.number past) (entered_at y.0.number past) x.0 y.0 m (none x.0 x.1) (none y.0 y.1) q e c;
+    } in
+    subst (λ n. Left t routes plans past n b) x.2 (subst (λ n. Left t routes plans past x.0.number n) y.2 left)
 
-all_of : {X : Type 0} (few : ℕ) (P : X → Type 0) (xs : List X) → ((x : X) → Contains xs x → P x) → AllBut few P xs
-all_of few P xs f = ([], omega arith, λ k d within. inl (f (get_or xs k d) (Contains-get_or xs k d within)))
+---- Whether it is for an agent
+
+some_same : (c b : ℕ) → Some c ≡ Some b → c ≡ b
+some_same c b q = cc
+
+whether : (o : Option ℕ) (b : ℕ) → (o ≡ Some b) ⊎ (o ≡ Some b → ⊥)
+whether None b = inr (λ q. absurd (cc))
+whether (Some c) b = elim (cases_eq c b) [ inl e ↦ inl (ap (λ z. Some z) e) | inr n ↦ inr (λ q. n (some_same c b q)) ]
 
 ---- The world at the end
 
@@ -90,57 +118,129 @@ said_is t routes past w a is lt =
     let s = is.synced a lt in
     ap (λ (es : List Entry). (told (home_in t routes a) es).out) (take_all (w.synced a) (w.journal a) (omega (arith, s)) ∙ is.journal a)
 
-settled_in : (t : Network) (routes : Routes) → Given t routes → (past : List Event) (net : Net) (w : World) → Rests t routes past net → all_quiet (home_in t routes) net ≡ true → IsWorld t routes past w
-    → IsSettled t (home_in t routes) none_lost none_lost w
-settled_in t routes given past net w r quiet is =
+for_it : (t : Network) (routes : Routes) → Given t routes → (b : ℕ) (m : Message) → b < length t.agents → IsTo (home_in t routes) b m → IsFor t b m
+for_it t routes given b m lb to = ap (agent_of t) (to ∙ home_name t routes b) ∙ given.formed.agents b lb
+
+-- what one agent has said to another one
+module _ (t : Network) (routes : Routes) (given : Given t routes) (law : NothingIsSaidTwice) (plans : Plans) (past : List Event) (w : World) (is : IsWorld t routes past w) (a b : ℕ) (kind : Kind) (lb : b < length t.agents) (l : Left t routes plans past a b) where
+  abbrev out : List Message
+  out = (told (home_in t routes a) (entered_at a past)).out
+
+  abbrev number : ℕ
+  number = parcel_number (ParcelKind.Message kind)
+
+  abbrev lost : List ℕ
+  lost = places_of number l.there out
+
+  abbrev lost_back : List ℕ
+  lost_back = places_of (parcel_number ParcelKind.Ack) l.back out
+
+  few_lost : length lost ≤ losses (ParcelKind.Message kind) (plans a b)
+  few_lost =
+      let many = as_many number l.there out in
+      let few = l.few number in
+      let within = ahead_within (ParcelKind.Message kind) (plans a b) in
+      omega (arith, many, few, within)
+
+  few_lost_back : length lost_back ≤ losses ParcelKind.Ack (plans b a)
+  few_lost_back =
+      let many = as_many (parcel_number ParcelKind.Ack) l.back out in
+      let few = l.few_back (parcel_number ParcelKind.Ack) in
+      let within = ahead_within ParcelKind.Ack (plans b a) in
+      omega (arith, many, few, within)
+
+  -- its place, where it was lost and is of that kind
+  place_lost : (k : ℕ) (d : Message) → k < length out → Contains l.there (Parcel.Message (get_or out k d)) → (IsOf (home_in t routes) b kind (get_or out k d) → ⊥) ⊎ Contains lost k
+  place_lost k d within c =
+      let m : Message = get_or out k d in
+      elim (cases_eq (kind_number (kind_of m.body)) (kind_number kind)) [
+        | inl e ↦ inr (subst (λ n. Contains lost n) (said_once law (home_in t routes a) (entered_at a past) k d within) (place_there number l.there (Parcel.Message m) out c e))
+        | inr n ↦ inl (λ of. n (ap (λ z. kind_number z) of.1))
+      ]
+
+  place_back : (k : ℕ) (d : Message) → k < length out → Contains l.back (Parcel.Ack (identity (get_or out k d))) → Contains lost_back k
+  place_back k d within c =
+      subst (λ n. Contains lost_back n) (said_once law (home_in t routes a) (entered_at a past) k d within) (place_there (parcel_number ParcelKind.Ack) l.back (Parcel.Ack (identity (get_or out k d))) out c refl)
+
+  heard_but : AllBut (losses (ParcelKind.Message kind) (plans a b)) (IsHeard (home_in t routes) w b kind) out
+  heard_but = (lost, few_lost, λ k d within. by k d within (whether (agent_of t (addressee (identity (get_or out k d)))) b))
+    where
+      by : (k : ℕ) (d : Message) → k < length out → IsFor t b (get_or out k d) ⊎ (IsFor t b (get_or out k d) → ⊥) → IsHeard (home_in t routes) w b kind (get_or out k d) ⊎ Contains lost k
+      by k d within (inr not) = inl (λ of. absurd (not (for_it t routes given b (get_or out k d) lb of.0)))
+      by k d within (inl to) = elim (l.heard (get_or out k d) to (Contains-get_or out k d within)) [
+        | inl got ↦ inl (λ of. subst (WasGot (get_or out k d)) (sym (is.journal b)) got)
+        | inr gone ↦ elim (place_lost k d within gone) [ inl not ↦ inl (λ of. absurd (not of)) | inr c ↦ inr c ]
+      ]
+
+  over_but : AllBut (losses (ParcelKind.Message kind) (plans a b) + losses ParcelKind.Ack (plans b a)) (IsOver (home_in t routes) w a b kind) out
+  over_but = (lost ++ lost_back, few, λ k d within. by k d within (whether (agent_of t (addressee (identity (get_or out k d)))) b))
+    where
+      few : length (lost ++ lost_back) ≤ losses (ParcelKind.Message kind) (plans a b) + losses ParcelKind.Ack (plans b a)
+      few = let split = length-append lost lost_back in let x = few_lost in let y = few_lost_back in omega (arith, split, x, y)
+
+      gone_there : (k : ℕ) (d : Message) → k < length out → Contains l.there (Parcel.Message (get_or out k d)) → IsOver (home_in t routes) w a b kind (get_or out k d) ⊎ Contains (lost ++ lost_back) k
+      gone_there k d within gone = elim (place_lost k d within gone) [ inl not ↦ inl (λ of. absurd (not of)) | inr c ↦ inr (Contains-append_left lost lost_back k c) ]
+
+      by : (k : ℕ) (d : Message) → k < length out → IsFor t b (get_or out k d) ⊎ (IsFor t b (get_or out k d) → ⊥) → IsOver (home_in t routes) w a b kind (get_or out k d) ⊎ Contains (lost ++ lost_back) k
+      by k d within (inr not) = inl (λ of. absurd (not (for_it t routes given b (get_or out k d) lb of.0)))
+      by k d within (inl to) = elim (l.heard (get_or out k d) to (Contains-get_or out k d within)) [
+        | inl got ↦ elim (l.acked (get_or out k d) to (Contains-get_or out k d within)) [
+          | inl acked ↦ inl (λ of. (subst (WasGot (get_or out k d)) (sym (is.journal b)) got, subst (WasAcked (identity (get_or out k d))) (sym (is.journal a)) acked))
+          | inr gone ↦ elim gone [ inl c ↦ gone_there k d within c | inr c ↦ inr (Contains-append_right lost lost_back k (place_back k d within c)) ]
+        ]
+        | inr gone ↦ gone_there k d within gone
+      ]
+
+settled_in : (t : Network) (routes : Routes) → Given t routes → NothingIsSaidTwice → (plans : Plans) (past : List Event) (net : Net) (w : World) → Rests t routes plans past net → all_quiet (home_in t routes) net ≡ true → IsWorld t routes past w
+    → LeavesOnlyLost t (home_in t routes) plans w
+settled_in t routes given law plans past net w r quiet is =
     let homes : Homes = home_in t routes in
-    let caused : (a : ℕ) (m : Message) → a < length t.agents → Contains (said homes w a) m → Contains (told (homes a) (entered_at a past)).out m =
-    λ a m lt c. subst (λ ms. Contains ms m) (said_is t routes past w a is lt) c in
-    let both : (a b : ℕ) (kind : Kind) (m : Message) → a < length t.agents → b < length t.agents → Contains (said homes w a) m → IsOf homes b kind m → WasGot m (w.journal b) × WasAcked (identity m) (w.journal a) =
-    λ a b kind m la lb c of.
-    let to : IsFor t b m = ap (agent_of t) (of.0 ∙ home_name t routes b) ∙ given.formed.agents b lb in
-    let p = over t routes past net r quiet a b m la lb to (caused a m la c) in
-    (subst (WasGot m) (sym (is.journal b)) p.0, subst (WasAcked (identity m)) (sym (is.journal a)) p.1) in
+    let left = left_between t routes plans past net r quiet in
     record {
       addressed = λ a la k d within.
           let m : Message = get_or (said homes w a) k d in
           let x = numbered net a (subst (λ ns. Contains ns a) (sym r.numbers) (agent_there t a la)) in
           let heard = subst (λ n. All (IsLinked t n) (entered_at n past)) x.2 (r.sits x.0 x.1).heard in
-          let way : Way t a m = said_goes t routes given a (entered_at a past) m la heard (caused a m la (Contains-get_or (said homes w a) k d within)) in
+          let c : Contains (told (homes a) (entered_at a past)).out m = subst (λ ms. Contains ms m) (said_is t routes past w a is la) (Contains-get_or (said homes w a) k d within) in
+          let way : Way t a m = said_goes t routes given a (entered_at a past) m la heard c in
           (way.to, others_within t a way.to way.link, way.goes.1 ∙ sym (home_name t routes way.to));
-      heard = λ a b kind la lb. all_of (none_lost a b kind) (IsHeard homes w b kind) (said homes w a) (λ m c of. (both a b kind m la lb c of).0);
-      acknowledged = λ a b kind la lb. all_of (none_lost a b kind + none_lost b a kind) (IsOver homes w a b kind) (said homes w a) (λ m c of. both a b kind m la lb c of);
+      heard = λ a b kind la lb.
+          subst (AllBut (losses (ParcelKind.Message kind) (plans a b)) (IsHeard homes w b kind)) (sym (said_is t routes past w a is la)) (heard_but t routes given law plans past w is a b kind lb (left a b la lb));
+      acknowledged = λ a b kind la lb.
+          subst (AllBut (losses (ParcelKind.Message kind) (plans a b) + losses ParcelKind.Ack (plans b a)) (IsOver homes w a b kind)) (sym (said_is t routes past w a is la)) (over_but t routes given law plans past w is a b kind lb (left a b la lb));
     }
 
-pub play_settles : WhatIsSaidIsItsOwn → NoneIsRecursive → PlayRests → PlaySettles
-play_settles own plain rests t routes plans groups events last none sound formed routed rise may p =
+pub play_settles : WhatIsSaidIsItsOwn → NoneIsRecursive → NothingIsSaidTwice → PlayRests → PlaySettles
+play_settles own plain once rests t routes plans groups events last sound formed routed rise may p =
     let given : Given t routes = record { own = own; plain = plain; sound = sound; formed = formed; routed = routed } in
     let homes : Homes = home_in t routes in
-    let e : Ends t routes [] (plays p.0 groups 0 homes (opening t plans)) = plays_end t routes given [] p.0 groups 0 (opening t plans) (opening_rests t routes plans none) (opening_quiet t routes plans) (ap (λ (z : Played). z.is_over) p.1) in
-    let end = subst (Ends t routes []) p.1 e in
+    let e : Ends t routes plans [] (plays p.0 groups 0 homes (opening t plans)) = plays_end t routes given [] p.0 groups 0 (opening t plans) (opening_rests t routes plans) (opening_quiet t routes plans) (ap (λ (z : Played). z.is_over) p.1) in
+    let end = subst (Ends t routes plans []) p.1 e in
     let w : World = world_after empty events in
-    settled_in t routes given events last w end.rests end.quiet (record {
+    settled_in t routes given once plans events last w end.rests end.quiet (record {
       journal = λ a. journal_after a empty events end.rests.goes_on;
       synced = λ a lt. (rests t routes plans groups events last formed rise may p a lt).synced;
     })
 
----- Each message
+---- Where nothing is lost
 
 -- where it is so of all but none, it is so of each
-none_but : {X : Type 0} (P : X → Type 0) (xs : List X) → AllBut 0 P xs → All P xs
-none_but P xs h k d within = elim (h.2 k d within) [
+none_but : {X : Type 0} (few : ℕ) (P : X → Type 0) (xs : List X) → few ≡ 0 → AllBut few P xs → All P xs
+none_but few P xs none h k d within = elim (h.2 k d within) [
   | inl p ↦ p
-  | inr c ↦ let few = h.1 in let there = c.1 in absurd (omega (arith, few, there))
+  | inr c ↦ let most = h.1 in let there = c.1 in absurd (omega (arith, none, most, there))
 ]
 
--- where nothing is lost, each message is got and acknowledged
-each_done : (t : Network) (homes : Homes) (w : World) → IsSettled t homes none_lost none_lost w → (a : ℕ) → a < length t.agents → All (IsDone t homes w a) (said homes w a)
-each_done t homes w h a lt k d within =
+-- then each message is got and acknowledged
+each_done : (t : Network) (homes : Homes) (plans : Plans) (w : World) → LoseNothing plans → LeavesOnlyLost t homes plans w → (a : ℕ) → a < length t.agents → All (IsDone t homes w a) (said homes w a)
+each_done t homes plans w nothing h a lt k d within =
     let m : Message = get_or (said homes w a) k d in
     let to = h.addressed a lt k d within in
-    let both = none_but (IsOver homes w a to.0 (kind_of m.body)) (said homes w a) (h.acknowledged a to.0 (kind_of m.body) lt to.1) k d within (to.2, refl) in
+    let kind : ParcelKind = ParcelKind.Message (kind_of m.body) in
+    let none : losses kind (plans a to.0) + losses ParcelKind.Ack (plans to.0 a) ≡ 0 = let x = losses_none kind (plans a to.0) (nothing a to.0) in let y = losses_none ParcelKind.Ack (plans to.0 a) (nothing to.0 a) in omega (arith, x, y) in
+    let both = none_but (losses kind (plans a to.0) + losses ParcelKind.Ack (plans to.0 a)) (IsOver homes w a to.0 (kind_of m.body)) (said homes w a) none (h.acknowledged a to.0 (kind_of m.body) lt to.1) k d within (to.2, refl) in
     (to.0, to.1, to.2, both.0, both.1)
 
-pub play_leaves_none : WhatIsSaidIsItsOwn → NoneIsRecursive → PlayRests → PlayLeavesNone
-play_leaves_none own plain rests t routes plans groups events last none sound formed routed rise may p a lt =
-    each_done t (home_in t routes) (world_after empty events) (play_settles own plain rests t routes plans groups events last none sound formed routed rise may p) a lt
+pub play_leaves_none : WhatIsSaidIsItsOwn → NoneIsRecursive → NothingIsSaidTwice → PlayRests → PlayLeavesNone
+play_leaves_none own plain once rests t routes plans groups events last none sound formed routed rise may p a lt =
+    each_done t (home_in t routes) plans (world_after empty events) none (play_settles own plain once rests t routes plans groups events last sound formed routed rise may p) a lt

@@ -2,6 +2,7 @@ mod Finding
 mod Waiting
 mod Links
 mod Putting
+mod Places
 mod Steps
 mod Moves
 mod Pairs

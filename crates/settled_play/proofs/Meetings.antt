@@ -10,7 +10,7 @@ use Rattle.agent_node.specs.Seat.{Seat}
 use Rattle.agent_node.specs.Meetings.{met}
 use Rattle.nsi_play.specs.Rounds.{Net, meets_each}
 use Rattle.nsi_world.specs.Nets.{number_of, numbers, AreDistinct}
-use Rattle.settled_play.proofs.Finding.{door_to, through_door, door_all, door_found, change_at, change_else, others_change, change_doors, none_there, first_there, later_there, first_or_later, mapped_there}
+use Rattle.settled_play.proofs.Finding.{door_to, through_door, door_all, door_found, change_at, change_else, change_keeps, others_change, change_doors, none_there, first_there, later_there, first_or_later, mapped_there}
 use Rattle.settled_play.proofs.Links.{Goes}
 use Rattle.settled_play.proofs.Steps.{IsDoor, AreDoors, IsPut, Comes}
 use Rattle.settled_play.proofs.Pairs.{Crosses}
@@ -63,6 +63,15 @@ pub meets_others : (s : Seat) (os : Net) → others (meets_each s os).doors ≡ 
 meets_others s [] = ap (λ (u : Seat). others u.doors) (meets_none s)
 meets_others s (o ∷ os) = ap (λ (u : Seat). others u.doors) (meets_more s o os) ∙ (meets_others (met o s) os ∙ met_others o s)
 
+met_plan : (b : ℕ) (o s : Seat) → (door_to b (met o s).doors).plan ≡ (door_to b s.doors).plan
+unfolding met
+met_plan b o s = change_keeps (λ d. d.plan ≡ (door_to b s.doors).plan) b o.number (learns (let_through s.number o.doors)) (λ d. refl) (λ d e. e) s.doors refl
+
+-- a meeting leaves what is planned
+pub meets_plan : (b : ℕ) (s : Seat) (os : Net) → (door_to b (meets_each s os).doors).plan ≡ (door_to b s.doors).plan
+meets_plan b s [] = ap (λ (u : Seat). (door_to b u.doors).plan) (meets_none s)
+meets_plan b s (o ∷ os) = ap (λ (u : Seat). (door_to b u.doors).plan) (meets_more s o os) ∙ (meets_plan b (met o s) os ∙ met_plan b o s)
+
 -- each of them is met once
 pub meets_at : (o s : Seat) (os : Net) → AreDistinct (numbers os) → Contains os o → Contains (others s.doors) o.number → door_to o.number (meets_each s os).doors ≡ learns (let_through s.number o.doors) (door_to o.number s.doors)
 meets_at o s [] d c l = absurd (none_there o c)
@@ -90,7 +99,6 @@ met_doors t a o s is ho hs = change_doors (IsDoor t a) o.number (learns (let_thr
     step : (d : Door) → d.other ≡ o.number → IsDoor t a d → IsDoor t a (learns (let_through s.number o.doors) d)
     step d e k = record {
       link = k.link;
-      keeps = k.keeps;
       queue = k.queue;
       out = All-nil (Goes t a d.other);
       inc = subst (λ n. All (Goes t n a) (let_through s.number o.doors)) (sym e) (subst (λ n. All (Goes t o.number a) (let_through n o.doors)) (sym is) (lets_through t a o.number o.doors ho));

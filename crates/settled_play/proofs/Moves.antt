@@ -1,5 +1,5 @@
 -- The steps of a turn, of a tick and of an act.
-use Rattle.std.proofs.Common.{ℕ, zero, suc, ◌+◌, ◌<◌, ◌≡◌, ◌==◌, Bool, true, false, cond, not, List, [], ◌∷◌, ◌++◌, Option, Some, None, ◌⊎◌, inl, inr, refl, sym, ap, ◌∙◌, subst, length, map, get_or, append-nil, eq-eqb, ne_eqb}
+use Rattle.std.proofs.Common.{ℕ, zero, suc, ◌+◌, ◌<◌, ◌≤◌, ◌≡◌, arith, ◌==◌, Bool, true, false, cond, not, List, [], ◌∷◌, ◌++◌, Option, Some, None, ◌⊎◌, inl, inr, refl, sym, ap, ◌∙◌, subst, length, map, get_or, append-nil, eq-eqb, ne_eqb}
 use Rattle.std.specs.List.{All, Contains}
 use Rattle.std.proofs.lemmas.Bool.{cases_eq}
 use Rattle.std.proofs.lemmas.List.Elements.{All-nil, All-head, All-tail, All-append, All-push, All-filter, All-weaker, All-map, All-contains, Contains-append_left, Contains-push}
@@ -28,22 +28,27 @@ use Rattle.agent_node.specs.Seat.{Seat, now_at, enters, enters_if, queues}
 use Rattle.agent_node.specs.Turns.{cleared, takes, takes_all, work_then, works_off, worked, sync_event, syncs, syncs_if, synced_all, pushed, turn_with, turned}
 use Rattle.agent_node.specs.Acts.{asked, forced, is_overdue, overdue, tick_at, ticked}
 use Rattle.nsi_play.specs.Play.{changes, does}
-use Rattle.settled_play.proofs.Finding.{door_to, door_all, none_there, first_there, later_there, first_or_later, change_doors, map_door, others_map, lies_there, with_leads, queued_there, queue_keeps, says_keeps, said_there, others_change}
-use Rattle.settled_play.specs.Settled.{IsRepeat, LosesNone}
-use Rattle.settled_play.proofs.Putting.{passes_keep, passes_lose}
+use Rattle.settled_play.proofs.Finding.{door_to, none_there, first_there, later_there, first_or_later, change_doors, map_door, others_map, lies_there, with_leads, queued_there, queue_keeps, says_keeps, said_there, others_change}
+use Rattle.settled_play.proofs.Putting.{counted, counted_none, ahead, lost_in, passes_keep, passes_count}
 use Rattle.settled_play.proofs.Waiting.{acked_before}
 use Rattle.nsi_world.proofs.Names.{home_leads}
 use Rattle.settled_play.proofs.Links.{Given, Goes, IsLinked, Way, said_goes}
-use Rattle.settled_play.proofs.Steps.{entered_append, IsOwn, IsDoor, IsInHand, AreDoors, Sits, Step, step_none, step_twice, step_entry, Keeps, step_doors, step_taken}
+use Rattle.settled_play.proofs.Steps.{entered_append, IsOwn, IsDoor, IsInHand, AreDoors, Sits, nothing_lost, both_lost, IsPlanned, none_planned, planned_twice, put_twice, Step, step_none, step_twice, step_entry, Keeps, step_doors, step_taken}
 
 ---- What the doors keep
+
+-- where nothing is lost and each plan stays
+same_plans : (ds es : List Door) → ((b : ℕ) → (door_to b es).plan ≡ (door_to b ds).plan) → IsPlanned nothing_lost ds es
+same_plans ds es e b n = let z = counted_none n in let same : ahead n (door_to b es).plan ≡ ahead n (door_to b ds).plan = ap (ahead n) (e b) in omega (arith, z, same)
 
 pub keeps_queue : (t : Network) (a c : ℕ) (p : Parcel) (hs : List (ℕ × Parcel)) (ds : List Door) → Goes t a c p → Keeps t a hs hs ds (queue_at c p ds)
 keeps_queue t a c p hs ds g = record {
   others = others_change c (with_parcel p) (with_leads p) ds;
   doors = λ h. change_doors (IsDoor t a) c (with_parcel p) with_one ds h;
   held = λ d h. h;
-  put = λ b q k. queue_keeps (λ d. Contains d.queue q ⊎ Contains d.out q) (more q) b c p ds k;
+  lost = nothing_lost;
+  planned = same_plans ds (queue_at c p ds) (λ b. queue_keeps (λ d. d.plan ≡ (door_to b ds).plan) (λ x d z. z) b c p ds refl);
+  put = λ b q k. inl (queue_keeps (λ d. Contains d.queue q ⊎ Contains d.out q) (more q) b c p ds k);
   came = λ b q k. elim k [
     | inl i ↦ inl (queue_keeps (λ d. Contains d.inc q) (λ x d z. z) b c p ds i)
     | inr i ↦ inr i
@@ -52,21 +57,23 @@ keeps_queue t a c p hs ds g = record {
 }
   where
     with_one : (d : Door) → d.other ≡ c → IsDoor t a d → IsDoor t a (with_parcel p d)
-    with_one d e k = record { link = k.link; queue = All-push (Goes t a d.other) d.queue p k.queue (subst (λ n. Goes t a n p) (sym e) g); out = k.out; inc = k.inc; keeps = k.keeps }
+    with_one d e k = record { link = k.link; queue = All-push (Goes t a d.other) d.queue p k.queue (subst (λ n. Goes t a n p) (sym e) g); out = k.out; inc = k.inc }
 
     more : (q x : Parcel) (d : Door) → Contains d.queue q ⊎ Contains d.out q → Contains (d.queue ++ x ∷ []) q ⊎ Contains d.out q
     more q x d (inl c) = inl (Contains-append_left d.queue (x ∷ []) q c)
     more q x d (inr c) = inr c
 
 keeps_none : (t : Network) (a : ℕ) (hs : List (ℕ × Parcel)) (ds : List Door) → Keeps t a hs hs ds ds
-keeps_none t a hs ds = record { others = refl; doors = λ h. h; held = λ d h. h; put = λ b p k. k; came = λ b p k. k; fewer = λ b p k. k }
+keeps_none t a hs ds = record { others = refl; doors = λ h. h; held = λ d h. h; lost = nothing_lost; planned = none_planned ds; put = λ b p k. inl k; came = λ b p k. k; fewer = λ b p k. k }
 
 keeps_twice : (t : Network) (a : ℕ) (hs hu hv : List (ℕ × Parcel)) (ds es fs : List Door) → Keeps t a hs hu ds es → Keeps t a hu hv es fs → Keeps t a hs hv ds fs
 keeps_twice t a hs hu hv ds es fs p q = record {
   others = q.others ∙ p.others;
   doors = λ h. q.doors (p.doors h);
   held = λ d h. q.held (p.doors d) (p.held d h);
-  put = λ b x k. q.put b x (p.put b x k);
+  lost = both_lost p.lost q.lost;
+  planned = planned_twice p.lost q.lost ds es fs p.planned q.planned;
+  put = λ b x k. put_twice b es fs p.lost q.lost x (λ z. q.put b z) (p.put b x k);
   came = λ b x k. q.came b x (p.came b x k);
   fewer = λ b x k. p.fewer b x (q.fewer b x k);
 }
@@ -98,9 +105,11 @@ mapped_from f (x ∷ xs) y c = elim (first_or_later (f x) (map f xs) y c) [
 pub keeps_clear : (t : Network) (a : ℕ) (ds : List Door) → Keeps t a [] (lying ds) ds (map clears ds)
 keeps_clear t a ds = record {
   others = others_map clears (λ d. refl) ds;
-  doors = λ h d c. let r = mapped_from clears ds d c in subst (IsDoor t a) r.2 (let k = h r.0 r.1 in record { link = k.link; queue = k.queue; out = k.out; inc = All-nil (Goes t r.0.other a); keeps = k.keeps });
+  doors = λ h d c. let r = mapped_from clears ds d c in subst (IsDoor t a) r.2 (let k = h r.0 r.1 in record { link = k.link; queue = k.queue; out = k.out; inc = All-nil (Goes t r.0.other a) });
   held = λ h z. held ds h;
-  put = λ b p k. subst (λ (d : Door). Contains d.queue p ⊎ Contains d.out p) (sym (map_door b clears (λ d. refl) refl ds)) k;
+  lost = nothing_lost;
+  planned = same_plans ds (map clears ds) (λ b. ap (λ (d : Door). d.plan) (map_door b clears (λ d. refl) refl ds));
+  put = λ b p k. inl (subst (λ (d : Door). Contains d.queue p ⊎ Contains d.out p) (sym (map_door b clears (λ d. refl) refl ds)) k);
   came = λ b p k. elim k [
     | inl i ↦ inr (lies_there b ds p i)
     | inr i ↦ absurd (none_there (b, p) i)
@@ -122,14 +131,22 @@ pushes_none : (b : ℕ) → pushes (empty_door b) ≡ empty_door b
 unfolding passes
 pushes_none b = refl
 
-pub keeps_push : (t : Network) (a : ℕ) (ds : List Door) → AreDoors t a ds → Keeps t a [] [] ds (map pushes ds)
-keeps_push t a ds are = record {
+-- what the push to an agent loses
+abbrev lost_at : Door → List Parcel
+lost_at d = lost_in d.queue d.plan d.out
+
+pub keeps_push : (t : Network) (a : ℕ) (ds : List Door) → Keeps t a [] [] ds (map pushes ds)
+keeps_push t a ds = record {
   others = others_map pushes (λ d. refl) ds;
   doors = λ h d c. let r = mapped_from pushes ds d c in subst (IsDoor t a) r.2 (pushed_door r.0 (h r.0 r.1));
   held = λ d h. h;
-  put = λ b p k. subst (λ (d : Door). Contains d.queue p ⊎ Contains d.out p) (sym (map_door b pushes (λ d. refl) (pushes_none b) ds))
-      (let d : Door = door_to b ds in
-      passes_keep p d.queue d.plan d.out (door_all (λ d. LosesNone d.plan) b ds (All-nil IsRepeat) (λ d e c. (are d c).keeps)) k);
+  lost = λ b. lost_at (door_to b ds);
+  planned = λ b n.
+      let d : Door = door_to b ds in
+      subst (λ (x : Door). counted n (lost_at d) + ahead n x.plan ≤ ahead n d.plan) (sym (map_door b pushes (λ d. refl) (pushes_none b) ds)) (passes_count n d.queue d.plan d.out);
+  put = λ b p k.
+      let d : Door = door_to b ds in
+      subst (λ (x : Door). (Contains x.queue p ⊎ Contains x.out p) ⊎ Contains (lost_at d) p) (sym (map_door b pushes (λ d. refl) (pushes_none b) ds)) (passes_keep p d.queue d.plan d.out k);
   came = λ b p k. elim k [
     | inl i ↦ inl (subst (λ (d : Door). Contains d.inc p) (sym (map_door b pushes (λ d. refl) (pushes_none b) ds)) i)
     | inr i ↦ inr i
@@ -143,7 +160,6 @@ keeps_push t a ds are = record {
       queue = passes_queue (Goes t a d.other) d.queue d.plan d.out k.queue;
       out = passes_out (Goes t a d.other) d.queue d.plan d.out k.queue k.out;
       inc = k.inc;
-      keeps = passes_lose d.queue d.plan d.out k.keeps;
     }
 
 ---- What came is taken
@@ -178,7 +194,7 @@ acks t routes a from m js ks xs s u link p got =
     let there : Contains (door_to from ds).queue ack = queued_there from ack u.doors (subst (λ ns. Contains ns from) (sym p.sits.others) link) in
     record {
       journal = ks;
-      step = step_taken t routes a js ks x xs s (queues from ack u) (step_twice t routes a js ks ks (x ∷ xs) (x ∷ xs) (x ∷ xs) s u (queues from ack u) p q) (got, inl there);
+      step = step_taken t routes a js ks x xs s (queues from ack u) (step_twice t routes a js ks ks (x ∷ xs) (x ∷ xs) (x ∷ xs) s u (queues from ack u) p q) (got, inl (inl there));
     }
 
 same_gets : (m : Message) → IsSame m m
@@ -295,7 +311,9 @@ move_sync t routes given a js s h =
             let w = All-contains (Way t a) s.unsaid m way c in
             let same : w.to ≡ b = some_same w.to b (sym w.goes.0 ∙ e) in
             let link : Contains (others s.doors) b = subst (λ ns. Contains ns b) (sym h.others) (subst (Contains (others_of t a)) same w.link) in
-            inr (inl (said_there home.agent_of b m s.unsaid s.doors c (ap (λ (f : List ℕ → Option ℕ). f (addressee (identity m))) (home_leads t routes a) ∙ e) link));
+            inl (inr (inl (said_there home.agent_of b m s.unsaid s.doors c (ap (λ (f : List ℕ → Option ℕ). f (addressee (identity m))) (home_leads t routes a) ∙ e) link)));
+        lost = k.lost;
+        planned = k.planned;
         put = k.put;
         came = λ b p c. inl (k.came b p c);
         fewer = k.fewer;
@@ -330,7 +348,7 @@ move_turned t routes given a js s h =
     let y : Seat = synced_all home x in
     let o = move_synced t routes given a (length x.fresh == 0) r.journal x r.step.sits in
     let z : Seat = pushed y in
-    let l = step_doors t routes a o.journal [] [] y (map pushes y.doors) (keeps_push t a y.doors o.step.sits.doors) o.step.sits in
+    let l = step_doors t routes a o.journal [] [] y (map pushes y.doors) (keeps_push t a y.doors) o.step.sits in
     let rest : Moves t routes a js (lying s.doors) [] u z = move_twice t routes a js (lying s.doors) [] [] u v z q (move_twice t routes a q.journal [] [] [] v x z r (move_twice t routes a r.journal [] [] [] x y z o (record { journal = o.journal; step = l }))) in
     record {
       moves = record { journal = rest.journal; step = step_twice t routes a js js rest.journal [] (lying s.doors) [] s u z p rest.step };

@@ -1,5 +1,5 @@
 -- All agents at the end of a play.
-use Rattle.std.proofs.Common.{ℕ, zero, suc, ◌+◌, ◌≡◌, Bool, true, false, List, [], ◌∷◌, ◌++◌, inl, inr, refl, sym, ap, ◌∙◌, subst, map, append_assoc, append-nil}
+use Rattle.std.proofs.Common.{ℕ, zero, suc, ◌+◌, ◌≤◌, ◌≡◌, arith, Bool, true, false, List, [], ◌∷◌, ◌++◌, inl, inr, refl, sym, ap, ◌∙◌, subst, map, append_assoc, append-nil}
 use Rattle.std.specs.List.{Contains}
 use Rattle.std.proofs.lemmas.Bool.{cases_Bool}
 use Rattle.std.proofs.lemmas.List.Elements.{All-nil}
@@ -17,8 +17,9 @@ use Rattle.nsi_play.specs.Rounds.{Net, Homes, round, events_of, emptied, all_qui
 use Rattle.nsi_play.specs.Play.{Played, behind, after_round, settles, does, acted, asks_in, asks_among, acts, ticked_in, begins, group, plays}
 use Rattle.nsi_play.proofs.Settling.{settle_quiet, settle_more, settle_stop, group_is, plays_cons, plays_nil, acts_cons, acts_none, then_over, then_stopped}
 use Rattle.nsi_world.specs.Nets.{numbers, IsTold}
-use Rattle.settled_play.specs.Settled.{LoseNothing}
-use Rattle.settled_play.proofs.Finding.{door_all, none_there}
+use Rattle.settled_play.proofs.Finding.{door_to, door_all, none_there}
+use Rattle.settled_play.proofs.Putting.{ahead, ahead_none, counted_none}
+use Rattle.settled_play.proofs.Pairs.{IsWithin}
 use Rattle.settled_play.proofs.Links.{Given, Goes, IsLinked, agents_within}
 use Rattle.settled_play.proofs.Steps.{IsDoor, IsInHand}
 use Rattle.settled_play.proofs.Moves.{mapped_from, move_ticked, move_does}
@@ -26,78 +27,78 @@ use Rattle.settled_play.proofs.Journals.{GoesOn}
 use Rattle.settled_play.proofs.Rounds.{SitsIn, PairIn, HasMetAll, Rests, act_rests, round_rests}
 
 -- where the play has come to
-abbrev pub Comes : Network → Routes → List Event → Played → Type 0
-Comes t routes past p = Rests t routes (past ++ p.events) p.net
+abbrev pub Comes : Network → Routes → Plans → List Event → Played → Type 0
+Comes t routes plans past p = Rests t routes plans (past ++ p.events) p.net
 
-comes_over : (t : Network) (routes : Routes) (past : List Event) (x : Net) (b : Bool) → Rests t routes past x → Comes t routes past (record { events = []; net = x; is_over = b })
-comes_over t routes past x b r = subst (λ es. Rests t routes es x) (sym (append-nil past)) r
+comes_over : {plans : Plans} (t : Network) (routes : Routes) (past : List Event) (x : Net) (b : Bool) → Rests t routes plans past x → Comes t routes plans past (record { events = []; net = x; is_over = b })
+comes_over {plans} t routes past x b r = subst (λ es. Rests t routes plans es x) (sym (append-nil past)) r
 
-comes_more : (t : Network) (routes : Routes) (past es : List Event) (p : Played) → Comes t routes (past ++ es) p → Comes t routes past (behind es p)
-comes_more t routes past es p r = subst (λ fs. Rests t routes fs p.net) (append_assoc past es p.events) r
+comes_more : {plans : Plans} (t : Network) (routes : Routes) (past es : List Event) (p : Played) → Comes t routes plans (past ++ es) p → Comes t routes plans past (behind es p)
+comes_more {plans} t routes past es p r = subst (λ fs. Rests t routes plans fs p.net) (append_assoc past es p.events) r
 
 ---- Acts
 
-acts_come : (t : Network) (routes : Routes) (past : List Event) (todo : List Act) (count : ℕ) (x : Net) → Rests t routes past x → Comes t routes past (acts todo count (home_in t routes) x)
-acts_come t routes past [] count x r = subst (Comes t routes past) (sym (acts_none count (home_in t routes) x)) (comes_over t routes past x true r)
-acts_come t routes past (a ∷ rest) count x r =
+acts_come : {plans : Plans} (t : Network) (routes : Routes) (past : List Event) (todo : List Act) (count : ℕ) (x : Net) → Rests t routes plans past x → Comes t routes plans past (acts todo count (home_in t routes) x)
+acts_come {plans} t routes past [] count x r = subst (Comes t routes plans past) (sym (acts_none count (home_in t routes) x)) (comes_over t routes past x true r)
+acts_come {plans} t routes past (a ∷ rest) count x r =
     let homes : Homes = home_in t routes in
     let y : Net = acted a count homes x in
     let n : ℕ = count + asks_in a in
-    subst (Comes t routes past) (sym (acts_cons a rest count homes x))
+    subst (Comes t routes plans past) (sym (acts_cons a rest count homes x))
     (comes_more t routes past (events_of y) (acts rest n homes (emptied y)) (acts_come t routes (past ++ events_of y) rest n (emptied y) (act_rests t routes past (does a count homes) x (λ js s h. move_does t routes s.number a count js s h) r)))
 
 begins_is : (g : Group) (count : ℕ) (homes : Homes) (x : Net) → begins g count homes x ≡ after_round (map (ticked_in g.at homes) x) (acts g.acts count homes)
 unfolding begins
 begins_is g count homes x = refl
 
-begins_come : (t : Network) (routes : Routes) → Given t routes → (past : List Event) (g : Group) (count : ℕ) (x : Net) → Rests t routes past x → Comes t routes past (begins g count (home_in t routes) x)
-begins_come t routes given past g count x r =
+begins_come : {plans : Plans} (t : Network) (routes : Routes) → Given t routes → (past : List Event) (g : Group) (count : ℕ) (x : Net) → Rests t routes plans past x → Comes t routes plans past (begins g count (home_in t routes) x)
+begins_come {plans} t routes given past g count x r =
     let homes : Homes = home_in t routes in
     let y : Net = map (ticked_in g.at homes) x in
-    subst (Comes t routes past) (sym (begins_is g count homes x))
+    subst (Comes t routes plans past) (sym (begins_is g count homes x))
     (comes_more t routes past (events_of y) (acts g.acts count homes (emptied y))
     (acts_come t routes (past ++ events_of y) g.acts count (emptied y) (act_rests t routes past (ticked_in g.at homes) x (λ js s h. move_ticked t routes given s.number g.at js s h) r)))
 
 ---- The end
 
 -- all are quiet
-pub record Ends (t : Network) (routes : Routes) (past : List Event) (p : Played) : Type 0 where
-  pub rests : Rests t routes (past ++ p.events) p.net
+pub record Ends (t : Network) (routes : Routes) (plans : Plans) (past : List Event) (p : Played) : Type 0 where
+  pub rests : Rests t routes plans (past ++ p.events) p.net
   pub quiet : all_quiet (home_in t routes) p.net ≡ true
 
-ends_more : (t : Network) (routes : Routes) (past es : List Event) (p : Played) → Ends t routes (past ++ es) p → Ends t routes past (behind es p)
-ends_more t routes past es p h = record { rests = comes_more t routes past es p h.rests; quiet = h.quiet }
+ends_more : {plans : Plans} (t : Network) (routes : Routes) (past es : List Event) (p : Played) → Ends t routes plans (past ++ es) p → Ends t routes plans past (behind es p)
+ends_more {plans} t routes past es p h = record { rests = comes_more t routes past es p h.rests; quiet = h.quiet }
 
 never : {X : Type 0} (b : Bool) → b ≡ false → b ≡ true → X
 never b p q = absurd (cc)
 
-settles_end : (t : Network) (routes : Routes) → Given t routes → (past : List Event) (most : ℕ) (x : Net) → Rests t routes past x → (settles most (home_in t routes) x).is_over ≡ true → Ends t routes past (settles most (home_in t routes) x)
-settles_end t routes given past zero x r over = let homes : Homes = home_in t routes in elim (cases_Bool (all_quiet homes x)) [
-  | inl q ↦ subst (Ends t routes past) (sym (settle_quiet 0 homes x q)) (record { rests = comes_over t routes past x true r; quiet = q })
+settles_end : {plans : Plans} (t : Network) (routes : Routes) → Given t routes → (past : List Event) (most : ℕ) (x : Net) → Rests t routes plans past x → (settles most (home_in t routes) x).is_over ≡ true → Ends t routes plans past (settles most (home_in t routes) x)
+settles_end {plans} t routes given past zero x r over = let homes : Homes = home_in t routes in elim (cases_Bool (all_quiet homes x)) [
+  | inl q ↦ subst (Ends t routes plans past) (sym (settle_quiet 0 homes x q)) (record { rests = comes_over t routes past x true r; quiet = q })
   | inr q ↦ never false refl (sym (ap (λ (p : Played). p.is_over) (settle_stop homes x q)) ∙ over)
 ]
-settles_end t routes given past (suc most) x r over = let homes : Homes = home_in t routes in elim (cases_Bool (all_quiet homes x)) [
-  | inl q ↦ subst (Ends t routes past) (sym (settle_quiet (suc most) homes x q)) (record { rests = comes_over t routes past x true r; quiet = q })
+settles_end {plans} t routes given past (suc most) x r over = let homes : Homes = home_in t routes in elim (cases_Bool (all_quiet homes x)) [
+  | inl q ↦ subst (Ends t routes plans past) (sym (settle_quiet (suc most) homes x q)) (record { rests = comes_over t routes past x true r; quiet = q })
   | inr q ↦
       let y : Net = round homes x in
       let more = settle_more most homes x q in
-      subst (Ends t routes past) (sym more)
+      subst (Ends t routes plans past) (sym more)
       (ends_more t routes past (events_of y) (settles most homes (emptied y)) (settles_end t routes given (past ++ events_of y) most (emptied y) (round_rests t routes given past x r) (sym (ap (λ (p : Played). p.is_over) more) ∙ over)))
 ]
 
-group_end : (t : Network) (routes : Routes) → Given t routes → (past : List Event) (most : ℕ) (g : Group) (count : ℕ) (x : Net) → Rests t routes past x → (group most g count (home_in t routes) x).is_over ≡ true
-    → Ends t routes past (group most g count (home_in t routes) x)
-group_end t routes given past most g count x r over =
+group_end : {plans : Plans} (t : Network) (routes : Routes) → Given t routes → (past : List Event) (most : ℕ) (g : Group) (count : ℕ) (x : Net) → Rests t routes plans past x → (group most g count (home_in t routes) x).is_over ≡ true
+    → Ends t routes plans past (group most g count (home_in t routes) x)
+group_end {plans} t routes given past most g count x r over =
     let homes : Homes = home_in t routes in
     let b : Played = begins g count homes x in
     let same = group_is most g count homes x in
-    subst (Ends t routes past) (sym same)
+    subst (Ends t routes plans past) (sym same)
     (ends_more t routes past b.events (settles most homes b.net) (settles_end t routes given (past ++ b.events) most b.net (begins_come t routes given past g count x r) (sym (ap (λ (p : Played). p.is_over) same) ∙ over)))
 
-pub plays_end : (t : Network) (routes : Routes) → Given t routes → (past : List Event) (most : ℕ) (gs : List Group) (count : ℕ) (x : Net) → Rests t routes past x → all_quiet (home_in t routes) x ≡ true
-    → (plays most gs count (home_in t routes) x).is_over ≡ true → Ends t routes past (plays most gs count (home_in t routes) x)
-plays_end t routes given past most [] count x r quiet over = subst (Ends t routes past) (sym (plays_nil most count (home_in t routes) x)) (record { rests = comes_over t routes past x true r; quiet = quiet })
-plays_end t routes given past most (g ∷ gs) count x r quiet over =
+pub plays_end : {plans : Plans} (t : Network) (routes : Routes) → Given t routes → (past : List Event) (most : ℕ) (gs : List Group) (count : ℕ) (x : Net) → Rests t routes plans past x → all_quiet (home_in t routes) x ≡ true
+    → (plays most gs count (home_in t routes) x).is_over ≡ true → Ends t routes plans past (plays most gs count (home_in t routes) x)
+plays_end {plans} t routes given past most [] count x r quiet over = subst (Ends t routes plans past) (sym (plays_nil most count (home_in t routes) x)) (record { rests = comes_over t routes past x true r; quiet = quiet })
+plays_end {plans} t routes given past most (g ∷ gs) count x r quiet over =
     let homes : Homes = home_in t routes in
     let p : Played = group most g count homes x in
     let n : ℕ = count + asks_among g.acts in
@@ -106,7 +107,7 @@ plays_end t routes given past most (g ∷ gs) count x r quiet over =
       | inl o ↦
           let whole = first ∙ then_over p (plays most gs n homes) o in
           let e = group_end t routes given past most g count x r o in
-          subst (Ends t routes past) (sym whole)
+          subst (Ends t routes plans past) (sym whole)
           (ends_more t routes past p.events (plays most gs n homes p.net) (plays_end t routes given (past ++ p.events) most gs n p.net e.rests e.quiet (sym (ap (λ (z : Played). z.is_over) whole) ∙ over)))
       | inr o ↦ never p.is_over o (sym (ap (λ (z : Played). z.is_over) (first ∙ then_stopped p (plays most gs n homes) o)) ∙ over)
     ]
@@ -121,21 +122,21 @@ empty_others : (plans : ℕ → Plan) (bs : List ℕ) → others (map (opened pl
 empty_others plans [] = refl
 empty_others plans (b ∷ bs) = ap (λ xs. b ∷ xs) (empty_others plans bs)
 
-empty_doors : (t : Network) (plans : Plans) → LoseNothing plans → (a : ℕ) (d : Door) → Contains (doors_of t plans a) d → IsDoor t a d
-empty_doors t plans none a d c =
+empty_doors : (t : Network) (plans : Plans) → (a : ℕ) (d : Door) → Contains (doors_of t plans a) d → IsDoor t a d
+empty_doors t plans a d c =
     let x = mapped_from (opened (plans a)) (others_of t a) d c in
-    subst (IsDoor t a) x.2 (record { link = x.1; keeps = none a x.0; queue = All-nil (Goes t a x.0); out = All-nil (Goes t a x.0); inc = All-nil (Goes t x.0 a) })
+    subst (IsDoor t a) x.2 (record { link = x.1; queue = All-nil (Goes t a x.0); out = All-nil (Goes t a x.0); inc = All-nil (Goes t x.0 a) })
 
-seat_sits : (t : Network) (routes : Routes) (plans : Plans) → LoseNothing plans → (a : ℕ) → Contains (agents t) a → SitsIn t routes [] (seat_of t plans a)
+seat_sits : (t : Network) (routes : Routes) (plans : Plans) → (a : ℕ) → Contains (agents t) a → SitsIn t routes [] (seat_of t plans a)
 unfolding goes_on
-seat_sits t routes plans none a c = record {
+seat_sits t routes plans a c = record {
   number = refl;
   within = agents_within t a c;
   state = refl;
   clear = λ q. refl;
   unsaid = All-nil (Contains (told (home_in t routes a) []).out);
   others = empty_others (plans a) (others_of t a);
-  doors = empty_doors t plans none a;
+  doors = empty_doors t plans a;
   heard = All-nil (IsLinked t a);
   held = All-nil (IsInHand t a);
 }
@@ -143,22 +144,34 @@ seat_sits t routes plans none a c = record {
 seat_met : (t : Network) (plans : Plans) (a : ℕ) → HasMetAll (seat_of t plans a)
 seat_met t plans a b = door_all (λ d. d.out ≡ []) b (doors_of t plans a) refl (λ d e c. let x = mapped_from (opened (plans a)) (others_of t a) d c in ap (λ (z : Door). z.out) (sym x.2))
 
-seats_pair : (t : Network) (routes : Routes) (plans : Plans) (a b : ℕ) → PairIn t routes [] (seat_of t plans a) (seat_of t plans b)
+-- what is planned for the way to an agent
+opened_plan : (t : Network) (plans : Plans) (a b n : ℕ) → ahead n (door_to b (doors_of t plans a)).plan ≤ ahead n (plans a b)
+opened_plan t plans a b n = door_all (λ d. ahead n d.plan ≤ ahead n (plans a b)) b (doors_of t plans a) (let z = ahead_none n in omega (arith, z)) (λ d e c. let x = mapped_from (opened (plans a)) (others_of t a) d c in
+    subst (λ (z : Door). ahead n z.plan ≤ ahead n (plans a b)) x.2 (let to : x.0 ≡ b = ap (λ (z : Door). z.other) x.2 ∙ e in let same : ahead n (plans a x.0) ≡ ahead n (plans a b) = ap (λ k. ahead n (plans a k)) to in omega (arith, same)))
+
+opened_within : (t : Network) (plans : Plans) (a b : ℕ) → IsWithin (plans a b) b [] (seat_of t plans a)
+opened_within t plans a b n = let none = counted_none n in let few = opened_plan t plans a b n in omega (arith, none, few)
+
+seats_pair : (t : Network) (routes : Routes) (plans : Plans) (a b : ℕ) → PairIn t routes plans [] (seat_of t plans a) (seat_of t plans b)
 unfolding goes_on
 seats_pair t routes plans a b = record {
+  there = [];
+  back = [];
+  within = opened_within t plans a b;
+  within_back = opened_within t plans b a;
   heard = λ m e c. absurd (none_there m c);
   acked = λ m e c. absurd (none_there m c);
 }
 
-pub opening_rests : (t : Network) (routes : Routes) (plans : Plans) → LoseNothing plans → Rests t routes [] (opening t plans)
-opening_rests t routes plans none = record {
+pub opening_rests : (t : Network) (routes : Routes) (plans : Plans) → Rests t routes plans [] (opening t plans)
+opening_rests t routes plans = record {
   numbers = numbers_of t plans (agents t);
   told = λ s c. let x = mapped_from (seat_of t plans) (agents t) s c in subst IsTold x.2 refl;
   goes_on = All-nil GoesOn;
-  sits = λ s c. let x = mapped_from (seat_of t plans) (agents t) s c in subst (SitsIn t routes []) x.2 (seat_sits t routes plans none x.0 x.1);
+  sits = λ s c. let x = mapped_from (seat_of t plans) (agents t) s c in subst (SitsIn t routes []) x.2 (seat_sits t routes plans x.0 x.1);
   met = λ s c. let x = mapped_from (seat_of t plans) (agents t) s c in subst HasMetAll x.2 (seat_met t plans x.0);
   pairs = λ s u c d.
       let x = mapped_from (seat_of t plans) (agents t) s c in
       let y = mapped_from (seat_of t plans) (agents t) u d in
-      subst (λ z. PairIn t routes [] z u) x.2 (subst (PairIn t routes [] (seat_of t plans x.0)) y.2 (seats_pair t routes plans x.0 y.0));
+      subst (λ z. PairIn t routes plans [] z u) x.2 (subst (PairIn t routes plans [] (seat_of t plans x.0)) y.2 (seats_pair t routes plans x.0 y.0));
 }

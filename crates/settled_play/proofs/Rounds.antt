@@ -10,13 +10,14 @@ use Rattle.agent_node.specs.Doors.{Door, others}
 use Rattle.agent_node.specs.Openings.{agents}
 use Rattle.agent_node.specs.Seat.{Seat}
 use Rattle.nsi_play.specs.Rounds.{Net, turned_in, turned_all, meets_each, meets_all, met_all, round, events_of, tells, emptied}
+use Rattle.nsi_play.specs.Openings.{Plans}
 use Rattle.nsi_world.specs.Nets.{numbers, AreDistinct, IsTold}
 use Rattle.settled_play.proofs.Finding.{door_to, door_found, none_there, first_there, later_there, first_or_later, mapped_there}
 use Rattle.settled_play.proofs.Links.{Given, agent_there, others_within, linked_back}
 use Rattle.settled_play.proofs.Steps.{entered_in, IsOwn, Sits}
 use Rattle.settled_play.proofs.Moves.{mapped_from, Moves, move_turned, Stays}
 use Rattle.settled_play.proofs.Pairs.{Pair, HasNone, pair_first, pair_second, pair_meets}
-use Rattle.settled_play.proofs.Meetings.{meets_is, meets_others, meets_at, meets_doors, meets_cross}
+use Rattle.settled_play.proofs.Meetings.{meets_is, meets_others, meets_plan, meets_at, meets_doors, meets_cross}
 use Rattle.settled_play.proofs.Journals.{entered_at, at_append, AreOwn, net_entered, GoesOn, net_goes_on}
 
 ---- Numbers
@@ -49,21 +50,21 @@ numbered (s ∷ ss) b c = elim (first_or_later s.number (numbers ss) b c) [
 abbrev pub SitsIn : Network → Routes → List Event → Seat → Type 0
 SitsIn t routes past s = Sits t routes s.number (entered_at s.number past) [] s
 
-abbrev pub PairIn : Network → Routes → List Event → Seat → Seat → Type 0
-PairIn t routes past s u = Pair t routes s.number u.number (entered_at s.number past) (entered_at u.number past) [] [] s u
+abbrev pub PairIn : Network → Routes → Plans → List Event → Seat → Seat → Type 0
+PairIn t routes plans past s u = Pair t routes plans s.number u.number (entered_at s.number past) (entered_at u.number past) [] [] s u
 
 -- nothing is on its way through a link
 abbrev pub HasMetAll : Seat → Type 0
 HasMetAll s = (b : ℕ) → (door_to b s.doors).out ≡ []
 
 -- all agents of a topology, of which these events have told
-pub record Rests (t : Network) (routes : Routes) (past : List Event) (net : Net) : Type 0 where
+pub record Rests (t : Network) (routes : Routes) (plans : Plans) (past : List Event) (net : Net) : Type 0 where
   pub numbers : numbers net ≡ agents t
   pub told : (s : Seat) → Contains net s → IsTold s
   pub goes_on : All GoesOn past
   pub sits : (s : Seat) → Contains net s → SitsIn t routes past s
   pub met : (s : Seat) → Contains net s → HasMetAll s
-  pub pairs : (s u : Seat) → Contains net s → Contains net u → PairIn t routes past s u
+  pub pairs : (s u : Seat) → Contains net s → Contains net u → PairIn t routes plans past s u
 
 ---- One step of each
 
@@ -81,17 +82,17 @@ same_numbers f (s ∷ ss) e = ap (λ n. n ∷ numbers (map f ss)) (e s (first_th
 none_own : (a : ℕ) (es : List Event) → es ≡ [] → All (IsOwn a) es
 none_own a es e = subst (All (IsOwn a)) (sym e) (All-nil (IsOwn a))
 
-map_own : (t : Network) (routes : Routes) (past : List Event) (f : Seat → Seat) (net : Net) → Rests t routes past net → Goes t routes past f net → AreOwn (map f net)
-map_own t routes past f net r g u c =
+map_own : {plans : Plans} (t : Network) (routes : Routes) (past : List Event) (f : Seat → Seat) (net : Net) → Rests t routes plans past net → Goes t routes past f net → AreOwn (map f net)
+map_own {plans} t routes past f net r g u c =
     let x = mapped_from f net u c in
     let s : Seat = x.0 in
     let m = g.moves s x.1 in
     subst (λ (z : Seat). All (IsOwn z.number) z.events) x.2 (subst (λ n. All (IsOwn n) (f s).events) (sym (same_number t routes past f net g s x.1)) (m.step.own (none_own s.number s.events (r.told s x.1))))
 
 -- its journal after the step
-journal_is : (t : Network) (routes : Routes) (past : List Event) (f : Seat → Seat) (net : Net) → Rests t routes past net → (g : Goes t routes past f net) → (s : Seat) → (c : Contains net s)
+journal_is : {plans : Plans} (t : Network) (routes : Routes) (past : List Event) (f : Seat → Seat) (net : Net) → Rests t routes plans past net → (g : Goes t routes past f net) → (s : Seat) → (c : Contains net s)
     → entered_at (f s).number (past ++ events_of (map f net)) ≡ (g.moves s c).journal
-journal_is t routes past f net r g s c =
+journal_is {plans} t routes past f net r g s c =
     let n : ℕ = s.number in
     let u : Seat = f s in
     let p = (g.moves s c).step in
@@ -104,18 +105,18 @@ journal_is t routes past f net r g s c =
 sits_as : (t : Network) (routes : Routes) (a b : ℕ) (js ks : List Entry) (s : Seat) → b ≡ a → ks ≡ js → Sits t routes a js [] s → Sits t routes b ks [] s
 sits_as t routes a b js ks s e q h = subst (λ n. Sits t routes n ks [] s) (sym e) (subst (λ es. Sits t routes a es [] s) (sym q) h)
 
-pair_as : (t : Network) (routes : Routes) (a c b d : ℕ) (js ls ks ms : List Entry) (s u : Seat) → c ≡ a → d ≡ b → ls ≡ js → ms ≡ ks → Pair t routes a b js ks [] [] s u → Pair t routes c d ls ms [] [] s u
-pair_as t routes a c b d js ls ks ms s u e f p q h =
-    subst (λ n. Pair t routes n d ls ms [] [] s u) (sym e) (subst (λ n. Pair t routes a n ls ms [] [] s u) (sym f) (subst (λ es. Pair t routes a b es ms [] [] s u) (sym p) (subst (λ es. Pair t routes a b js es [] [] s u) (sym q) h)))
+pair_as : {plans : Plans} (t : Network) (routes : Routes) (a c b d : ℕ) (js ls ks ms : List Entry) (s u : Seat) → c ≡ a → d ≡ b → ls ≡ js → ms ≡ ks → Pair t routes plans a b js ks [] [] s u → Pair t routes plans c d ls ms [] [] s u
+pair_as {plans} t routes a c b d js ls ks ms s u e f p q h =
+    subst (λ n. Pair t routes plans n d ls ms [] [] s u) (sym e) (subst (λ n. Pair t routes plans a n ls ms [] [] s u) (sym f) (subst (λ es. Pair t routes plans a b es ms [] [] s u) (sym p) (subst (λ es. Pair t routes plans a b js es [] [] s u) (sym q) h)))
 
-step_sits : (t : Network) (routes : Routes) (past : List Event) (f : Seat → Seat) (net : Net) → Rests t routes past net → Goes t routes past f net → (s : Seat) → Contains net s → SitsIn t routes (past ++ events_of (map f net)) (f s)
-step_sits t routes past f net r g s c =
+step_sits : {plans : Plans} (t : Network) (routes : Routes) (past : List Event) (f : Seat → Seat) (net : Net) → Rests t routes plans past net → Goes t routes past f net → (s : Seat) → Contains net s → SitsIn t routes (past ++ events_of (map f net)) (f s)
+step_sits {plans} t routes past f net r g s c =
     let m = g.moves s c in
     sits_as t routes s.number (f s).number m.journal (entered_at (f s).number (past ++ events_of (map f net))) (f s) (same_number t routes past f net g s c) (journal_is t routes past f net r g s c) m.step.sits
 
-step_pairs : (t : Network) (routes : Routes) (past : List Event) (f : Seat → Seat) (net : Net) → Rests t routes past net → Goes t routes past f net → (s u : Seat) → Contains net s → Contains net u
-    → PairIn t routes (past ++ events_of (map f net)) (f s) (f u)
-step_pairs t routes past f net r g s u c d =
+step_pairs : {plans : Plans} (t : Network) (routes : Routes) (past : List Event) (f : Seat → Seat) (net : Net) → Rests t routes plans past net → Goes t routes past f net → (s u : Seat) → Contains net s → Contains net u
+    → PairIn t routes plans (past ++ events_of (map f net)) (f s) (f u)
+step_pairs {plans} t routes past f net r g s u c d =
     let m = g.moves s c in
     let n = g.moves u d in
     let one = pair_first t routes s.number u.number (entered_at s.number past) m.journal (entered_at u.number past) [] [] [] s (f s) u m.step (r.pairs s u c d) in
@@ -129,17 +130,17 @@ step_pairs t routes past f net r g s u c d =
 sits_told : (t : Network) (routes : Routes) (past : List Event) (s : Seat) → SitsIn t routes past s → SitsIn t routes past (tells s)
 sits_told t routes past s h = record { number = h.number; within = h.within; state = h.state; clear = h.clear; unsaid = h.unsaid; others = h.others; doors = h.doors; heard = h.heard; held = h.held }
 
-pair_told : (t : Network) (routes : Routes) (past : List Event) (s u : Seat) → PairIn t routes past s u → PairIn t routes past (tells s) (tells u)
-pair_told t routes past s u p = record { heard = p.heard; acked = p.acked }
+pair_told : {plans : Plans} (t : Network) (routes : Routes) (past : List Event) (s u : Seat) → PairIn t routes plans past s u → PairIn t routes plans past (tells s) (tells u)
+pair_told {plans} t routes past s u p = record { there = p.there; back = p.back; within = p.within; within_back = p.within_back; heard = p.heard; acked = p.acked }
 
 emptied_numbers : (net : Net) → numbers (emptied net) ≡ numbers net
 emptied_numbers [] = refl
 emptied_numbers (s ∷ ss) = ap (λ ns. s.number ∷ ns) (emptied_numbers ss)
 
 -- all told, from what is so of each before
-told_all : (t : Network) (routes : Routes) (past : List Event) (net : Net) → numbers net ≡ agents t → All GoesOn past → ((s : Seat) → Contains net s → SitsIn t routes past s) → ((s : Seat) → Contains net s → HasMetAll s)
-    → ((s u : Seat) → Contains net s → Contains net u → PairIn t routes past s u) → Rests t routes past (emptied net)
-told_all t routes past net e g sits met pairs = record {
+told_all : {plans : Plans} (t : Network) (routes : Routes) (past : List Event) (net : Net) → numbers net ≡ agents t → All GoesOn past → ((s : Seat) → Contains net s → SitsIn t routes past s) → ((s : Seat) → Contains net s → HasMetAll s)
+    → ((s u : Seat) → Contains net s → Contains net u → PairIn t routes plans past s u) → Rests t routes plans past (emptied net)
+told_all {plans} t routes past net e g sits met pairs = record {
   numbers = emptied_numbers net ∙ e;
   told = λ u c. let x = mapped_from tells net u c in subst IsTold x.2 refl;
   goes_on = g;
@@ -148,7 +149,7 @@ told_all t routes past net e g sits met pairs = record {
   pairs = λ u v c d.
       let x = mapped_from tells net u c in
       let y = mapped_from tells net v d in
-      subst (λ z. PairIn t routes past z v) x.2 (subst (PairIn t routes past (tells x.0)) y.2 (pair_told t routes past x.0 y.0 (pairs x.0 y.0 x.1 y.1)));
+      subst (λ z. PairIn t routes plans past z v) x.2 (subst (PairIn t routes plans past (tells x.0)) y.2 (pair_told t routes past x.0 y.0 (pairs x.0 y.0 x.1 y.1)));
 }
 
 ---- A tick of each, or an act
@@ -157,8 +158,8 @@ told_all t routes past net e g sits met pairs = record {
 abbrev pub StaysAll : Network → Routes → (Seat → Seat) → Type 0
 StaysAll t routes f = (js : List Entry) (s : Seat) → Sits t routes s.number js [] s → Stays t routes s.number js s (f s)
 
-pub act_rests : (t : Network) (routes : Routes) (past : List Event) (f : Seat → Seat) (net : Net) → StaysAll t routes f → Rests t routes past net → Rests t routes (past ++ events_of (map f net)) (emptied (map f net))
-act_rests t routes past f net stays r =
+pub act_rests : {plans : Plans} (t : Network) (routes : Routes) (past : List Event) (f : Seat → Seat) (net : Net) → StaysAll t routes f → Rests t routes plans past net → Rests t routes plans (past ++ events_of (map f net)) (emptied (map f net))
+act_rests {plans} t routes past f net stays r =
     let g : Goes t routes past f net = record { moves = λ s c. (stays (entered_at s.number past) s (r.sits s c)).moves } in
     told_all t routes (past ++ events_of (map f net)) (map f net) (same_numbers f net (same_number t routes past f net g) ∙ r.numbers) (All-append GoesOn past (events_of (map f net)) r.goes_on (net_goes_on (map f net) (map_own t routes past f net r g)))
     (λ u c. let x = mapped_from f net u c in subst (SitsIn t routes (past ++ events_of (map f net))) x.2 (step_sits t routes past f net r g x.0 x.1))
@@ -166,7 +167,7 @@ act_rests t routes past f net stays r =
     (λ u v c d.
     let x = mapped_from f net u c in
     let y = mapped_from f net v d in
-    subst (λ z. PairIn t routes (past ++ events_of (map f net)) z v) x.2 (subst (PairIn t routes (past ++ events_of (map f net)) (f x.0)) y.2 (step_pairs t routes past f net r g x.0 y.0 x.1 y.1)))
+    subst (λ z. PairIn t routes plans (past ++ events_of (map f net)) z v) x.2 (subst (PairIn t routes plans (past ++ events_of (map f net)) (f x.0)) y.2 (step_pairs t routes past f net r g x.0 y.0 x.1 y.1)))
 
 ---- A round
 
@@ -190,14 +191,14 @@ sits_met t routes past all sits s c =
 links_back : (t : Network) (routes : Routes) (past : List Event) (s u : Seat) → SitsIn t routes past s → SitsIn t routes past u → Contains (others s.doors) u.number → Contains (others u.doors) s.number
 links_back t routes past s u h k c = subst (λ ns. Contains ns s.number) (sym k.others) (linked_back t s.number u.number h.within (subst (λ ns. Contains ns u.number) h.others c))
 
-pair_met : (t : Network) (routes : Routes) (past : List Event) (all : Net) → AreDistinct (numbers all) → ((s : Seat) → Contains all s → SitsIn t routes past s) → ((s : Seat) → Contains all s → HasNone s.doors) → (s u : Seat) → Contains all s → Contains all u
-    → PairIn t routes past s u → PairIn t routes past (meets_each s all) (meets_each u all)
-pair_met t routes past all distinct sits none s u c d p =
+pair_met : {plans : Plans} (t : Network) (routes : Routes) (past : List Event) (all : Net) → AreDistinct (numbers all) → ((s : Seat) → Contains all s → SitsIn t routes past s) → ((s : Seat) → Contains all s → HasNone s.doors) → (s u : Seat) → Contains all s → Contains all u
+    → PairIn t routes plans past s u → PairIn t routes plans past (meets_each s all) (meets_each u all)
+pair_met {plans} t routes past all distinct sits none s u c d p =
     let v : Seat = meets_each s all in
     let x : Seat = meets_each u all in
     let there = meets_cross s u all distinct c d (links_back t routes past s u (sits s c) (sits u d)) in
     let back = meets_cross u s all distinct d c (links_back t routes past u s (sits u d) (sits s c)) in
-    let q = pair_meets t routes s.number u.number (entered_at s.number past) (entered_at u.number past) s u v x (none s c) (none u d) (ap (λ (z : Seat). z.unsaid) (meets_is s all)) there back p in
+    let q = pair_meets t routes s.number u.number (entered_at s.number past) (entered_at u.number past) s u v x (none s c) (none u d) (ap (λ (z : Seat). z.unsaid) (meets_is s all)) (meets_plan u.number s all) (meets_plan s.number u all) there back p in
     let ns : v.number ≡ s.number = ap (λ (z : Seat). z.number) (meets_is s all) in
     let nu : x.number ≡ u.number = ap (λ (z : Seat). z.number) (meets_is u all) in
     pair_as t routes s.number v.number u.number x.number (entered_at s.number past) (entered_at v.number past) (entered_at u.number past) (entered_at x.number past) v x ns nu (ap (λ n. entered_at n past) ns) (ap (λ n. entered_at n past) nu) q
@@ -221,9 +222,9 @@ round_is : (t : Network) (routes : Routes) (net : Net) → round (home_in t rout
 unfolding round
 round_is t routes net = refl
 
-pub round_rests : (t : Network) (routes : Routes) → Given t routes → (past : List Event) (net : Net) → Rests t routes past net
-    → Rests t routes (past ++ events_of (round (home_in t routes) net)) (emptied (round (home_in t routes) net))
-round_rests t routes given past net r =
+pub round_rests : {plans : Plans} (t : Network) (routes : Routes) → Given t routes → (past : List Event) (net : Net) → Rests t routes plans past net
+    → Rests t routes plans (past ++ events_of (round (home_in t routes) net)) (emptied (round (home_in t routes) net))
+round_rests {plans} t routes given past net r =
     let f : Seat → Seat = turned_in (home_in t routes) in
     let all : Net = map f net in
     let later : List Event = past ++ events_of all in
@@ -233,18 +234,18 @@ round_rests t routes given past net r =
     let distinct = all_apart t all ns in
     let sits : (u : Seat) → Contains all u → SitsIn t routes later u = λ u c. let x = mapped_from f net u c in subst (SitsIn t routes later) x.2 (step_sits t routes past f net r g x.0 x.1) in
     let none : (u : Seat) → Contains all u → HasNone u.doors = λ u c. let x = mapped_from f net u c in subst (λ (z : Seat). HasNone z.doors) x.2 (turns x.0 x.1).taken in
-    let pairs : (u v : Seat) → Contains all u → Contains all v → PairIn t routes later u v = λ u v c d.
+    let pairs : (u v : Seat) → Contains all u → Contains all v → PairIn t routes plans later u v = λ u v c d.
     let x = mapped_from f net u c in
     let y = mapped_from f net v d in
-    subst (λ z. PairIn t routes later z v) x.2 (subst (PairIn t routes later (f x.0)) y.2 (step_pairs t routes past f net r g x.0 y.0 x.1 y.1)) in
+    subst (λ z. PairIn t routes plans later z v) x.2 (subst (PairIn t routes plans later (f x.0)) y.2 (step_pairs t routes past f net r g x.0 y.0 x.1 y.1)) in
     let met_ns : numbers (met_all all) ≡ agents t = same_numbers (meets_all all) all (λ s c. ap (λ (z : Seat). z.number) (meets_is s all)) ∙ ns in
-    let whole : Rests t routes later (emptied (met_all all)) = told_all t routes later (met_all all) met_ns (All-append GoesOn past (events_of all) r.goes_on (net_goes_on all (map_own t routes past f net r g)))
+    let whole : Rests t routes plans later (emptied (met_all all)) = told_all t routes later (met_all all) met_ns (All-append GoesOn past (events_of all) r.goes_on (net_goes_on all (map_own t routes past f net r g)))
     (λ u c. let x = mapped_from (meets_all all) all u c in subst (SitsIn t routes later) x.2 (sits_met t routes later all sits x.0 x.1))
     (λ u c. let x = mapped_from (meets_all all) all u c in subst HasMetAll x.2 (met_met t routes later all ns sits x.0 x.1))
     (λ u v c d.
     let x = mapped_from (meets_all all) all u c in
     let y = mapped_from (meets_all all) all v d in
-    subst (λ z. PairIn t routes later z v) x.2 (subst (PairIn t routes later (meets_each x.0 all)) y.2 (pair_met t routes later all distinct sits none x.0 y.0 x.1 y.1 (pairs x.0 y.0 x.1 y.1)))) in
+    subst (λ z. PairIn t routes plans later z v) x.2 (subst (PairIn t routes plans later (meets_each x.0 all)) y.2 (pair_met t routes later all distinct sits none x.0 y.0 x.1 y.1 (pairs x.0 y.0 x.1 y.1)))) in
     let told : events_of (round (home_in t routes) net) ≡ events_of all = ap events_of (round_is t routes net) ∙ events_met all all in
-    subst (λ es. Rests t routes (past ++ es) (emptied (round (home_in t routes) net))) (sym told)
-    (subst (λ (z : Net). Rests t routes later (emptied z)) (sym (round_is t routes net)) whole)
+    subst (λ es. Rests t routes plans (past ++ es) (emptied (round (home_in t routes) net))) (sym told)
+    (subst (λ (z : Net). Rests t routes plans later (emptied z)) (sym (round_is t routes net)) whole)

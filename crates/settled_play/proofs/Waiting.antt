@@ -30,7 +30,7 @@ number_kind : (k : Kind) → get_or kinds (kind_number k) Kind.Reserve ≡ k
 unfolding kind_number
 number_kind k = grind arith
 
-same_identity : (i j : Identity) → is_same_identity i j ≡ true → i ≡ j
+pub same_identity : (i j : Identity) → is_same_identity i j ≡ true → i ≡ j
 same_identity i j e =
     let p = and_parts (bytes_eq i.requester j.requester) (bytes_eq i.provider j.provider && ((i.correlation == j.correlation) && (kind_number i.kind == kind_number j.kind))) e in
     let q = and_parts (bytes_eq i.provider j.provider) ((i.correlation == j.correlation) && (kind_number i.kind == kind_number j.kind)) p.1 in
@@ -41,7 +41,7 @@ same_identity i j e =
     ∙ (ap (λ x. record { requester = j.requester; provider = j.provider; correlation = x; kind = i.kind }) ((Decides-eqb i.correlation j.correlation).0 r.0)
     ∙ ap (λ x. record { requester = j.requester; provider = j.provider; correlation = j.correlation; kind = x }) kind))
 
-identity_itself : (i : Identity) → is_same_identity i i ≡ true
+pub identity_itself : (i : Identity) → is_same_identity i i ≡ true
 identity_itself i = rw ((bytes_eq-Decides i.requester i.requester).1 refl, (bytes_eq-Decides i.provider i.provider).1 refl, (Decides-eqb i.correlation i.correlation).1 refl, (Decides-eqb (kind_number i.kind) (kind_number i.kind)).1 refl) refl
 
 ---- One entry

@@ -1,5 +1,5 @@
 -- What a play leaves open: of the messages that one agent has said to another one, how many weren't got, and how many weren't acknowledged.
-use Rattle.std.specs.Prelude.{◌≡◌, ◌≤◌, ◌<◌, ◌+◌, ◌⊎◌, ℕ, List, length, get_or}
+use Rattle.std.specs.Prelude.{◌≡◌, ◌≤◌, ◌<◌, ◌+◌, ◌⊎◌, ◌==◌, ◌&&◌, ℕ, Bool, true, false, List, length, filter, get_or}
 use Rattle.std.specs.List.{All, Contains}
 use Rattle.nsi_primitive.specs.Messages.{identity, kind_of}
 use Rattle.nsi_primitive.specs.declared.entry.Entry.{Entry}
@@ -8,9 +8,10 @@ use Rattle.nsi_primitive.specs.declared.entry.Input.{Input}
 use Rattle.nsi_primitive.specs.declared.kind.Kind.{Kind}
 use Rattle.nsi_primitive.specs.declared.message.Identity.{Identity}
 use Rattle.nsi_primitive.specs.declared.message.Message.{Message}
-use Rattle.agent_link.specs.Plans.{Plan}
+use Rattle.agent_link.specs.Plans.{Plan, parcel_number}
 use Rattle.agent_link.specs.declared.plan.How.{How}
 use Rattle.agent_link.specs.declared.plan.LinkFault.{LinkFault}
+use Rattle.agent_link.specs.declared.plan.ParcelKind.{ParcelKind}
 use Rattle.stp_topology.specs.Laws.{IsWellFormed}
 use Rattle.stp_topology.specs.Sound.{IsSound}
 use Rattle.stp_topology.specs.declared.network.Network.{Network}
@@ -49,19 +50,35 @@ IsOver homes w from to kind m = IsOf homes to kind m → WasGot m (w.journal to)
 abbrev pub HasAddressee : Network → Homes → Message → Type 0
 HasAddressee t homes m = (b : ℕ) × (b < length t.agents) × IsTo homes b m
 
--- how many messages of each kind were lost on the way from one agent to another one
-abbrev pub Losses : Type 0
-Losses = (from to : ℕ) → Kind → ℕ
+---- What is planned
 
-abbrev pub none_lost : Losses
-none_lost from to kind = 0
+abbrev pub is_loss : How → Bool
+is_loss How.Lose = true
+is_loss How.Repeat = false
 
--- Each message that an agent has said is for an agent. Of those of a kind that it has said to that one, no more than were lost weren't
--- got, and no more than that and the lost acknowledgements weren't got or weren't acknowledged.
-pub record IsSettled (t : Network) (homes : Homes) (lost lost_back : Losses) (w : World) : Type 0 where
+-- the line loses a parcel of that kind
+abbrev pub loses : ParcelKind → LinkFault → Bool
+loses kind f = is_loss f.how && (parcel_number f.of == parcel_number kind)
+
+-- how many lines of a plan lose a parcel of that kind
+abbrev pub losses : ParcelKind → Plan → ℕ
+losses kind plan = length (filter (loses kind) plan)
+
+-- Each message that an agent has said is for an agent. Of those of a kind that it has said to that one, no more weren't got than lines of
+-- the link's plan lose one of that kind; and no more than those and the lines of the link back that lose an acknowledgement weren't got or
+-- weren't acknowledged.
+pub record LeavesOnlyLost (t : Network) (homes : Homes) (plans : Plans) (w : World) : Type 0 where
   pub addressed : (a : ℕ) → a < length t.agents → All (HasAddressee t homes) (said homes w a)
-  pub heard : (a b : ℕ) (kind : Kind) → a < length t.agents → b < length t.agents → AllBut (lost a b kind) (IsHeard homes w b kind) (said homes w a)
-  pub acknowledged : (a b : ℕ) (kind : Kind) → a < length t.agents → b < length t.agents → AllBut (lost a b kind + lost_back b a kind) (IsOver homes w a b kind) (said homes w a)
+  pub heard : (a b : ℕ) (kind : Kind) → a < length t.agents → b < length t.agents → AllBut (losses (ParcelKind.Message kind) (plans a b)) (IsHeard homes w b kind) (said homes w a)
+  pub acknowledged : (a b : ℕ) (kind : Kind) → a < length t.agents → b < length t.agents → AllBut (losses (ParcelKind.Message kind) (plans a b) + losses ParcelKind.Ack (plans b a)) (IsOver homes w a b kind) (said homes w a)
+
+-- so it is in the world at the end of a play, whatever is lost and whatever comes twice
+abbrev pub PlaySettles : Type 0
+PlaySettles =
+    (t : Network) (routes : Routes) (plans : Plans) (groups : List Group) (events : List Event) (last : Net) → IsSound t → IsWellFormed t → AreRoutes t routes →
+    IsRising (seconds_of groups) → All (IsActOf t) (acts_of groups) → IsPlayFrom groups (home_in t routes) (opening t plans) events last → LeavesOnlyLost t (home_in t routes) plans (world_after empty events)
+
+---- Where nothing is lost
 
 -- a parcel that comes twice, and none that is lost
 abbrev pub IsRepeat : LinkFault → Type 0
@@ -75,19 +92,11 @@ LosesNone plan = All IsRepeat plan
 abbrev pub LoseNothing : Plans → Type 0
 LoseNothing plans = (from to : ℕ) → LosesNone (plans from to)
 
--- so it is in the world at the end of a play, in which nothing is lost, whatever comes twice
-abbrev pub PlaySettles : Type 0
-PlaySettles =
-    (t : Network) (routes : Routes) (plans : Plans) (groups : List Group) (events : List Event) (last : Net) → LoseNothing plans → IsSound t → IsWellFormed t → AreRoutes t routes →
-    IsRising (seconds_of groups) → All (IsActOf t) (acts_of groups) → IsPlayFrom groups (home_in t routes) (opening t plans) events last → IsSettled t (home_in t routes) none_lost none_lost (world_after empty events)
-
----- Each message
-
 -- its addressee got it, and the one that said it took the acknowledgement
 abbrev pub IsDone : Network → Homes → World → ℕ → Message → Type 0
 IsDone t homes w from m = (b : ℕ) × (b < length t.agents) × IsTo homes b m × WasGot m (w.journal b) × WasAcked (identity m) (w.journal from)
 
--- at the end of such a play so it is of each message that an agent has said
+-- at the end of a play in which nothing is lost so it is of each message that an agent has said
 abbrev pub PlayLeavesNone : Type 0
 PlayLeavesNone =
     (t : Network) (routes : Routes) (plans : Plans) (groups : List Group) (events : List Event) (last : Net) → LoseNothing plans → IsSound t → IsWellFormed t → AreRoutes t routes →

@@ -16,6 +16,7 @@ returns-in-Ok-clause-played g c =
       backed = c.views.ensures.backed;
       rising = c.views.ensures.rise;
       circuits = c.circuits.ensures;
+      left = c.settled.ensures.counts;
       over = c.settled.ensures.each;
     }
     in
@@ -44,6 +45,7 @@ returns-in-Err-clause-played g c =
       backed = c.views.ensures.backed;
       rising = c.views.ensures.rise;
       circuits = c.circuits.ensures;
+      left = c.settled.ensures.counts;
       over = c.settled.ensures.each;
     }
     in
