@@ -36,10 +36,11 @@ struct Ended {
     disk: Vec<u8>,
 }
 
-/// The disk p1 before a run, which of its calls fail and at which it stops, and which reads and writes fail.
+/// The disk p1 before a run and at which calls it stops, which calls of an agent's disk fail, and which reads and writes fail.
 #[derive(Clone, Copy)]
 struct Before<'a> {
     disk: &'a [u8],
+    agent: &'a str,
     failing: &'a [u64],
     stops: &'a [Stop],
     reads: &'a [u64],
@@ -51,6 +52,7 @@ impl<'a> Before<'a> {
     fn of(disk: &'a [u8]) -> Before<'a> {
         Before {
             disk,
+            agent: "p1",
             failing: &[],
             stops: &[],
             reads: &[],
@@ -59,18 +61,17 @@ impl<'a> Before<'a> {
     }
 }
 
-/// The name of the provider.
-fn own_name(alloc: Global) -> Result<Name, AllocError> {
-    match Name::of(alloc, b"p1") {
+fn name_of(alloc: Global, agent: &str) -> Result<Name, AllocError> {
+    match Name::of(alloc, agent.as_bytes()) {
         Ok(name) => Ok(name),
         Err(_) => Err(AllocError),
     }
 }
 
-fn failing_calls(alloc: Global, calls: &[u64]) -> Result<Vec<FailAt>, AllocError> {
+fn failing_calls(alloc: Global, before: &Before<'_>) -> Result<Vec<FailAt>, AllocError> {
     let mut failing = Vec::new(alloc);
-    for call in calls {
-        let name = own_name(alloc)?;
+    for call in before.failing {
+        let name = name_of(alloc, before.agent)?;
         failing.push(FailAt { name, call: *call })?;
     }
     Ok(failing)
@@ -78,10 +79,10 @@ fn failing_calls(alloc: Global, calls: &[u64]) -> Result<Vec<FailAt>, AllocError
 
 fn shelf_of(alloc: Global, before: &Before<'_>) -> Result<StoppingShelf, AllocError> {
     let mut disks = Vec::new(alloc);
-    let name = own_name(alloc)?;
+    let name = name_of(alloc, "p1")?;
     let bytes = Vec::from_slice(alloc, before.disk)?;
     disks.push(NamedDisk { name, bytes })?;
-    let failing = failing_calls(alloc, before.failing)?;
+    let failing = failing_calls(alloc, before)?;
     let stops = Vec::from_slice(alloc, before.stops)?;
     Ok(StoppingShelf::new(MemoryShelf::new(disks, failing), stops))
 }

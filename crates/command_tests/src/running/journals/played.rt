@@ -1,5 +1,5 @@
-//! `run` over a disk of the provider that fails or stops. To begin its journal takes four calls, and each of its three turns that
-//! keep something takes four.
+//! `run` over a disk that fails or stops. To begin a journal takes four calls, and each turn that keeps something takes four: the
+//! provider has three of them, and the requester two.
 
 use super::{Before, is_written, run};
 use crate::tables::playing::{RESERVE, RESERVED, TICKED};
@@ -9,26 +9,38 @@ use std::test::Fail;
 /// So many calls of the disk of p1 a run makes.
 const CALLS: u64 = 16;
 
+/// Those of the disk of each agent; r1 keeps something in two turns.
+const CALLS_OF: [(&str, u64); 2] = [("p1", CALLS), ("r1", 12)];
+
+fn failing<'a>(agent: &'a str, calls: &'a [u64]) -> Before<'a> {
+    Before {
+        agent,
+        failing: calls,
+        ..Before::of(b"")
+    }
+}
+
 #[test]
 fn a_failed_disk_ends_a_run(rt: HostRuntime) -> Result<(), Fail> {
     let alloc = rt.alloc();
-    for call in 1..=CALLS {
-        let before = Before {
-            failing: &[call],
-            ..Before::of(b"")
-        };
-        let ended = run(&rt, alloc, "run", RESERVE, &before)?;
-        let is_broken = is_written(alloc, &ended, 7, "fault disk p1\n")?;
-        assert!(rt; is_broken, "{call}");
-    }
-    let beyond = Before {
-        failing: &[CALLS + 1],
-        ..Before::of(b"")
-    };
-    let ended = run(&rt, alloc, "run", RESERVE, &beyond)?;
     let whole = format!(in alloc; "{RESERVED}settled 15\n")?;
-    let is_whole = is_written(alloc, &ended, 0, whole.as_str())?;
-    assert!(rt; is_whole);
+    for (agent, calls) in &CALLS_OF {
+        let broken = format!(in alloc; "fault disk {agent}\n")?;
+        for call in 1..=*calls {
+            let ended = run(&rt, alloc, "run", RESERVE, &failing(agent, &[call]))?;
+            let is_broken = is_written(alloc, &ended, 7, broken.as_str())?;
+            assert!(rt; is_broken, "{agent} {call}");
+        }
+        let beyond = run(
+            &rt,
+            alloc,
+            "run",
+            RESERVE,
+            &failing(agent, &[calls.saturating_add(1)]),
+        )?;
+        let is_whole = is_written(alloc, &beyond, 0, whole.as_str())?;
+        assert!(rt; is_whole, "{agent}");
+    }
     Ok(())
 }
 
@@ -55,10 +67,7 @@ fn a_stopped_disk_ends_a_run(rt: HostRuntime) -> Result<(), Fail> {
 #[test]
 fn a_summary_tells_a_failed_disk_alone(rt: HostRuntime) -> Result<(), Fail> {
     let alloc = rt.alloc();
-    let before = Before {
-        failing: &[9],
-        ..Before::of(b"")
-    };
+    let before = failing("p1", &[9]);
     for (words, text) in &[("run", TICKED), ("run --summary", "")] {
         let ended = run(&rt, alloc, words, "at 0\nat 1\n", &before)?;
         let whole = format!(in alloc; "{text}fault disk p1\n")?;

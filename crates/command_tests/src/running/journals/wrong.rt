@@ -78,6 +78,7 @@ fn no_journal_is_told_with_its_place(rt: HostRuntime) -> Result<(), Fail> {
 const WORST: Before<'static> = Before {
     disk: b"\x01\0\0\0\0\0\0\0\x05\x01",
     failing: &[1],
+    agent: "p1",
     stops: &[],
     reads: &[],
     writes: &[],
