@@ -29,6 +29,7 @@ QUERIED = {
     "summary": ("querySummary", ""),
     "notifications": ("queryNotification", "NotificationId"),
     "results": ("queryResult", "ResultId"),
+    "recursive": ("queryRecursive", ""),
 }
 # What answers a request at a view.
 ANSWERED_BY = {
@@ -45,7 +46,8 @@ OUTCOMES = (
     "provisionConfirmed", "releaseConfirmed", "terminateConfirmed",
 )
 # How many rows an answer has at most.
-MOST_SUMMARIES, MOST_NUMBERED = 16, 32
+MOST_SUMMARIES, MOST_NUMBERED, MOST_NESTED = 16, 32, 128
+GREATEST_DEPTH = 255
 TOLD = ("reserveTimeout", "errorEvent", "dataPlaneStateChange", "messageDeliveryTimeout")
 
 # State, event, next state, message.
@@ -279,7 +281,7 @@ class Server(Agent):
         self.caused.append(message("error", *self.header(request), **keys))
 
     def take_query(self, query):
-        """Answers a query from what is there, which stays as it is."""
+        """Answers a query from what is there, which stays as it is; one that waits for children has no answer yet."""
         record = self.record_of(query)
         if query["providerNSA"] != self.name:
             self.refuse(query, "WRONG_PROVIDER")
@@ -287,7 +289,8 @@ class Server(Agent):
             self.refuse(query, "NONEXISTENT")
         else:
             answer = getattr(self, query["kind"])(query, record)
-            self.caused.append(message(query["kind"] + "Confirmed", *self.header(query), **answer))
+            if answer is not None:
+                self.caused.append(message(query["kind"] + "Confirmed", *self.header(query), **answer))
 
     def querySummary(self, query, record):
         of = [record] if record else [own for own in self.records if own["owner"] == query["requesterNSA"]]
@@ -312,9 +315,17 @@ class Server(Agent):
         return {"connectionId": record["id"], **{key: record[machine] for key, machine in states.items()}}
 
     def queryRecursive(self, _query, record):
+        return self.nested(record, [])
+
+    def nested(self, record, below):
+        """The record's own row, and behind it what each child told, one deeper: its rows, and whether it left some out."""
         version = {"version": record["committed"][-1]["version"]} if record["committed"] else {}
-        row = {**self.states(record), "depth": 0, "providerNSA": self.name, **version}
-        return {"connectionId": record["id"], "more": False, "reservations": [row]}
+        own = {**self.states(record), "depth": 0, "providerNSA": self.name, **version}
+        told = [{**row, "depth": row["depth"] + 1} for rows, _ in below for row in rows]
+        rows = [own, *(row for row in told if row["depth"] <= GREATEST_DEPTH)]
+        is_left_out = len(rows) < 1 + len(told) or len(rows) > MOST_NESTED
+        more = is_left_out or any(child_more for _, child_more in below)
+        return {"connectionId": record["id"], "more": more, "reservations": rows[:MOST_NESTED]}
 
     def queryNotification(self, query, record):
         return self.numbered(query, record, "notifications", "told", "otificationId", "startN", "endN")
@@ -606,6 +617,10 @@ def take_answer(view, machine, of):
         view["gone"] = True
 
 
+# A child that answered an error, or couldn't be asked: no rows, and some may be missing.
+NOTHING_TOLD = ([], True)
+
+
 class Aggregator(Server):
     side = "Aggregator"
 
@@ -615,6 +630,8 @@ class Aggregator(Server):
         self.points = points
         self.find = find
         self.sent = []
+        # The queries that wait for children: of each child the correlationId that it is asked under, or what it has told.
+        self.open_queries = []
 
     def status(self, record):
         return joined([view["plane"] for view in record["children"]])
@@ -626,10 +643,43 @@ class Aggregator(Server):
         if of["kind"] in REQUESTS:
             self.take_request(of)
             return
+        answers = self.answers_below(of)
         for record in self.records:
             for view in record["children"]:
                 if view["child"] == of["providerNSA"]:
                     self.offer(record, view, of)
+        self.caused += answers
+
+    def queryRecursive(self, query, record):
+        """Asks the children whose connections are known; where there is none it is answered at once."""
+        known = [view for view in record["children"] if view["connection"] is not None]
+        if not known:
+            return self.nested(record, [NOTHING_TOLD for _ in record["children"]])
+        below = []
+        for view in record["children"]:
+            if view["connection"] is None:
+                below.append(NOTHING_TOLD)
+            else:
+                request = message("queryRecursive", self.draw(), self.name, view["child"], connectionId=view["connection"])
+                self.send_down(record, request)
+                below.append(request["correlationId"])
+        self.open_queries.append({"query": query, "record": record, "below": below})
+        return None
+
+    def answers_below(self, of):
+        """The answer to the query that waited for this message alone; a message that no query waits for is left."""
+        if of["kind"] not in ("queryRecursiveConfirmed", "error"):
+            return []
+        query = next((query for query in self.open_queries if of["correlationId"] in query["below"]), None)
+        if query is None:
+            return []
+        told = NOTHING_TOLD if of["kind"] == "error" else (of["reservations"], of["more"])
+        query["below"][query["below"].index(of["correlationId"])] = told
+        if any(isinstance(part, str) for part in query["below"]):
+            return []
+        self.open_queries.remove(query)
+        answer = self.nested(query["record"], query["below"])
+        return [message("queryRecursiveConfirmed", *self.header(query["query"]), **answer)]
 
     def hand_on(self, record, kind):
         """Hands a request that was taken on to the children, and moves where none has to be waited for."""
@@ -658,6 +708,10 @@ class Aggregator(Server):
             request = ask_reserve(view, self.name, correlation, record["pending"], service)
         else:
             request = ask(view, self.name, correlation, kind)
+        self.send_down(record, request)
+
+    def send_down(self, record, request):
+        """Sends a request to a child, which is late when it isn't acknowledged for long."""
         self.caused.append(request)
         self.sent.append({"request": request, "record": record["number"], "second": self.now, "is_told": False})
 

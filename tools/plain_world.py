@@ -279,8 +279,6 @@ class Script:
             for word in words[:1]:
                 name(word)
             numbers = [number(word, 0, 2**64 - 1) for word in words[1:]]
-            if what == "recursive":
-                raise Fault("Unbuilt")
             return what, *words[:1], *numbers
         if what != "reserve":
             demand_form(what in ("commit", "abort", "provision", "release", "terminate") and len(words) == 1)

@@ -1,6 +1,6 @@
 -- What an entry leaves of what an aggregator has.
-use Rattle.std.proofs.Common.{ℕ, zero, suc, ◌≡◌, ◌+◌, Bool, true, false, List, [], ◌∷◌, ◌++◌, Option, Some, None, IfSome, refl, sym, subst, length, slice_get}
-use Rattle.std.specs.List.{All}
+use Rattle.std.proofs.Common.{ℕ, zero, suc, ◌≡◌, ◌+◌, Bool, true, false, List, [], ◌∷◌, ◌++◌, Option, Some, None, IfSome, refl, sym, subst, length, slice_get, bytes_eq}
+use Rattle.std.specs.List.{All, list_any}
 use Rattle.std.proofs.Math.Seq.{take-append_seam, take-length}
 use Rattle.std.proofs.lemmas.List.Elements.{All-nil, All-cons, All-append, All-head, All-tail, All-set}
 use Rattle.std.proofs.lemmas.Option.{get_or_from_slice_get}
@@ -25,15 +25,18 @@ use Rattle.connection_record.proofs.Unrefused.{unrefused_fits, unrefused_at}
 use Rattle.child_connection.specs.Views.{ChildConnection}
 use Rattle.agent_state.specs.declared.parent.Due.{Due}
 use Rattle.agent_state.specs.declared.parent.Leg.{Leg}
-use Rattle.agent_state.specs.State.{AgentState, AgentStepped, stays, no_record, record_at, children_at, name_or}
+use Rattle.agent_state.specs.Entries.{error_reply, query_reply, is_recursive}
+use Rattle.agent_state.specs.State.{AgentState, AgentStepped, stays, sends, no_record, record_at, children_at, name_or}
 use Rattle.provider_agent.proofs.FittingMoves.{requested_fitting, first_fitting}
 use Rattle.provider_agent.proofs.GoodMoves.{IsFitting}
 use Rattle.provider_agent.proofs.RecordPlaces.{push_here}
 use Rattle.aggregator_agent.specs.declared.agent.Agent.{Agent}
 use Rattle.aggregator_agent.specs.Asking.{Turn, views_of, with_path}
+use Rattle.aggregator_agent.specs.Below.{Sought, is_asked, seek, opened, nested_reply}
 use Rattle.aggregator_agent.specs.Clock.{Told, tell_one, tells_late, tell_all, is_late_of, ends, clocked, clock_then, clock_all}
+use Rattle.aggregator_agent.specs.Queries.{answer_to}
 use Rattle.aggregator_agent.specs.Setting.{Setting}
-use Rattle.aggregator_agent.specs.Steps.{sees, is_seen, request_at, children_for, with_new, opens_between, opens, request_to, accepts, answers, pass_then, hear_all, hears, receives, ticks, step, may_take, after_if, after, serves}
+use Rattle.aggregator_agent.specs.Steps.{sees, is_seen, request_at, children_for, with_new, opens_between, opens, request_to, accepts, answers, pass_then, hear_all, hears, receives, ticks, step, may_take, after_if, after, opens_query, asks_below, asks_if_own, place_named, queries, serves}
 use Rattle.aggregator_agent.specs.Turns.{request_turn, answer_turn}
 use Rattle.agent_growth.specs.Growth.{IsLaterView, HasGrown}
 use Rattle.agent_growth.proofs.Staying.{stay_then, stay_none, stay_set, stay_push, stay_more}
@@ -220,8 +223,31 @@ unfolding answers
 answers_passed setting s m (Some error) u = record { grown = grown_state s; rises = λ h. h }
 answers_passed setting s m None u = accepts_passed setting s m (connection_of m.body) refl u
 
+---- A query
+
+-- what is told of connections leaves them as they are
+told_passed : (s : AgentState) (reply : Message) → IsPassed s (sends s (reply ∷ []))
+told_passed s reply = record { grown = grown_state s; rises = λ h. h }
+
+sought_passed : (waits : Bool) (setting : Setting) (s : AgentState) (n : ℕ) (m : Message) (x : Sought) → IsPassed s (opens_query waits setting s n m x)
+sought_passed true setting s n m x =
+    record { grown = record { records = records_same s.base.records; views = labels_same s.views; children = all_views_same s.children }; rises = λ h. h }
+sought_passed false setting s n m x = told_passed s (nested_reply setting.agent.name (record_at n s.base.records) (opened m n x))
+
+own_passed : (is_own : Bool) (o : Option ℕ) (setting : Setting) (s : AgentState) (m : Message) → IsPassed s (asks_if_own is_own o setting s m)
+unfolding asks_below
+own_passed true (Some n) setting s m =
+    let x = seek setting.agent s.base.next (children_at n s.children) in
+    sought_passed (list_any is_asked x.parts) setting s n m x
+own_passed true None setting s m = told_passed s (error_reply setting.agent.name m ErrorName.Nonexistent)
+own_passed false o setting s m = told_passed s (error_reply setting.agent.name m ErrorName.WrongProvider)
+
+queries_passed : (is_recursive : Bool) (setting : Setting) (s : AgentState) (m : Message) → IsPassed s (queries is_recursive setting s m)
+queries_passed true setting s m = own_passed (bytes_eq m.header.provider setting.agent.name) (place_named m s.base.records) setting s m
+queries_passed false setting s m = told_passed s (query_reply setting.agent.name m (answer_to setting.agent.name s m))
+
 serves_passed : (is_query : Bool) (setting : Setting) (s : AgentState) (m : Message) → IsPassed s (serves is_query setting s m)
-serves_passed true setting s m = record { grown = grown_state s; rises = λ h. h }
+serves_passed true setting s m = queries_passed (is_recursive m.body) setting s m
 serves_passed false setting s m = answers_passed setting s m (refusal setting.agent.name setting.stp_of s.base.records m) refl
 
 ---- Any entry

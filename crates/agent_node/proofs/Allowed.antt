@@ -1,5 +1,5 @@
 -- Which entries an agent takes.
-use Rattle.std.proofs.Common.{ℕ, ◌<◌, ◌≤◌, ◌≡◌, Bool, true, false, not, ◌&&◌, Option, Some, None, refl, sym, ap, subst, eq-eqb}
+use Rattle.std.proofs.Common.{ℕ, ◌<◌, ◌≤◌, ◌≡◌, Bool, true, false, ◌&&◌, Option, Some, None, refl, sym, subst, eq-eqb}
 use Rattle.std.proofs.lemmas.Bool.{lt-ltb, le-leb}
 use Rattle.nsi_primitive.specs.declared.ask.Ask.{Ask}
 use Rattle.nsi_primitive.specs.declared.message.Identity.{Identity}
@@ -11,18 +11,19 @@ use Rattle.stp_topology.specs.Network.{kind_of}
 use Rattle.agent_state.specs.State.{AgentState}
 use Rattle.agent_state.specs.Entries.{most_entries, is_on_time}
 use Rattle.requester_agent.specs.Setting.{IsRequester}
-use Rattle.requester_agent.specs.Steps.{is_recursive_ask}
 use Rattle.nsi_primitive.specs.declared.state.Machine.{Machine}
-use Rattle.nsi_agent.specs.Homes.{Routes, home_in, role_in}
-use Rattle.nsi_agent.specs.Steps.{may_take, takes_kind, is_seen, is_new}
+use Rattle.nsi_agent.specs.Steps.{may_take}
 use Rattle.agent_node.specs.Seated.{entry_at, is_for, is_tick}
 
 all : (a b c : Bool) → a ≡ true → b ≡ true → c ≡ true → (a && (b && c)) ≡ true
 all a b c p q r = cc
 
+both : (a b : Bool) → a ≡ true → b ≡ true → (a && b) ≡ true
+both a b p q = cc
+
 pub allowed : (o : Option AgentKind) (s : AgentState) (second : ℕ) (input : Input) → s.base.taken < most_entries → is_for o input ≡ true → is_on_time input second s.base.now ≡ true → may_take o s (entry_at second input) ≡ true
 allowed (Some (AgentKind.Provider hold)) s second input h f t = all _ _ _ (lt-ltb s.base.taken most_entries h) f t
-allowed (Some (AgentKind.Requester provider)) s second input h f t = all _ _ _ (lt-ltb s.base.taken most_entries h) f t
+allowed (Some (AgentKind.Requester provider)) s second input h f t = both _ _ (lt-ltb s.base.taken most_entries h) t
 allowed (Some AgentKind.Aggregator) s second input h f t = all _ _ _ (lt-ltb s.base.taken most_entries h) f t
 allowed None s second input h f t = all _ _ _ (lt-ltb s.base.taken most_entries h) f t
 
@@ -64,19 +65,11 @@ acked_for (Some (AgentKind.Requester provider)) i = refl
 acked_for (Some AgentKind.Aggregator) i = refl
 acked_for None i = refl
 
-pub ask_for : (t : Network) (a n : ℕ) (ask : Ask) → IsRequester t a → is_recursive_ask ask.what ≡ false → is_for (kind_of t a) (Input.Ask n ask) ≡ true
-ask_for t a n ask r e = subst (λ o. is_for o (Input.Ask n ask) ≡ true) (sym r.1) (ap not e)
+pub ask_for : (t : Network) (a n : ℕ) (ask : Ask) → IsRequester t a → is_for (kind_of t a) (Input.Ask n ask) ≡ true
+ask_for t a n ask r = subst (λ o. is_for o (Input.Ask n ask) ≡ true) (sym r.1) refl
 
-got_as : (o : Option AgentKind) (t : Network) (routes : Routes) (a : ℕ) (m : Message) → takes_kind (role_in o t routes a) m.body ≡ true → is_for o (Input.Got m) ≡ true
-got_as (Some (AgentKind.Provider hold)) t routes a m e = refl
-got_as (Some (AgentKind.Requester provider)) t routes a m e = refl
-got_as (Some AgentKind.Aggregator) t routes a m e = e
-got_as None t routes a m e = e
-
-first_of : (a b : Bool) → (a && b) ≡ true → a ≡ true
-first_of true b e = refl
-first_of false b e = absurd (cc)
-
-pub got_for : (t : Network) (routes : Routes) (a : ℕ) (s : AgentState) (m : Message) → is_new (home_in t routes a) s m ≡ true → is_for (kind_of t a) (Input.Got m) ≡ true
-unfolding home_in is_new
-got_for t routes a s m e = got_as (kind_of t a) t routes a m (first_of (takes_kind (role_in (kind_of t a) t routes a) m.body) (not (is_seen (role_in (kind_of t a) t routes a) s m)) e)
+pub got_for : (o : Option AgentKind) (m : Message) → is_for o (Input.Got m) ≡ true
+got_for (Some (AgentKind.Provider hold)) m = refl
+got_for (Some (AgentKind.Requester provider)) m = refl
+got_for (Some AgentKind.Aggregator) m = refl
+got_for None m = refl

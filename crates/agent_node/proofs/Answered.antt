@@ -1,5 +1,6 @@
 -- An ask is answered, and nothing else is.
-use Rattle.std.proofs.Common.{ℕ, ◌≡◌, ◌↔◌, ◌&&◌, Bool, true, false, not, List, Option, Some, None, IsTrue, IsSome, is_some, refl, sym, ap, ◌∙◌}
+use Rattle.std.proofs.Common.{ℕ, ◌≡◌, ◌↔◌, ◌&&◌, Bool, true, false, List, Option, Some, None, IsTrue, IsSome, is_some, refl, sym, ap, ◌∙◌, bytes_eq}
+use Rattle.std.specs.List.{list_any}
 use Rattle.nsi_primitive.specs.Printable.{is_ask}
 use Rattle.nsi_primitive.specs.Messages.{is_request, connection_of, is_query}
 use Rattle.nsi_primitive.specs.declared.ask.ReserveAsk.{ReserveAsk}
@@ -16,11 +17,12 @@ use Rattle.stp_topology.specs.declared.network.Network.{Network}
 use Rattle.stp_topology.specs.Network.{kind_of}
 use Rattle.message_retry.specs.Retry.{is_old}
 use Rattle.connection_record.specs.Refusal.{refusal, place_of, points_of}
-use Rattle.agent_state.specs.Entries.{retry_of}
-use Rattle.agent_state.specs.State.{AgentState, AgentStepped, stays}
+use Rattle.agent_state.specs.Entries.{retry_of, is_recursive}
+use Rattle.agent_state.specs.State.{AgentState, AgentStepped, stays, children_at}
 use Rattle.agent_state.specs.declared.parent.View.{View}
 use Rattle.aggregator_agent.specs.Setting.{Setting as AggregatorSetting, setting_of as aggregator_of, agent_in}
-use Rattle.aggregator_agent.specs.Steps.{request_at, opens_between, opens, request_to, accepts, answers as aggregator_answers, serves, hears, receives, sees, is_seen, ticks as aggregator_ticks, step as aggregator_step, after as aggregator_after, after_if as aggregator_if, may_take as aggregator_may, is_for_aggregator}
+use Rattle.aggregator_agent.specs.Below.{Sought, is_asked, seek}
+use Rattle.aggregator_agent.specs.Steps.{request_at, opens_between, opens, request_to, accepts, answers as aggregator_answers, opens_query, asks_below, asks_if_own, place_named, queries, serves, hears, receives, sees, is_seen, ticks as aggregator_ticks, step as aggregator_step, after as aggregator_after, after_if as aggregator_if, may_take as aggregator_may, is_for_aggregator}
 use Rattle.requester_agent.specs.Queries.{query_for}
 use Rattle.requester_agent.specs.Setting.{Setting as RequesterSetting, setting_of as requester_of}
 use Rattle.requester_agent.specs.Steps.{find_view, asks_at, asks_new, asks_found, reserves, sends_query, asked_of, asked, hears_if, ticks as requester_ticks, acked, answers as requester_answers, step as requester_step, after as requester_after, after_if as requester_if, may_take as requester_may}
@@ -85,8 +87,24 @@ unfolding aggregator_answers
 answers_none (Some error) setting s m = refl
 answers_none None setting s m = accepts_none (connection_of m.body) setting s m
 
+sought_none : (waits : Bool) (setting : AggregatorSetting) (s : AgentState) (n : ℕ) (m : Message) (x : Sought) → Unanswered (opens_query waits setting s n m x)
+sought_none true setting s n m x = refl
+sought_none false setting s n m x = refl
+
+own_none : (is_own : Bool) (o : Option ℕ) (setting : AggregatorSetting) (s : AgentState) (m : Message) → Unanswered (asks_if_own is_own o setting s m)
+unfolding asks_below
+own_none true (Some n) setting s m =
+    let x = seek setting.agent s.base.next (children_at n s.children) in
+    sought_none (list_any is_asked x.parts) setting s n m x
+own_none true None setting s m = refl
+own_none false o setting s m = refl
+
+queries_none : (is_recursive : Bool) (setting : AggregatorSetting) (s : AgentState) (m : Message) → Unanswered (queries is_recursive setting s m)
+queries_none true setting s m = own_none (bytes_eq m.header.provider setting.agent.name) (place_named m s.base.records) setting s m
+queries_none false setting s m = refl
+
 serves_none : (is_query : Bool) (setting : AggregatorSetting) (s : AgentState) (m : Message) → Unanswered (serves is_query setting s m)
-serves_none true setting s m = refl
+serves_none true setting s m = queries_none (is_recursive m.body) setting s m
 serves_none false setting s m = answers_none (refusal setting.agent.name setting.stp_of s.base.records m) setting s m
 
 receives_none : (asks old : Bool) (setting : AggregatorSetting) (s : AgentState) (m : Message) → Unanswered (receives asks old setting s m)

@@ -10,7 +10,6 @@ use Rattle.agent_state.specs.State.{AgentState, AgentStepped}
 use Rattle.agent_state.specs.Entries.{most_entries}
 use Rattle.provider_agent.specs.Steps.{is_for_provider}
 use Rattle.aggregator_agent.specs.Steps.{is_for_aggregator}
-use Rattle.requester_agent.specs.Steps.{is_for_requester}
 use Rattle.nsi_agent.specs.Homes.{Home, Routes, AreRoutes, home_in}
 use Rattle.agent_node.specs.declared.fault.TurnFault.{TurnFault}
 use Rattle.agent_node.specs.Doors.{Plug, others}
@@ -41,7 +40,7 @@ stepped s out answer = record { state = s; out = out; answer = answer }
 -- whether an agent of that kind takes such an input
 abbrev pub is_for : Option AgentKind → Input → Bool
 is_for (Some (AgentKind.Provider hold)) input = is_for_provider input
-is_for (Some (AgentKind.Requester provider)) input = is_for_requester input
+is_for (Some (AgentKind.Requester provider)) input = true
 is_for _ input = is_for_aggregator input
 
 abbrev pub is_tick : Input → Bool

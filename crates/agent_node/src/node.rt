@@ -7,7 +7,6 @@ ghost use Rattle.nsi_primitive.specs.declared.entry.Input.{Input};
 ghost use Rattle.journal_entry.specs.Journal.{MayLeaveSynced};
 ghost use Rattle.agent_state.specs.Entries.{most_entries};
 ghost use Rattle.requester_agent.specs.Setting.{IsRequester};
-ghost use Rattle.requester_agent.specs.Steps.{is_recursive_ask};
 ghost use Rattle.nsi_agent.specs.Steps.{after};
 ghost use Rattle.agent_node.specs.Seat.{now_at};
 ghost use Rattle.agent_node.specs.Acts.{asked, forced, ticked, is_quiet};
@@ -87,7 +86,6 @@ impl<'t, J: Journal + Drop> Node<'t, J> {
         requires usable { self.old.fault ≡ None }
         requires few { self.old.seat.state.base.taken < most_entries }
         requires requester { IsRequester self.old.network self.old.seat.number }
-        requires plain { is_recursive_ask ask.what ≡ false }
         requires printable { IsPrintableAsk ask }
         ensures ok { AtHome self.old
             (λ h. OnOk result (self.new.seat ≡ asked h number ask self.old.seat)) }

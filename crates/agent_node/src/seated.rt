@@ -7,7 +7,6 @@ ghost use Rattle.nsi_primitive.specs.declared.entry.Input.{Input as AnInput};
 ghost use Rattle.stp_topology.specs.Network.{kind_of};
 ghost use Rattle.agent_state.specs.Entries.{most_entries};
 ghost use Rattle.requester_agent.specs.Setting.{IsRequester};
-ghost use Rattle.requester_agent.specs.Steps.{is_recursive_ask};
 ghost use Rattle.nsi_agent.specs.Homes.{Routes, home_in};
 ghost use Rattle.nsi_agent.specs.Steps.{after, is_new, may_take};
 ghost use Rattle.agent_node.specs.Doors.{HasMet, IsPrintableCome, lying, plug_to, crossed};
@@ -329,7 +328,6 @@ impl<'t> Core<'t> {
     pub fn ask(&mut self, alloc: Global, number: u32, ask: Ask) -> Result<AskAnswer, AllocError>
         requires few { self.old.seat.state.base.taken < most_entries }
         requires requester { IsRequester self.old.network self.old.seat.number }
-        requires plain { is_recursive_ask ask.what ≡ false }
         requires printable { IsPrintableAsk ask }
         ensures ok { AtSeat self.old
             (λ h. OnOk result (self.new.seat ≡ asked h number ask self.old.seat)) }

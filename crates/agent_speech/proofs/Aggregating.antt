@@ -1,5 +1,6 @@
 -- What an entry makes an aggregator say was owed, and what it asks its views hold.
 use Rattle.std.proofs.Common.{ℕ, zero, suc, ◌+◌, ◌≤◌, ◌<◌, ◌≡◌, Bool, true, false, List, [], ◌∷◌, Option, Some, None, ◌==◌, ◌&&◌, refl, sym, ap, ◌∙◌, subst, arith, length, length-append, length-set, bytes_eq}
+use Rattle.std.specs.List.{list_any}
 use Rattle.std.specs.Prelude.{sum_by}
 use Rattle.std.proofs.lemmas.List.Sums.{sum_by-cons, sum_by-append, sum_by-set}
 use Rattle.std.proofs.lemmas.Option.{slice_get_within, get_or_from_slice_get}
@@ -26,18 +27,22 @@ use Rattle.connection_record.proofs.Saying.{tally_append, stays_speaks}
 use Rattle.connection_record.proofs.Unrefused.{unrefused_agent, unrefused_at}
 use Rattle.child_connection.specs.Views.{ChildConnection}
 use Rattle.agent_state.specs.declared.parent.Due.{Due}
-use Rattle.agent_state.specs.Entries.{error_reply, retry_of, query_reply}
+use Rattle.agent_state.specs.declared.parent.OpenQuery.{OpenQuery}
+use Rattle.agent_state.specs.Entries.{error_reply, is_recursive, retry_of, query_reply}
 use Rattle.agent_state.specs.State.{sends, AgentState, AgentStepped, stays, record_at, no_record, name_or, children_at}
 use Rattle.aggregator_agent.specs.declared.agent.Agent.{Agent}
 use Rattle.aggregator_agent.specs.Asking.{Turn}
+use Rattle.aggregator_agent.specs.Below.{Sought, is_asked, seek, opened, nested_reply, Heard, hear_below}
 use Rattle.aggregator_agent.specs.Clock.{tells_late, Told, tell_one, tell_all, is_late_of, ends, clocked, Clocked, clock_then, clock_all}
 use Rattle.aggregator_agent.specs.Setting.{Setting}
-use Rattle.aggregator_agent.specs.Steps.{is_seen, sees, children_for, request_at, with_new, opens_between, opens, request_to, accepts, answers, Passed, pass_then, hear_all, hears, receives, ticks, step, serves}
+use Rattle.aggregator_agent.specs.Steps.{is_seen, sees, children_for, request_at, with_new, opens_between, opens, request_to, accepts, answers, Passed, pass_then, hear_all, hears, opens_query, asks_below, asks_if_own, place_named, queries, receives, ticks, step, serves}
 use Rattle.aggregator_agent.specs.Turns.{request_turn, answer_turn, spoken}
-use Rattle.agent_speech.specs.Owing.{answers_to, is_drawn, is_foreign, owed_under, owed_by, has_id, before, took, SaysWhatItOwes}
+use Rattle.agent_speech.specs.Owing.{answers_to, is_drawn, is_foreign, owed_under, owed_by, owes_rows, has_id, before, took, SaysWhatItOwes}
 use Rattle.agent_speech.specs.Unanswered.{reserves_at, answers_at, holding, held, misfitting, unfit, AreEven}
-use Rattle.agent_speech.proofs.Measures.{addressed_answers, addressed_drawn, addressed_foreign, none_begun, before_next}
-use Rattle.agent_speech.proofs.Once.{says_nothing, says_none, HasTaken, says_taken, says_one, IsTurned, by_request, owed_set, owed_cons, owed_new, ids_set, ids_cons, ids_new}
+use Rattle.agent_speech.proofs.Measures.{addressed_answers, addressed_drawn, addressed_foreign, none_begun, before_next, taken_more}
+use Rattle.agent_speech.proofs.Below.{IsSought, all_sought, owes_most, IsToldBelow, told_below}
+use Rattle.agent_speech.proofs.Counting.{tally_none, tally_cons}
+use Rattle.agent_speech.proofs.Once.{records_say, says_nothing, says_none, HasTaken, says_taken, says_one, IsTurned, by_request, owed_set, owed_cons, owed_new, ids_set, ids_cons, ids_new}
 use Rattle.agent_speech.proofs.Records.{record_pushed}
 use Rattle.agent_speech.proofs.Noting.{saw_leaves, saw_other, new_request, saw_request}
 use Rattle.agent_speech.proofs.Holding.{IsHolding, holds_still, holds_same, nothing_asked, answer_reserves, addressed_reserves}
@@ -50,12 +55,17 @@ use Rattle.agent_speech.proofs.Queried.{rows_answer, rows_ask}
 
 -- what an entry says, what the views hold then but for what is heard, and that records and views stand side by side
 pub record IsStep (setting : Setting) (s : AgentState) (x : AgentStepped) : Type 0 where
-  pub says : SaysWhatItOwes setting.agent.name setting.agent.number s.base x.state.base x.out
+  pub says : SaysWhatItOwes setting.agent.name setting.agent.number s x.state x.out
   pub holds : AreEven s → IsHolding s x.state x.out
   pub even : AreEven s → AreEven x.state
 
 stays_step : (setting : Setting) (s : AgentState) → IsStep setting s (stays s)
-stays_step setting s = record { says = says_none setting.agent.name setting.agent.number s.base; holds = λ e. holds_same s; even = λ e. e }
+stays_step setting s =
+    record {
+      says = records_say setting.agent.name setting.agent.number s s [] refl (says_none setting.agent.name setting.agent.number s.base);
+      holds = λ e. holds_same s;
+      even = λ e. e;
+    }
 
 ---- A connection that takes a request
 
@@ -68,6 +78,7 @@ at_most f (suc n) (xs ∷ xss) l = omega (arith, sum_by-cons f xs xss, at_most f
 -- a part of an entry that begins with this state
 record IsPart (setting : Setting) (g : Header) (owner : List ℕ) (s : AgentState) (x : AgentStepped) : Type 0 where
   turned : IsTurned setting.agent.name setting.agent.number (Some g.correlation) owner s.base x.state.base x.out
+  queries : x.state.queries ≡ s.queries
   holds : AreEven s → IsHolding s x.state x.out
   even : AreEven s → AreEven x.state
 
@@ -87,6 +98,7 @@ request_part setting s n m l =
         own = spoken_own Any setting.agent c r xs s.base.next t u;
         seen = refl;
       };
+      queries = refl;
       holds = λ e.
           let k : n < length s.children = omega (arith, l, e) in
           record {
@@ -130,7 +142,7 @@ module _ (setting : Setting) (s : AgentState) (m : Message) (asks : is_request m
   quiet_step : IsStep setting s (stays t)
   quiet_step =
       record {
-        says = says_taken setting.agent.name setting.agent.number m.header s.base t.base has_taken;
+        says = records_say setting.agent.name setting.agent.number s t [] refl (says_taken setting.agent.name setting.agent.number m.header s.base t.base has_taken);
         holds = λ e. holds_still s t [] refl refl nothing_asked;
         even = λ e. e;
       }
@@ -143,36 +155,74 @@ module _ (setting : Setting) (s : AgentState) (m : Message) (asks : is_request m
   unfolding is_asking
   answer_asks e = refl
 
-  refused_step : (e : ErrorName) → IsStep setting s (record { state = t; out = error_reply setting.agent.name m e ∷ []; answer = None })
-  refused_step e =
+  -- one answer, and nothing else
+  answered_step : (reply : Message) → reply.header ≡ m.header → is_answering reply.body ≡ true → is_asking reply.body ≡ false → IsStep setting s (sends t (reply ∷ []))
+  answered_step reply e answers asks_nothing =
       record {
-        says = says_one setting.agent.name setting.agent.number s.base t.base m (error_reply setting.agent.name m e) has_taken refl (answer_is e);
-        holds = λ v. holds_still s t _ refl refl (λ p c. answer_reserves p c (error_reply setting.agent.name m e) [] (answer_asks e) ∙ nothing_asked p c);
+        says = records_say setting.agent.name setting.agent.number s t (reply ∷ []) refl (says_one setting.agent.name setting.agent.number s.base t.base m reply has_taken e answers);
+        holds = λ v. holds_still s t _ refl refl (λ p c. answer_reserves p c reply [] asks_nothing ∙ nothing_asked p c);
         even = λ v. v;
       }
+
+  refused_step : (e : ErrorName) → IsStep setting s (sends t (error_reply setting.agent.name m e ∷ []))
+  refused_step e = answered_step (error_reply setting.agent.name m e) refl (answer_is e) (answer_asks e)
 
   told_step : IsStep setting s (sends t (query_reply setting.agent.name m (answer_to setting.agent.name t m) ∷ []))
   told_step =
       let answer = answer_to setting.agent.name t m in
-      let reply = query_reply setting.agent.name m answer in
-      let answers : is_answering reply.body ≡ true =
-      replied_by (λ b. is_answering b ≡ true) setting.agent.name m answer (λ e plain. answer_is e) (λ body e. rows_answer body (tells_rows setting.agent.name t m body e))
-      in
-      let asks : is_asking reply.body ≡ false =
-      replied_by (λ b. is_asking b ≡ false) setting.agent.name m answer (λ e plain. answer_asks e) (λ body e. rows_ask body (tells_rows setting.agent.name t m body e))
-      in
+      answered_step (query_reply setting.agent.name m answer) (reply_header setting.agent.name m answer)
+      (replied_by (λ b. is_answering b ≡ true) setting.agent.name m answer (λ e plain. answer_is e) (λ body e. rows_answer body (tells_rows setting.agent.name t m body e)))
+      (replied_by (λ b. is_asking b ≡ false) setting.agent.name m answer (λ e plain. answer_asks e) (λ body e. rows_ask body (tells_rows setting.agent.name t m body e)))
+
+  -- a query that waits is a request that was taken, and owes its answer
+  opened_step : (waits : Bool) (n : ℕ) (x : Sought) → IsSought setting.agent s.base.next x → IsStep setting s (opens_query waits setting t n m x)
+  unfolding is_answering is_asking is_noting
+  opened_step true n x a =
+      let q : OpenQuery = opened m n x in
       record {
-        says = says_one setting.agent.name setting.agent.number s.base t.base m reply has_taken (reply_header setting.agent.name m answer) answers;
-        holds = λ v. holds_still s t _ refl refl (λ p c. answer_reserves p c reply [] asks ∙ nothing_asked p c);
+        says = record {
+          answers = λ h k.
+              omega (
+                arith,
+                a.answers h k,
+                tally_append (owes_rows h k) s.queries (q ∷ []),
+                tally_cons (owes_rows h k) q [],
+                tally_none (owes_rows h k),
+                owes_most h k q,
+                taken_more h m.header s.base.seen has_taken.new,
+                ap (took h) has_taken.seen,
+              );
+          drawn = λ c. omega (arith, a.drawn c);
+          own = a.own;
+        };
+        holds = λ v. holds_still s _ x.asked refl refl a.reserves;
         even = λ v. v;
       }
+  opened_step false n x a = answered_step (nested_reply setting.agent.name (record_at n s.base.records) (opened m n x)) refl refl refl
+
+  below_step : (n : ℕ) → IsStep setting s (asks_below setting t n m)
+  unfolding asks_below
+  below_step n =
+      let x : Sought = seek setting.agent s.base.next (children_at n s.children) in
+      opened_step (list_any is_asked x.parts) n x (all_sought setting.agent s.base.next (children_at n s.children))
+
+  owned_step : (is_own : Bool) (o : Option ℕ) → IsStep setting s (asks_if_own is_own o setting t m)
+  owned_step true (Some n) = below_step n
+  owned_step true None = refused_step ErrorName.Nonexistent
+  owned_step false o = refused_step ErrorName.WrongProvider
+
+  query_step : (is_recursive : Bool) → IsStep setting s (queries is_recursive setting t m)
+  query_step true = owned_step (bytes_eq m.header.provider setting.agent.name) (place_named m s.base.records)
+  query_step false = told_step
 
   at_step : (n : ℕ) → n < length s.base.records → (record_at n s.base.records).owner ≡ m.header.requester → m.header.provider ≡ setting.agent.name → IsStep setting s (request_at setting t n m)
   at_step n l o p =
       let a : IsPart setting m.header (record_at n s.base.records).owner t (request_at setting t n m) = request_part setting t n m l in
       let x : AgentStepped = request_at setting t n m in
       record {
-        says = by_request setting.agent.name setting.agent.number m.header (record_at n s.base.records).owner s.base t.base x.state.base x.out o p has_taken a.turned;
+        says =
+            records_say setting.agent.name setting.agent.number s x.state x.out a.queries
+            (by_request setting.agent.name setting.agent.number m.header (record_at n s.base.records).owner s.base t.base x.state.base x.out o p has_taken a.turned);
         holds = λ e. noted_holds x (a.holds e);
         even = λ e. a.even e;
       }
@@ -200,7 +250,9 @@ module _ (setting : Setting) (s : AgentState) (m : Message) (asks : is_request m
         seen = b.seen;
       } in
       record {
-        says = by_request setting.agent.name setting.agent.number m.header m.header.requester s.base t.base x.state.base x.out refl p has_taken turned;
+        says =
+            records_say setting.agent.name setting.agent.number s x.state x.out a.queries
+            (by_request setting.agent.name setting.agent.number m.header m.header.requester s.base t.base x.state.base x.out refl p has_taken turned);
         holds = λ e. let h : IsHolding w x.state x.out = a.holds (new_even q points e) in
             record {
               fit = omega (arith, h.fit, sum_by-append misfitting s.children ([] ∷ []), sum_by-cons misfitting [] []);
@@ -238,7 +290,7 @@ module _ (setting : Setting) (s : AgentState) (m : Message) (asks : is_request m
   answers_step None r = accepts_step (connection_of m.body) refl r
 
   pub serves_step : (b : Bool) → IsStep setting s (serves b setting t m)
-  serves_step true = told_step
+  serves_step true = query_step (is_recursive m.body)
   serves_step false = answers_step (refusal setting.agent.name setting.stp_of s.base.records m) refl
 
 ---- All else that came
@@ -333,16 +385,18 @@ unfolding hears held unfit
 hears_step setting s m other new =
     let x : Passed = hear_all setting.agent s.base.now 0 m s.base.next s.base.records s.children in
     let v : IsPassed setting.agent m s.base.next s.base.records s.children x = all_passed setting.agent s.base.now 0 m s.base.next s.base.records s.children in
+    let y : Heard = hear_below setting.agent.name s.base.records m s.queries in
+    let w : IsToldBelow s.queries y = told_below setting.agent.name s.base.records m s.queries in
     record {
       says = record {
-        answers = λ h n. omega (arith, v.answers h n, ap (took h) (saw_other m (retry_of s.base) other));
-        drawn = v.drawn;
-        own = v.own;
+        answers = λ h n. omega (arith, tally_append (answers_to h n) x.out y.out, v.answers h n, w.answers h n, ap (took h) (saw_other m (retry_of s.base) other));
+        drawn = λ c. omega (arith, tally_append (is_drawn c) x.out y.out, v.drawn c, w.drawn c);
+        own = omega (arith, tally_append (is_foreign setting.agent.name) x.out y.out, v.own, w.own setting.agent.name);
       };
       holds = λ e. record {
         fit = omega (arith, v.fit);
-        holds_on = λ p c n. omega (arith, v.holds_on p c (saw_leaves p c m (retry_of s.base) new n));
-        few = λ p c. omega (arith, v.few p c);
+        holds_on = λ p c n. omega (arith, tally_append (reserves_at p c) x.out y.out, w.reserves p c, v.holds_on p c (saw_leaves p c m (retry_of s.base) new n));
+        few = λ p c. omega (arith, tally_append (reserves_at p c) x.out y.out, w.reserves p c, v.few p c);
       };
       even = λ e. v.even e;
     }
@@ -506,7 +560,7 @@ aggregator_step (Input.Got m) second setting s = receives_step (is_request m.bod
 aggregator_step Input.Tick second setting s = ticks_step setting second s
 aggregator_step (Input.Acked i) second setting s =
     record {
-      says = says_nothing setting.agent.name setting.agent.number s.base _ refl refl (λ h. omega arith);
+      says = records_say setting.agent.name setting.agent.number s _ [] refl (says_nothing setting.agent.name setting.agent.number s.base _ refl refl (λ h. omega arith));
       holds = λ e. holds_still s _ [] refl refl nothing_asked;
       even = λ e. e;
     }

@@ -28,7 +28,7 @@ use Rattle.nsi_agent.proofs.Staying.{left_out_by}
 use Rattle.agent_speech.specs.Owing.{SaysWhatItOwes, HasSaidOnce}
 use Rattle.agent_speech.specs.Unanswered.{reserves_at, answers_at, held, unfit, was_answered, HeardBy, HoldsWhatItAsks, AnswerCame, HasHeld}
 use Rattle.agent_speech.specs.Laws.{EntriesSayWhatIsOwed, NothingIsSaidTwice, IsEven, BlankIsEven, EntriesKeepEven, EntriesHoldWhatIsAsked, WhatIsAskedIsHeld}
-use Rattle.agent_speech.proofs.Once.{said_then, blank_said, says_none}
+use Rattle.agent_speech.proofs.Once.{said_then, blank_said, records_say, says_none}
 use Rattle.agent_speech.proofs.Answering.{answered_earlier, answered_now}
 use Rattle.agent_speech.proofs.Noting.{saw_heard}
 use Rattle.agent_speech.proofs.Holding.{IsHolding, holds_still, holds_same, nothing_asked, answer_reserves, with_heard_by}
@@ -38,7 +38,7 @@ use Rattle.agent_speech.proofs.Aggregating.{aggregator_step as aggregator_does}
 
 -- an entry at an agent with a role
 pub record IsStep (role : Role) (s : AgentState) (input : Input) (x : AgentStepped) : Type 0 where
-  pub says : SaysWhatItOwes (name_in role) (drawer_of role) s.base x.state.base x.out
+  pub says : SaysWhatItOwes (name_in role) (drawer_of role) s x.state x.out
   pub holds : IsEven role s → IsHolding s x.state x.out
   pub even : IsEven role s → IsEven role x.state
   pub heard : HeardBy s.base.heard input x.state.base.heard
@@ -67,9 +67,10 @@ unfolding after_as held unfit
 taken_step (provides setting stp_of) s e may =
     let x : Stepped = provider_step e.input e.second setting stp_of s.base in
     let a = provider_says e.input e.second setting stp_of s.base in
+    let says : SaysWhatItOwes setting.name setting.number s (with_base s x).state x.out = records_say setting.name setting.number s (with_base s x).state x.out refl a in
     subst (λ (y : Stepped). IsStep (provides setting stp_of) s e.input (with_base s y)) (sym (provider_takes setting stp_of s.base e may))
     (record {
-      says = record { answers = a.answers; drawn = a.drawn; own = a.own };
+      says = record { answers = says.answers; drawn = says.drawn; own = says.own };
       holds = λ v. holds_still s _ x.out refl refl (λ p c. none_reserved p c x.out (step_answers e.input e.second setting stp_of s.base));
       even = λ v. tt;
       heard = by_seen e.input s.base x.state (provider_saw e.input e.second setting stp_of s.base);
@@ -87,16 +88,17 @@ taken_step (aggregates setting) s e may =
 taken_step (requests setting) s e may =
     let x : AgentStepped = requester_step e.input e.second setting s in
     let a = requester_does setting s e.input e.second in
+    let says : SaysWhatItOwes setting.name setting.number s x.state x.out = records_say setting.name setting.number s x.state x.out a.queries a.says in
     subst (λ (y : AgentStepped). IsStep (requests setting) s e.input y) (sym (requester_takes setting s e may))
     (record {
-      says = record { answers = a.says.answers; drawn = a.says.drawn; own = a.says.own };
+      says = record { answers = says.answers; drawn = says.drawn; own = says.own };
       holds = λ v. let h : IsHolding s x.state x.out = a.holds in record { fit = h.fit; holds_on = h.holds_on; few = h.few };
       even = λ v. tt;
       heard = by_seen e.input s.base x.state.base (requester_saw e.input e.second setting s);
     })
 
 left_step : (role : Role) (s : AgentState) (input : Input) → IsStep role s input (stays s)
-left_step role s input = record { says = says_none (name_in role) (drawer_of role) s.base; holds = λ v. holds_same s; even = λ v. v; heard = inl refl }
+left_step role s input = record { says = records_say (name_in role) (drawer_of role) s s [] refl (says_none (name_in role) (drawer_of role) s.base); holds = λ v. holds_same s; even = λ v. v; heard = inl refl }
 
 pub every_step : (role : Role) (s : AgentState) (e : Entry) → IsStep role s e.input (after_as role s e)
 every_step role s e = by (may_take_as role s e) refl
@@ -110,14 +112,14 @@ every_step role s e = by (may_take_as role s e) refl
 pub entries_say_what_is_owed : EntriesSayWhatIsOwed
 entries_say_what_is_owed h s e = (every_step h.role s e).says
 
-said_from : (h : Home) (es : List Entry) (s : AgentState) (out : List Message) → HasSaidOnce (name_in h.role) (drawer_of h.role) s.base out →
-    HasSaidOnce (name_in h.role) (drawer_of h.role) (goes_on h s es).state.base (out ++ (goes_on h s es).out)
+said_from : (h : Home) (es : List Entry) (s : AgentState) (out : List Message) → HasSaidOnce (name_in h.role) (drawer_of h.role) s out →
+    HasSaidOnce (name_in h.role) (drawer_of h.role) (goes_on h s es).state (out ++ (goes_on h s es).out)
 unfolding goes_on
-said_from h [] s out a = subst (HasSaidOnce (name_in h.role) (drawer_of h.role) s.base) (sym (append-nil out)) a
+said_from h [] s out a = subst (HasSaidOnce (name_in h.role) (drawer_of h.role) s) (sym (append-nil out)) a
 said_from h (e ∷ es) s out a =
     let x : AgentStepped = after h s e in
-    subst (HasSaidOnce (name_in h.role) (drawer_of h.role) (goes_on h x.state es).state.base) (append_assoc out x.out (goes_on h x.state es).out)
-    (said_from h es x.state (out ++ x.out) (said_then (name_in h.role) (drawer_of h.role) s.base x.state.base out x.out a (entries_say_what_is_owed h s e)))
+    subst (HasSaidOnce (name_in h.role) (drawer_of h.role) (goes_on h x.state es).state) (append_assoc out x.out (goes_on h x.state es).out)
+    (said_from h es x.state (out ++ x.out) (said_then (name_in h.role) (drawer_of h.role) s x.state out x.out a (entries_say_what_is_owed h s e)))
 
 pub nothing_is_said_twice : NothingIsSaidTwice
 nothing_is_said_twice h es = said_from h es blank_agent [] (blank_said (name_in h.role) (drawer_of h.role))

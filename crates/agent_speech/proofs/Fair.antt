@@ -14,7 +14,7 @@ use Rattle.message_retry.specs.Taken.{is_taken}
 use Rattle.connection_record.specs.declared.record.Record.{Record}
 use Rattle.connection_record.specs.Replies.{id_or}
 use Rattle.connection_record.specs.Speaking.{one, tally, owed_reserve, owed_provision, owed_life, owed}
-use Rattle.agent_state.specs.State.{State, record_at, no_record}
+use Rattle.agent_state.specs.State.{AgentState, record_at, no_record}
 use Rattle.nsi_agent.specs.Told.{told, name_in, drawer_of}
 use Rattle.agent_speech.specs.Owing.{answers_to, is_drawn, times, owed_under, owed_by, has_id, before, took, HasSaidOnce}
 use Rattle.agent_speech.specs.Laws.{header_to, records_after, IdsAreApart, NothingUnasked, HoldsWereAsked}
@@ -68,72 +68,72 @@ held_owes : (c : ℕ) (r : Record) → r.rsm ≡ Rsm.ReserveHeld → id_or r.att
 unfolding owed owed_reserve kind_number
 held_owes c r e f = let k : (c == id_or r.attempt) ≡ true = eq-eqb c (id_or r.attempt) (sym f) in grind (arith, e, k)
 
-module _ (name : List ℕ) (number : ℕ) (s : State) (out : List Message) (once : HasSaidOnce name number s out) where
+module _ (name : List ℕ) (number : ℕ) (s : AgentState) (out : List Message) (once : HasSaidOnce name number s out) where
   -- nothing was said under a header that wasn't taken, and nothing is owed under it
-  pub unsaid : (h : Header) (n : ℕ) → is_taken h s.seen ≡ false → (tally (answers_to h n) out ≡ 0) × (owed_by name h n s.records ≡ 0)
+  pub unsaid : (h : Header) (n : ℕ) → is_taken h s.base.seen ≡ false → (tally (answers_to h n) out ≡ 0) × (owed_by name h n s.base.records ≡ 0)
   unfolding took
   unsaid h n u = (omega (arith, once.answers h n, ap one u), omega (arith, once.answers h n, ap one u))
 
   -- so no record of the parent owes anything under it
-  pub unowed : (parent : List ℕ) (c n k : ℕ) → is_taken (header_to parent name c) s.seen ≡ false → (record_at n s.records).owner ≡ parent → owed c k (record_at n s.records) ≡ 0
-  unowed parent c n k u o = by (cases_lt n (length s.records))
+  pub unowed : (parent : List ℕ) (c n k : ℕ) → is_taken (header_to parent name c) s.base.seen ≡ false → (record_at n s.base.records).owner ≡ parent → owed c k (record_at n s.base.records) ≡ 0
+  unowed parent c n k u o = by (cases_lt n (length s.base.records))
     where
-      by : (n < length s.records) ⊎ (length s.records ≤ n) → owed c k (record_at n s.records) ≡ 0
+      by : (n < length s.base.records) ⊎ (length s.base.records ≤ n) → owed c k (record_at n s.base.records) ≡ 0
       by (inl l) =
           omega (
             arith,
-            owed_at name (header_to parent name c) k s.records n l,
+            owed_at name (header_to parent name c) k s.base.records n l,
             (unsaid (header_to parent name c) k u).1,
-            own_owed parent name c k (record_at n s.records) o,
+            own_owed parent name c k (record_at n s.base.records) o,
           )
-      by (inr l) = ap (owed c k) (beyond_all s.records n l) ∙ none_owed c k
+      by (inr l) = ap (owed c k) (beyond_all s.base.records n l) ∙ none_owed c k
 
   -- what is held was reserved by a request that was taken
-  pub held_taken : (parent : List ℕ) (n : ℕ) → (record_at n s.records).owner ≡ parent → (record_at n s.records).rsm ≡ Rsm.ReserveHeld →
-      is_taken (header_to parent name (id_or (record_at n s.records).attempt)) s.seen ≡ true
-  held_taken parent n o e = by (is_taken (header_to parent name c) s.seen) refl
+  pub held_taken : (parent : List ℕ) (n : ℕ) → (record_at n s.base.records).owner ≡ parent → (record_at n s.base.records).rsm ≡ Rsm.ReserveHeld →
+      is_taken (header_to parent name (id_or (record_at n s.base.records).attempt)) s.base.seen ≡ true
+  held_taken parent n o e = by (is_taken (header_to parent name c) s.base.seen) refl
     where
       c : ℕ
-      c = id_or (record_at n s.records).attempt
+      c = id_or (record_at n s.base.records).attempt
 
-      by : (b : Bool) → is_taken (header_to parent name c) s.seen ≡ b → b ≡ true
+      by : (b : Bool) → is_taken (header_to parent name c) s.base.seen ≡ b → b ≡ true
       by true u = refl
-      by false u = absurd (omega (arith, unowed parent c n (kind_number Kind.ReserveTimeout) u o, held_owes c (record_at n s.records) e refl))
+      by false u = absurd (omega (arith, unowed parent c n (kind_number Kind.ReserveTimeout) u o, held_owes c (record_at n s.base.records) e refl))
 
   -- no two records have one id
-  pub ids_apart : (n k : ℕ) → n < length s.records → k < length s.records → (record_at k s.records).id ≡ (record_at n s.records).id → n ≡ k
+  pub ids_apart : (n k : ℕ) → n < length s.base.records → k < length s.base.records → (record_at k s.base.records).id ≡ (record_at n s.base.records).id → n ≡ k
   unfolding before
   ids_apart n k l m e =
-      let c : ℕ = (record_at n s.records).id in
-      apart_at (has_id c) s.records n k l m (eq-eqb c c refl) (eq-eqb c (record_at k s.records).id (sym e))
-      (omega (arith, once.drawn c, one_most (nat_lt c (id_of number s.next))))
+      let c : ℕ = (record_at n s.base.records).id in
+      apart_at (has_id c) s.base.records n k l m (eq-eqb c c refl) (eq-eqb c (record_at k s.base.records).id (sym e))
+      (omega (arith, once.drawn c, one_most (nat_lt c (id_of number s.base.next))))
 
   -- nor a message and a record
-  pub id_undrawn : (n : ℕ) (m : Message) → n < length s.records → Contains out m → is_drawn (record_at n s.records).id m ≡ true → ⊥
+  pub id_undrawn : (n : ℕ) (m : Message) → n < length s.base.records → Contains out m → is_drawn (record_at n s.base.records).id m ≡ true → ⊥
   unfolding before
   id_undrawn n m l c e =
-      let d : ℕ = (record_at n s.records).id in
+      let d : ℕ = (record_at n s.base.records).id in
       absurd
       (omega (
         arith,
         once.drawn d,
-        one_most (nat_lt d (id_of number s.next)),
+        one_most (nat_lt d (id_of number s.base.next)),
         tally_in (is_drawn d) m out c e,
-        passes_at (has_id d) s.records n l (eq-eqb d d refl),
+        passes_at (has_id d) s.base.records n l (eq-eqb d d refl),
       ))
 
 ---- The laws
 
 pub ids_are_apart : IdsAreApart
-ids_are_apart h es n k l m e = ids_apart (name_in h.role) (drawer_of h.role) (told h es).state.base (told h es).out (nothing_is_said_twice h es) n k l m e
+ids_are_apart h es n k l m e = ids_apart (name_in h.role) (drawer_of h.role) (told h es).state (told h es).out (nothing_is_said_twice h es) n k l m e
 
 pub nothing_unasked : NothingUnasked
 nothing_unasked h es requester c u =
-    let once : HasSaidOnce (name_in h.role) (drawer_of h.role) (told h es).state.base (told h es).out = nothing_is_said_twice h es in (
-      λ kind. (unsaid (name_in h.role) (drawer_of h.role) (told h es).state.base (told h es).out once (header_to requester (name_in h.role) c) kind u).0,
-      λ n kind o. unowed (name_in h.role) (drawer_of h.role) (told h es).state.base (told h es).out once requester c n kind u o,
+    let once : HasSaidOnce (name_in h.role) (drawer_of h.role) (told h es).state (told h es).out = nothing_is_said_twice h es in (
+      λ kind. (unsaid (name_in h.role) (drawer_of h.role) (told h es).state (told h es).out once (header_to requester (name_in h.role) c) kind u).0,
+      λ n kind o. unowed (name_in h.role) (drawer_of h.role) (told h es).state (told h es).out once requester c n kind u o,
     )
 
 pub holds_were_asked : HoldsWereAsked
 holds_were_asked h es n e =
-    held_taken (name_in h.role) (drawer_of h.role) (told h es).state.base (told h es).out (nothing_is_said_twice h es) (record_at n (records_after h es)).owner n refl e
+    held_taken (name_in h.role) (drawer_of h.role) (told h es).state (told h es).out (nothing_is_said_twice h es) (record_at n (records_after h es)).owner n refl e

@@ -11,6 +11,7 @@ pub mod Requesting
 pub mod Providing
 pub mod Asking
 pub mod Turning
+pub mod Below
 pub mod Aggregating
 pub mod Every
 pub mod Spoken

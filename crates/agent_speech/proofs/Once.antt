@@ -11,11 +11,11 @@ use Rattle.connection_record.specs.declared.record.Record.{Record}
 use Rattle.connection_record.specs.Moves.{fresh}
 use Rattle.connection_record.specs.Speaking.{one, tally, is_id, is_answering, owed_reserve, owed_provision, owed_life, owed}
 use Rattle.connection_record.proofs.Saying.{tally_append}
-use Rattle.agent_state.specs.State.{State, blank, record_at, no_record}
-use Rattle.agent_speech.specs.Owing.{answers_to, is_drawn, is_foreign, times, owed_under, owed_by, has_id, before, took, SaysWhatItOwes, HasSaidOnce}
+use Rattle.agent_state.specs.State.{State, AgentState, blank_agent, record_at, no_record}
+use Rattle.agent_speech.specs.Owing.{answers_to, is_drawn, is_foreign, times, owed_under, owed_by, owed_below, has_id, before, took, SaysWhatItOwes, HasSaidOnce}
 use Rattle.agent_speech.proofs.Measures.{none_begun, before_next, begun_same, taken_more, answer_answers, answer_drawn, answer_own}
 
-pub said_then : (name : List ℕ) (number : ℕ) (s t : State) (out more : List Message) → HasSaidOnce name number s out → SaysWhatItOwes name number s t more → HasSaidOnce name number t (out ++ more)
+pub said_then : (name : List ℕ) (number : ℕ) (s t : AgentState) (out more : List Message) → HasSaidOnce name number s out → SaysWhatItOwes name number s t more → HasSaidOnce name number t (out ++ more)
 said_then name number s t out more a b =
     record {
       answers = λ h n. omega (arith, tally_append (answers_to h n) out more, a.answers h n, b.answers h n);
@@ -23,12 +23,24 @@ said_then name number s t out more a b =
       own = omega (arith, tally_append (is_foreign name) out more, a.own, b.own);
     }
 
-pub blank_said : (name : List ℕ) (number : ℕ) → HasSaidOnce name number blank []
+pub blank_said : (name : List ℕ) (number : ℕ) → HasSaidOnce name number blank_agent []
 unfolding tally owed_by took is_taken
 blank_said name number = record { answers = λ h n. grind arith; drawn = λ c. omega arith; own = refl }
 
+---- Where queries stay as they are
+
+-- what is said against what the records owe
+pub record RecordsSay (name : List ℕ) (number : ℕ) (old new : State) (out : List Message) : Type 0 where
+  pub answers : (h : Header) (n : ℕ) → tally (answers_to h n) out + (owed_by name h n new.records + took h old.seen) ≤ owed_by name h n old.records + took h new.seen
+  pub drawn : (c : ℕ) → tally (is_drawn c) out + (tally (has_id c) new.records + before number old.next c) ≤ tally (has_id c) old.records + before number new.next c
+  pub own : tally (is_foreign name) out ≡ 0
+
+-- it is what the agent owes
+pub records_say : (name : List ℕ) (number : ℕ) (s t : AgentState) (out : List Message) → t.queries ≡ s.queries → RecordsSay name number s.base t.base out → SaysWhatItOwes name number s t out
+records_say name number s t out e a = record { answers = λ h n. omega (arith, a.answers h n, ap (owed_below h n) e); drawn = a.drawn; own = a.own }
+
 -- nothing is said, and what counts stays, or a request counts as taken
-pub says_nothing : (name : List ℕ) (number : ℕ) (s t : State) → t.records ≡ s.records → t.next ≡ s.next → ((h : Header) → took h s.seen ≤ took h t.seen) → SaysWhatItOwes name number s t []
+pub says_nothing : (name : List ℕ) (number : ℕ) (s t : State) → t.records ≡ s.records → t.next ≡ s.next → ((h : Header) → took h s.seen ≤ took h t.seen) → RecordsSay name number s t []
 unfolding tally
 says_nothing name number s t e f g =
     record {
@@ -37,7 +49,7 @@ says_nothing name number s t e f g =
       own = refl;
     }
 
-pub says_none : (name : List ℕ) (number : ℕ) (s : State) → SaysWhatItOwes name number s s []
+pub says_none : (name : List ℕ) (number : ℕ) (s : State) → RecordsSay name number s s []
 says_none name number s = says_nothing name number s s refl refl (λ h. omega arith)
 
 -- behind a request that is taken
@@ -48,11 +60,11 @@ pub record HasTaken (g : Header) (s t : State) : Type 0 where
   pub seen : t.seen ≡ with_taken g s.seen
 
 -- nothing is said to it
-pub says_taken : (name : List ℕ) (number : ℕ) (g : Header) (s t : State) → HasTaken g s t → SaysWhatItOwes name number s t []
+pub says_taken : (name : List ℕ) (number : ℕ) (g : Header) (s t : State) → HasTaken g s t → RecordsSay name number s t []
 says_taken name number g s t a = says_nothing name number s t a.records a.next (λ h. omega (arith, taken_more h g s.seen a.new, ap (took h) a.seen))
 
 -- one answer to it
-pub says_one : (name : List ℕ) (number : ℕ) (s t : State) (m n : Message) → HasTaken m.header s t → n.header ≡ m.header → is_answering n.body ≡ true → SaysWhatItOwes name number s t (n ∷ [])
+pub says_one : (name : List ℕ) (number : ℕ) (s t : State) (m n : Message) → HasTaken m.header s t → n.header ≡ m.header → is_answering n.body ≡ true → RecordsSay name number s t (n ∷ [])
 says_one name number s t m n a e b =
     record {
       answers = λ h k.
@@ -80,7 +92,7 @@ pub record IsTurned (name : List ℕ) (number : ℕ) (begun : Option ℕ) (owner
   pub seen : t.seen ≡ s.seen
 
 -- what an agent does by itself
-pub by_itself : (name : List ℕ) (number : ℕ) (owner : List ℕ) (s t : State) (out : List Message) → IsTurned name number None owner s t out → SaysWhatItOwes name number s t out
+pub by_itself : (name : List ℕ) (number : ℕ) (owner : List ℕ) (s t : State) (out : List Message) → IsTurned name number None owner s t out → RecordsSay name number s t out
 by_itself name number owner s t out a =
     record {
       answers = λ h n. omega (arith, a.answers h n, none_begun (bytes_eq h.requester owner && bytes_eq h.provider name) h, ap (took h) a.seen);
@@ -90,7 +102,7 @@ by_itself name number owner s t out a =
 
 -- what it does with a request that it takes
 pub by_request : (name : List ℕ) (number : ℕ) (g : Header) (owner : List ℕ) (s u t : State) (out : List Message) → owner ≡ g.requester → g.provider ≡ name → HasTaken g s u →
-    IsTurned name number (Some g.correlation) owner u t out → SaysWhatItOwes name number s t out
+    IsTurned name number (Some g.correlation) owner u t out → RecordsSay name number s t out
 by_request name number g owner s u t out e p b a =
     record {
       answers = λ h n.

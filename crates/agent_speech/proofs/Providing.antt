@@ -2,7 +2,7 @@
 use Rattle.std.proofs.Common.{ℕ, ◌+◌, ◌≤◌, ◌<◌, ◌≡◌, ◌∙◌, Bool, true, false, List, [], ◌∷◌, Option, Some, None, ◌&&◌, refl, sym, ap, subst, arith, length, length-append, unwrap_or, bytes_eq}
 use Rattle.std.proofs.lemmas.Option.{slice_get_within, get_or_from_slice_get}
 use Rattle.nsi_primitive.specs.Ids.{id_of}
-use Rattle.nsi_primitive.specs.Messages.{is_request, is_query, has_rows, connection_of}
+use Rattle.nsi_primitive.specs.Messages.{is_request, is_query, connection_of}
 use Rattle.nsi_primitive.specs.declared.entry.Input.{Input}
 use Rattle.nsi_primitive.specs.declared.kind.ErrorName.{ErrorName}
 use Rattle.nsi_primitive.specs.declared.plane.Plane.{Plane}
@@ -35,10 +35,10 @@ use Rattle.provider_agent.specs.Steps.{messages_by, drawn, keeps, taken_at, with
 use Rattle.provider_agent.proofs.GoodAfter.{waits_within, forcible_within}
 use Rattle.agent_state.proofs.Querying.{replied_by, reply_header}
 use Rattle.provider_agent.proofs.RequestCases.{seen_with, new_record}
-use Rattle.agent_speech.specs.Owing.{answers_to, is_drawn, is_foreign, owed_by, has_id, before, SaysWhatItOwes}
+use Rattle.agent_speech.specs.Owing.{answers_to, is_drawn, is_foreign, owed_by, has_id, before}
 use Rattle.agent_speech.proofs.Measures.{speaks_answers, speaks_drawn, speaks_own, none_begun, before_next}
 use Rattle.agent_speech.proofs.Records.{record_pushed}
-use Rattle.agent_speech.proofs.Once.{says_nothing, says_none, HasTaken, says_taken, says_one, IsTurned, by_itself, by_request, owed_set, owed_cons, owed_new, ids_set, ids_cons, ids_new}
+use Rattle.agent_speech.proofs.Once.{RecordsSay, says_nothing, says_none, HasTaken, says_taken, says_one, IsTurned, by_itself, by_request, owed_set, owed_cons, owed_new, ids_set, ids_cons, ids_new}
 use Rattle.agent_speech.proofs.Queried.{rows_answer}
 
 pub told_next : (told : Bool) (number n c : ℕ) → drawn_if told (id_of number n) c + before number n c ≤ before number (n + drawn told) c
@@ -46,7 +46,7 @@ told_next true number n c = before_next number n c
 told_next false number n c = let e : n + drawn false ≡ n = omega arith in omega (arith, ap (λ z. before number z c) e)
 
 abbrev pub Says : Setting → State → Stepped → Type 0
-Says setting s x = SaysWhatItOwes setting.name setting.number s x.state x.out
+Says setting s x = RecordsSay setting.name setting.number s x.state x.out
 
 abbrev pub Turns : Setting → Option ℕ → List ℕ → State → Stepped → Type 0
 Turns setting begun owner s x = IsTurned setting.name setting.number begun owner s x.state x.out

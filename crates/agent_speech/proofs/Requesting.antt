@@ -28,10 +28,10 @@ use Rattle.requester_agent.specs.Views.{Asked, refused, sent_as, asks_if_free, a
 use Rattle.requester_agent.specs.Steps.{find_view, next_id, answers, refuses, asks_at, asks_new, asks_found, reserves, sends_query, asked_of, asked, view_hears, hears_if, acked, ticks, step}
 use Rattle.requester_agent.proofs.Mild.{found-there}
 use Rattle.requester_agent.proofs.Queries.{query_is}
-use Rattle.agent_speech.specs.Owing.{answers_to, is_drawn, is_foreign, before, SaysWhatItOwes}
+use Rattle.agent_speech.specs.Owing.{answers_to, is_drawn, is_foreign, before}
 use Rattle.agent_speech.specs.Unanswered.{reserves_at, view_holds, held, misfits, view_misfits, unfit}
 use Rattle.agent_speech.proofs.Measures.{before_next, request_answers, request_drawn, request_own}
-use Rattle.agent_speech.proofs.Once.{says_nothing, says_none}
+use Rattle.agent_speech.proofs.Once.{RecordsSay, says_nothing, says_none}
 use Rattle.agent_speech.proofs.Viewing.{asks_misfit, asks_hold, asks_few, new_misfits, new_holds, hear_misfit, hear_hold, hear_few}
 use Rattle.agent_speech.proofs.Noting.{saw_took, saw_leaves}
 use Rattle.agent_speech.proofs.Counting.{tally_none, tally_cons, tally_set, tally_map_less, tally_map_but}
@@ -102,17 +102,18 @@ module _ (name : List ℕ) (number next : ℕ) where
 
 ---- An ask
 
--- what an entry says, and what the views hold then, but for what is heard
+-- what an entry says, and what the views hold then, but for what is heard; no query waits at a requester
 pub record IsStep (set : Setting) (s : AgentState) (x : AgentStepped) : Type 0 where
-  pub says : SaysWhatItOwes set.name set.number s.base x.state.base x.out
+  pub says : RecordsSay set.name set.number s.base x.state.base x.out
+  pub queries : x.state.queries ≡ s.queries
   pub holds : IsHolding s x.state x.out
 
 module _ (set : Setting) (s : AgentState) where
   stays_step : IsStep set s (stays s)
-  stays_step = record { says = says_none set.name set.number s.base; holds = holds_same s }
+  stays_step = record { says = says_none set.name set.number s.base; queries = refl; holds = holds_same s }
 
   refuses_step : IsStep set s (refuses s)
-  refuses_step = record { says = says_none set.name set.number s.base; holds = holds_same s }
+  refuses_step = record { says = says_none set.name set.number s.base; queries = refl; holds = holds_same s }
 
   at_step : (found : ℕ × View) (x : Asked) → slice_get s.views found.0 ≡ Some found.1 → IsAskOf set.name set.number s.base.next found.1.child x → IsStep set s (asks_at found x s)
   unfolding asks_at answers held unfit
@@ -120,6 +121,7 @@ module _ (set : Setting) (s : AgentState) where
       let v : View = record found.1 { child = x.child } in
       record {
         says = record { answers = λ h n. omega (arith, a.answers h n); drawn = λ c. omega (arith, a.drawn c); own = a.own };
+        queries = refl;
         holds = record {
           fit = omega (arith, tally_set view_misfits s.views found.0 found.1 v e, a.fit);
           holds_on = λ p c n. omega (arith, tally_set (view_holds p c) s.views found.0 found.1 v e, a.holds_on p c);
@@ -133,6 +135,7 @@ module _ (set : Setting) (s : AgentState) where
       let v : View = record { label = label; child = x.child } in
       record {
         says = record { answers = λ h n. omega (arith, a.answers h n); drawn = λ c. omega (arith, a.drawn c); own = a.own };
+        queries = refl;
         holds = record {
           fit = omega (arith, tally_append view_misfits s.views (v ∷ []), tally_cons view_misfits v [], tally_none view_misfits, a.fit, new_misfits child source dest);
           holds_on = λ p c n.
@@ -170,6 +173,7 @@ module _ (set : Setting) (s : AgentState) where
               drawn = λ c. omega (arith, request_drawn c m [] q.asks, tally_none (is_drawn c), before_next set.number s.base.next c);
               own = omega (arith, request_own set.name m [] q.asks refl, tally_none (is_foreign set.name));
             };
+        queries = refl;
         holds = holds_still s _ (m ∷ []) refl refl (λ p c. other_reserves p c m [] q.rests ∙ nothing_asked p c);
       }
 
@@ -202,6 +206,7 @@ module _ (set : Setting) (s : AgentState) where
   hears_step false m old =
       record {
         says = says_nothing set.name set.number s.base _ refl refl (λ h. saw_took h m (retry_of s.base));
+        queries = refl;
         holds = record {
           fit = omega (arith, tally_map_less view_misfits (view_hears m) (λ v. hear_misfit m v.child) s.views);
           holds_on = λ p c n.
@@ -217,8 +222,8 @@ module _ (set : Setting) (s : AgentState) where
   requester_step (Input.Ask number ask) second = asked_step ask.label ask.what
   requester_step (Input.Got m) second = hears_step (is_old m (retry_of s.base)) m refl
   requester_step Input.Tick second =
-      record { says = says_nothing set.name set.number s.base _ refl refl (λ h. omega arith); holds = holds_still s _ [] refl refl nothing_asked }
+      record { says = says_nothing set.name set.number s.base _ refl refl (λ h. omega arith); queries = refl; holds = holds_still s _ [] refl refl nothing_asked }
   requester_step (Input.Acked i) second =
-      record { says = says_nothing set.name set.number s.base _ refl refl (λ h. omega arith); holds = holds_still s _ [] refl refl nothing_asked }
+      record { says = says_nothing set.name set.number s.base _ refl refl (λ h. omega arith); queries = refl; holds = holds_still s _ [] refl refl nothing_asked }
   requester_step (Input.Work n machine) second = stays_step
   requester_step (Input.Force n) second = stays_step

@@ -1,5 +1,5 @@
 -- What a requester asks and a provider answers, counted: who holds what, what is owed, and what was said.
-use Rattle.std.proofs.Common.{◌≡◌, List, [], ◌∷◌, Some, None, refl}
+use Rattle.std.proofs.Common.{◌≡◌, false, List, [], ◌∷◌, Some, None, refl}
 use Rattle.std.specs.Prelude.{codes}
 use Rattle.nsi_primitive.specs.Ids.{id_of}
 use Rattle.nsi_primitive.specs.Kinds.{kind_number}
@@ -34,6 +34,10 @@ use Rattle.connection_record.specs.Refusal.{has_row, is_in_place, unnamed_refusa
 use Rattle.connection_record.specs.Speaking.{tally, number_of, is_asking, is_noting, is_answering, owed_reserve, owed_provision, owed_life, owed}
 use Rattle.stp_topology.specs.declared.network.AgentKind.{AgentKind}
 use Rattle.stp_topology.specs.declared.network.Network.{Network}
+use Rattle.agent_state.specs.declared.parent.OpenQuery.{OpenQuery}
+use Rattle.agent_state.specs.declared.parent.Part.{Part}
+use Rattle.agent_state.specs.State.{no_record}
+use Rattle.aggregator_agent.specs.Below.{part_of, Heard, tells_first, hear_below}
 use Rattle.provider_agent.specs.Others.{lacking}
 use Rattle.provider_agent.specs.Setting.{capacities_among}
 use Rattle.provider_agent.specs.Steps.{works, receives, step as provider_step, after as provider_after}
@@ -42,7 +46,7 @@ use Rattle.requester_agent.specs.Views.{asks_if_free}
 use Rattle.nsi_agent.specs.Homes.{Routes, home_in}
 use Rattle.nsi_agent.specs.Steps.{after_as}
 use Rattle.nsi_agent.specs.Told.{Told, goes_on, told}
-use Rattle.agent_speech.specs.Owing.{answers_to, owed_under, owed_by, has_id, took, before}
+use Rattle.agent_speech.specs.Owing.{answers_to, owed_under, owed_by, owed_below, has_id, took, before}
 use Rattle.agent_speech.specs.Unanswered.{held, unfit, was_answered}
 
 abbrev t1 : Network
@@ -98,6 +102,20 @@ confirmed =
       description = None;
     }))
 
+-- a query that waits for one child, and the answer of that child
+abbrev open_query : OpenQuery
+open_query = record { header = reserve.header; place = 0; parts = Part.Asked (id_of 2 1) ∷ [] }
+
+abbrev child_told : Message
+child_told =
+    record {
+      header = record { correlation = id_of 2 1; requester = codes "p1"; provider = codes "p2" };
+      body = Body.QueryRecursiveConfirmed (id_of 0 1) false [];
+    }
+
+abbrev heard_below : Heard
+heard_below = hear_below (codes "p1") (no_record ∷ []) child_told (open_query ∷ [])
+
 abbrev took_in : Input → Entry
 took_in input = record { second = 0; input = input }
 
@@ -141,11 +159,16 @@ pub record IsRow (routes : Routes) : Type 0 where
   pub and_owed_no_more : owed_by (codes "p1") header (kind_number Kind.ReserveConfirmed) (provider routes worked_once).state.base.records ≡ 0
   pub nor_is_a_failure : owed_by (codes "p1") header (kind_number Kind.ReserveFailed) (provider routes worked_once).state.base.records ≡ 0
   pub a_hold_may_still_end : owed_by (codes "p1") header (kind_number Kind.ReserveTimeout) (provider routes worked_once).state.base.records ≡ 1
+  pub a_query_owes_its_rows : owed_below header (kind_number Kind.QueryRecursiveConfirmed) (open_query ∷ []) ≡ 1
+  pub nothing_of_another_kind : owed_below header (kind_number Kind.Error) (open_query ∷ []) ≡ 0
+  pub and_nothing_to_another : owed_below (record header { requester = codes "r2" }) (kind_number Kind.QueryRecursiveConfirmed) (open_query ∷ []) ≡ 0
+  pub the_child_has_it_said : tally (answers_to header (kind_number Kind.QueryRecursiveConfirmed)) heard_below.out ≡ 1
+  pub and_no_longer_owed : owed_below header (kind_number Kind.QueryRecursiveConfirmed) heard_below.queries ≡ 0
   pub one_record_has_the_id : tally (has_id (id_of 0 1)) (provider routes worked_once).state.base.records ≡ 1
   pub which_was_drawn : before 0 (provider routes worked_once).state.base.next (id_of 0 1) ≡ 1
 
 pub row : (routes : Routes) → IsRow routes
-unfolding kind_number connection_of named_connection reservation_row provision_row lifecycle_row status announces is_heard with_heard is_old saw is_taken with_taken lack_at first_from first_lack_by places asks_child reserve_for hears is_reservation holds fits_phase isnt_reserving fits is_kind open_request moves requested provided record_waits record_work tells_plane record_tells demand provision_event provisions lifecycle_event lives event_of is_live is_working record_worked record_reserves has_row is_in_place unnamed_refusal modification_refusal refusal tally number_of is_asking is_noting is_answering owed_reserve owed_provision owed_life owed lacking capacities_among works receives provider_step provider_after find_view answers asks_new reserves asked_of requester_asked hears_if requester_step requester_after asks_if_free home_in after_as goes_on owed_under owed_by took before held unfit was_answered
+unfolding kind_number connection_of named_connection reservation_row provision_row lifecycle_row status announces is_heard with_heard is_old saw is_taken with_taken lack_at first_from first_lack_by places asks_child reserve_for hears is_reservation holds fits_phase isnt_reserving fits is_kind open_request moves requested provided record_waits record_work tells_plane record_tells demand provision_event provisions lifecycle_event lives event_of is_live is_working record_worked record_reserves has_row is_in_place unnamed_refusal modification_refusal refusal tally number_of is_asking is_noting is_answering owed_reserve owed_provision owed_life owed lacking capacities_among works receives provider_step provider_after find_view answers asks_new reserves asked_of requester_asked hears_if requester_step requester_after asks_if_free home_in after_as goes_on owed_under owed_by took before held unfit was_answered part_of tells_first
 row routes =
     record {
       one_view_holds_it = refl;
@@ -161,6 +184,11 @@ row routes =
       and_owed_no_more = refl;
       nor_is_a_failure = refl;
       a_hold_may_still_end = refl;
+      a_query_owes_its_rows = refl;
+      nothing_of_another_kind = refl;
+      and_nothing_to_another = refl;
+      the_child_has_it_said = refl;
+      and_no_longer_owed = refl;
       one_record_has_the_id = refl;
       which_was_drawn = refl;
     }

@@ -1,5 +1,5 @@
 -- What is known of what an agent has said, whatever entries it has taken.
-use Rattle.std.proofs.Common.{ℕ, ◌≤◌, ◌≡◌, Bool, true, false, not, List, ◌==◌, ◌&&◌, refl, sym, subst, arith, bytes_eq, nat_lt}
+use Rattle.std.proofs.Common.{ℕ, ◌≤◌, ◌≡◌, Bool, true, false, not, List, ◌==◌, ◌&&◌, refl, sym, ap, subst, arith, bytes_eq, nat_lt}
 use Rattle.std.specs.List.{Contains}
 use Rattle.std.proofs.lemmas.Slice.Eq.{bytes_eq-Decides}
 use Rattle.nsi_primitive.specs.Ids.{id_of}
@@ -15,7 +15,7 @@ use Rattle.connection_record.specs.Speaking.{one, tally, number_of, is_asking, i
 use Rattle.child_connection.specs.Holding.{is_reservation}
 use Rattle.agent_state.specs.State.{AgentState}
 use Rattle.nsi_agent.specs.Homes.{Role, provides, aggregates, requests, Home}
-use Rattle.nsi_agent.specs.Steps.{takes_kind, is_seen, is_new}
+use Rattle.nsi_agent.specs.Steps.{is_seen, is_new}
 use Rattle.nsi_agent.specs.Told.{told, Gets, WasGot, name_in, drawer_of}
 use Rattle.nsi_agent.proofs.SeenGot.{seen_was_got}
 use Rattle.agent_speech.specs.Owing.{answers_to, is_drawn, is_foreign, before, took, HasSaidOnce}
@@ -27,7 +27,7 @@ use Rattle.agent_speech.proofs.Holding.{reserving_asks}
 use Rattle.agent_speech.proofs.Every.{nothing_is_said_twice, what_is_asked_is_held}
 
 module _ (h : Home) (es : List Entry) where
-  once : HasSaidOnce (name_in h.role) (drawer_of h.role) (told h es).state.base (told h es).out
+  once : HasSaidOnce (name_in h.role) (drawer_of h.role) (told h es).state (told h es).out
   once = nothing_is_said_twice h es
 
   ---- In whose name
@@ -99,11 +99,6 @@ module _ (h : Home) (es : List Entry) where
 abbrev some_request : Header → Message
 some_request g = record { header = g; body = Body.ReserveCommit 0 }
 
-takes_some : (role : Role) (g : Header) → takes_kind role (some_request g).body ≡ true
-takes_some (provides setting stp_of) g = refl
-takes_some (aggregates setting) g = refl
-takes_some (requests setting) g = refl
-
 sees_some : (role : Role) (s : AgentState) (g : Header) → is_taken g s.base.seen ≡ true → is_seen role s (some_request g) ≡ true
 unfolding is_old
 sees_some (provides setting stp_of) s g e = e
@@ -112,10 +107,7 @@ sees_some (requests setting) s g e = e
 
 not_new : (h : Home) (s : AgentState) (g : Header) → is_taken g s.base.seen ≡ true → is_new h s (some_request g) ≡ false
 unfolding is_new
-not_new h s g e = both (takes_kind h.role (some_request g).body) (is_seen h.role s (some_request g)) (sees_some h.role s g e)
-  where
-    both : (a b : Bool) → b ≡ true → (a && not b) ≡ false
-    both a b q = grind (arith, q)
+not_new h s g e = ap not (sees_some h.role s g e)
 
 came_by : (es : List Entry) (g : Header) (e : Entry) → Contains es e → (i : Input) → e.input ≡ i → Gets (some_request g) i → RequestCame g es
 came_by es g e c (Input.Got n) is got =
@@ -129,7 +121,7 @@ came_by es g e c (Input.Ask n a) is got = absurd got
 -- a request that counts as taken came
 pub taken_came : (h : Home) (es : List Entry) (g : Header) → is_taken g (told h es).state.base.seen ≡ true → RequestCame g es
 taken_came h es g e =
-    let got : WasGot (some_request g) es = seen_was_got h es (some_request g) (takes_some h.role g) (not_new h (told h es).state g e) in
+    let got : WasGot (some_request g) es = seen_was_got h es (some_request g) (not_new h (told h es).state g e) in
     came_by es g got.0 got.1 got.0.input refl got.2
 
 -- an answer stands under the header of a request that came

@@ -20,11 +20,11 @@ use Rattle.agent_speech.specs.Unanswered.{held, HoldsWhatItAsks, HasHeld, AreEve
 
 -- what an entry makes an agent say was owed, or is of a request that it takes
 abbrev pub EntriesSayWhatIsOwed : Type 0
-EntriesSayWhatIsOwed = (h : Home) (s : AgentState) (e : Entry) → SaysWhatItOwes (name_in h.role) (drawer_of h.role) s.base (after h s e).state.base (after h s e).out
+EntriesSayWhatIsOwed = (h : Home) (s : AgentState) (e : Entry) → SaysWhatItOwes (name_in h.role) (drawer_of h.role) s (after h s e).state (after h s e).out
 
 -- so nothing is said twice, whatever entries an agent has taken
 abbrev pub NothingIsSaidTwice : Type 0
-NothingIsSaidTwice = (h : Home) (es : List Entry) → HasSaidOnce (name_in h.role) (drawer_of h.role) (told h es).state.base (told h es).out
+NothingIsSaidTwice = (h : Home) (es : List Entry) → HasSaidOnce (name_in h.role) (drawer_of h.role) (told h es).state (told h es).out
 
 -- at an aggregator records and the views of their children stand side by side
 abbrev pub IsEven : Role → AgentState → Type 0

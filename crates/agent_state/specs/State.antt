@@ -9,6 +9,7 @@ use Rattle.connection_record.specs.declared.record.Record.{Record}
 use Rattle.connection_record.specs.Moves.{fresh}
 use Rattle.child_connection.specs.Views.{ChildConnection}
 use Rattle.agent_state.specs.declared.parent.Due.{Due}
+use Rattle.agent_state.specs.declared.parent.OpenQuery.{OpenQuery}
 use Rattle.agent_state.specs.declared.parent.View.{View}
 
 -- its records in order, the requests that it has taken, the identities of all else that it has taken, the messages that wait for
@@ -56,15 +57,17 @@ name_or name = unwrap_or name []
 
 ---- Agents that are parents too
 
--- Beside that: at an aggregator the views of each record's children, and its requests to them; at a requester its views.
+-- Beside that: at an aggregator the views of each record's children, its requests to them, and the queries that wait for their answers;
+-- at a requester its views.
 pub record AgentState : Type 0 where
   pub base : State
   pub children : List (List ChildConnection)
   pub dues : List Due
+  pub queries : List OpenQuery
   pub views : List View
 
 abbrev pub blank_agent : AgentState
-blank_agent = record { base = blank; children = []; dues = []; views = [] }
+blank_agent = record { base = blank; children = []; dues = []; queries = []; views = [] }
 
 -- the state after an entry, the messages that it causes, and the answer to an ask
 pub record AgentStepped : Type 0 where

@@ -6,5 +6,5 @@ mod parent;
 mod saying;
 
 pub use opening::service_of;
-pub use parent::{Due, Leg, View};
+pub use parent::{Due, Leg, OpenQuery, Part, View};
 pub use saying::{push_replies, refusal_of, reply_of};

@@ -1,8 +1,9 @@
 //! What the parents of connections keep of their children.
 
 use child_connection::ChildConnection;
-use nsi_base::{Name, RecordNo, Second};
-use nsi_primitive::Id;
+use nsi_base::{List, Name, RecordNo, Second};
+use nsi_primitive::{Header, Id, RecursiveRow};
+use nsi_query::Rows;
 
 /// A label's connection, as its requester sees it.
 #[derive(Drop)]
@@ -26,4 +27,26 @@ pub struct Due {
     pub correlation: Id,
     pub second: Second,
     pub is_told: bool,
+}
+
+/// What is known of the rows of one child, while its parent has a queryRecursive to answer.
+#[derive(Debug, Drop)]
+pub enum Part {
+    /// None will come: the child's id wasn't known, or it answered an error.
+    Missing,
+    /// The child was asked under this correlationId, and hasn't answered.
+    Asked(Id),
+    /// What the child answered.
+    Told(Rows<RecursiveRow>),
+}
+
+/// A queryRecursive that waits for the answers of children.
+#[derive(Debug, Drop)]
+pub struct OpenQuery {
+    /// Under which it is answered.
+    pub header: Header,
+    /// The place of its connection among all.
+    pub place: usize,
+    /// One for each child, in the order of the segments.
+    pub parts: List<Part>,
 }

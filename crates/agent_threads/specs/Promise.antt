@@ -1,11 +1,10 @@
 -- What a run promises.
-use Rattle.std.specs.Prelude.{ℕ, ◌≤◌, ◌+◌, ◌≡◌, ◌⊎◌, false, List, [], ◌∷◌, length, take, Option}
+use Rattle.std.specs.Prelude.{ℕ, ◌≤◌, ◌+◌, ◌≡◌, ◌⊎◌, List, [], ◌∷◌, length, take, Option}
 use Rattle.nsi_primitive.specs.Printable.{IsPrintableAsk}
 use Rattle.nsi_primitive.specs.declared.entry.Event.{Event}
 use Rattle.nsi_outside.specs.Stream.{WritesAll, WritesFront}
 use Rattle.stp_topology.specs.declared.network.Network.{Network}
 use Rattle.requester_agent.specs.Setting.{IsRequester}
-use Rattle.requester_agent.specs.Steps.{is_recursive_ask}
 use Rattle.nsi_script.specs.declared.script.Act.{Act}
 use Rattle.nsi_script.specs.declared.script.Group.{Group}
 use Rattle.agent_node.specs.Kept.{Kept}
@@ -20,9 +19,9 @@ use Rattle.run_totals.specs.declared.totals.Totals.{Totals}
 
 ---- What is asked of a script
 
--- a requester asks, and not for all that is below a connection
+-- a requester asks
 abbrev pub CanBeDone : Network → Act → Type 0
-CanBeDone t (Act.Ask a ask) = IsRequester t a × ((is_recursive_ask ask.what ≡ false) × IsPrintableAsk ask)
+CanBeDone t (Act.Ask a ask) = IsRequester t a × IsPrintableAsk ask
 CanBeDone t (Act.Force a n) = Unit {0}
 CanBeDone t (Act.Restart a) = Unit {0}
 

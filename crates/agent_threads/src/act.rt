@@ -1,9 +1,8 @@
 //! Acts of a script.
 
-ghost use Rattle.std.specs.Prelude.{◌≡◌, None, OnOk, false};
+ghost use Rattle.std.specs.Prelude.{◌≡◌, None, OnOk};
 ghost use Rattle.nsi_primitive.specs.Printable.{IsPrintableAsk};
 ghost use Rattle.requester_agent.specs.Setting.{IsRequester};
-ghost use Rattle.requester_agent.specs.Steps.{is_recursive_ask};
 ghost use Rattle.agent_node.specs.Kept.{IsSameAgent};
 ghost use Rattle.agent_threads.specs.Nets.{EachIs, AreUsable};
 ghost use Rattle.agent_threads.specs.Made.{Does, HasRoom, HaveRoom, asks_at, forces_at, part_in};
@@ -27,7 +26,6 @@ fn ask_one<'t, J: Journal + Drop>(
     requires usable { node.old.fault ≡ None }
     requires few { HasRoom 1 node.old }
     requires requester { IsRequester node.old.network agent }
-    requires plain { is_recursive_ask ask.now.what ≡ false }
     requires printable { IsPrintableAsk ask.now }
     ensures done { OnOk result (Does (asks_at agent number ask.now) node.old node.new) }
     ensures agent { IsSameAgent node.old node.new }

@@ -1,5 +1,7 @@
 -- What the definition makes of a request, exit by exit.
 use Rattle.std.proofs.Common.{◌≡◌, ◌∷◌, [], ℕ, Bool, true, false, Option, Some, None, List, ◌∙◌, refl, sym, ap}
+use Rattle.std.specs.List.{list_any}
+use Rattle.std.specs.Str.{bytes_eq}
 use Rattle.nsi_primitive.specs.Messages.{is_request, is_query, connection_of}
 use Rattle.nsi_primitive.specs.declared.kind.ErrorName.{ErrorName}
 use Rattle.nsi_primitive.specs.declared.message.Body.{Body}
@@ -10,11 +12,11 @@ use Rattle.nsi_primitive.specs.declared.entry.Input.{Input}
 use Rattle.nsi_primitive.specs.declared.message.Identity.{Identity}
 use Rattle.nsi_primitive.specs.declared.state.Machine.{Machine}
 use Rattle.connection_record.specs.Refusal.{refusal, unnamed_refusal, schedule_refusal, points_of, place_of}
-use Rattle.agent_state.specs.Entries.{error_reply, query_reply}
-use Rattle.agent_state.specs.State.{AgentState, stays, sends}
+use Rattle.agent_state.specs.Entries.{error_reply, is_recursive}
+use Rattle.agent_state.specs.State.{AgentState, children_at, stays, sends}
+use Rattle.aggregator_agent.specs.Below.{Sought, is_asked, seek}
 use Rattle.aggregator_agent.specs.Setting.{Setting}
-use Rattle.aggregator_agent.specs.Steps.{accepts, serves, answers, opens, opens_between, request_at, hears, receives, is_seen, sees, ticks, acknowledged, step}
-use Rattle.aggregator_agent.specs.Queries.{answer_to}
+use Rattle.aggregator_agent.specs.Steps.{accepts, queries, serves, answers, opens, opens_between, asks_below, opens_query, opens_sought, place_named, request_at, hears, receives, is_seen, sees, ticks, acknowledged, step}
 use Rattle.aggregator_agent.specs.Step.{takes_new}
 
 pub answered_error : (setting : Setting) (s : AgentState) (m : Message) (error : ErrorName) → refusal setting.agent.name setting.stp_of s.base.records m ≡ Some error
@@ -54,7 +56,34 @@ opens_known setting s m q points e n h f = sym
     (ap (λ o. answers o setting s m) (known_none setting m q points e h f) ∙ ap (λ o. accepts o setting s m) n ∙ ap (λ b. opens b setting s m) e
     ∙ ap (λ o. opens_between o setting s m q) f)
 
-pub serves_query : (setting : Setting) (s : AgentState) (m : Message) → is_query m.body ≡ true → sends s (query_reply setting.agent.name m (answer_to setting.agent.name s m) ∷ []) ≡ serves (is_query m.body) setting s m
+pub below_wrong : (setting : Setting) (s : AgentState) (m : Message) → bytes_eq m.header.provider setting.agent.name ≡ false → sends s (error_reply setting.agent.name m ErrorName.WrongProvider ∷ []) ≡ queries true setting s m
+below_wrong setting s m h = rw h refl
+
+pub below_nowhere : (setting : Setting) (s : AgentState) (m : Message) → bytes_eq m.header.provider setting.agent.name ≡ true → place_named m s.base.records ≡ None → sends s (error_reply setting.agent.name m ErrorName.Nonexistent ∷ []) ≡ queries true setting s m
+below_nowhere setting s m h e = rw (h, e) refl
+
+pub below_at : (setting : Setting) (s : AgentState) (m : Message) (n : ℕ) → bytes_eq m.header.provider setting.agent.name ≡ true → place_named m s.base.records ≡ Some n → asks_below setting s n m ≡ queries true setting s m
+below_at setting s m n h e = rw (h, e) refl
+
+-- a query waits where a child was asked, and is answered where none was
+pub opens_waiting : (setting : Setting) (s : AgentState) (n : ℕ) (m : Message) (x : Sought) → x ≡ seek setting.agent s.base.next (children_at n s.children) → list_any is_asked x.parts ≡ true
+    → opens_query true setting s n m x ≡ asks_below setting s n m
+unfolding asks_below
+opens_waiting setting s n m x e h = ap (λ b. opens_query b setting s n m x) (sym h) ∙ ap (opens_sought setting s n m) e
+
+pub opens_answered : (setting : Setting) (s : AgentState) (n : ℕ) (m : Message) (x : Sought) → x ≡ seek setting.agent s.base.next (children_at n s.children) → list_any is_asked x.parts ≡ false
+    → opens_query false setting s n m x ≡ asks_below setting s n m
+unfolding asks_below
+opens_answered setting s n m x e h = ap (λ b. opens_query b setting s n m x) (sym h) ∙ ap (opens_sought setting s n m) e
+
+pub not_recursive : (b : Body) → ((id : ℕ) → b ≡ Body.QueryRecursive id → ⊥) → is_recursive b ≡ false
+not_recursive (Body.QueryRecursive id) h = absurd (h id refl)
+not_recursive _ h = refl
+
+pub queries_at_once : (b : Body) (setting : Setting) (s : AgentState) (m : Message) → is_recursive b ≡ false → queries false setting s m ≡ queries (is_recursive b) setting s m
+queries_at_once b setting s m h = rw h refl
+
+pub serves_query : (setting : Setting) (s : AgentState) (m : Message) → is_query m.body ≡ true → queries (is_recursive m.body) setting s m ≡ serves (is_query m.body) setting s m
 serves_query setting s m h = rw h refl
 
 pub serves_other : (setting : Setting) (s : AgentState) (m : Message) → is_query m.body ≡ false → answers (refusal setting.agent.name setting.stp_of s.base.records m) setting s m ≡ serves (is_query m.body) setting s m

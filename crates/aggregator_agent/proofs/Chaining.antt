@@ -33,6 +33,10 @@ same_step t old new r makes others e p = record {
   err = p.err;
 }
 
+pub same_all : (old new : Core) (r : Answer) (makes others : Setting → AgentState → AgentStepped)
+    → ((t : Network) (route : ℕ → ℕ → List Leg) → makes (setting_of t old.agent route) (state_at old) ≡ others (setting_of t old.agent route) (state_at old)) → IsStep old new r makes → IsStep old new r others
+same_all old new r makes others e p = record { all = λ t route. if_ok r (λ v q. subst (IsMade (state_at new) v.items) (e t route) q) (p.all t route); agent = p.agent; err = p.err }
+
 -- a step from a state that was begun with: where memory is wanting, that state is there again
 pub step_from : (t : Network) (old mid new : Core) (r : Answer) (makes others : Setting → AgentState → AgentStepped) → mid.agent ≡ old.agent → OnErr r (state_at new ≡ state_at old)
     → ((route : ℕ → ℕ → List Leg) → makes (setting_of t old.agent route) (state_at mid) ≡ others (setting_of t old.agent route) (state_at old)) → IsStepBy t mid new r makes → IsStepBy t old new r others

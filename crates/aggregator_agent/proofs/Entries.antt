@@ -1,6 +1,7 @@
 -- What no entry does to an aggregator: its texts stay, what it says can be written, and each request has an id of its own.
-use Rattle.std.proofs.Common.{◌≡◌, ◌≤◌, ◌+◌, inl, ℕ, zero, suc, Bool, true, false, List, [], ◌∷◌, ◌++◌, length, Option, Some, None, IfSome, refl, arith}
-use Rattle.std.specs.List.{All}
+use Rattle.std.proofs.Common.{◌≡◌, ◌≤◌, ◌+◌, inl, ℕ, Bool, true, false, List, [], ◌∷◌, length, Option, Some, None, IfSome, refl, arith}
+use Rattle.std.specs.List.{All, list_any}
+use Rattle.std.specs.Str.{bytes_eq}
 use Rattle.std.proofs.lemmas.List.Elements.{All-nil, All-cons, All-append, All-head, All-tail, All-set}
 use Rattle.nsi_primitive.specs.Ids.{id_of}
 use Rattle.nsi_primitive.specs.Messages.{is_request, is_query, connection_of}
@@ -19,20 +20,22 @@ use Rattle.connection_record.specs.Refusal.{refusal, place_of, points_of, modifi
 use Rattle.connection_record.specs.Replies.{addressed}
 use Rattle.child_connection.specs.Views.{ChildConnection}
 use Rattle.agent_state.specs.declared.parent.Due.{Due}
-use Rattle.agent_state.specs.Entries.{error_reply, query_reply}
-use Rattle.agent_state.specs.State.{AgentState, AgentStepped, stays, sends, record_at, name_or, counts_agent}
+use Rattle.agent_state.specs.Entries.{error_reply, query_reply, is_recursive}
+use Rattle.agent_state.specs.State.{AgentState, AgentStepped, stays, sends, record_at, children_at, name_or, counts_agent}
 use Rattle.aggregator_agent.specs.declared.agent.Agent.{Agent}
 use Rattle.aggregator_agent.specs.Turns.{request_turn, answer_turn, spoken}
 use Rattle.aggregator_agent.specs.Clock.{Told, tell_one, tells_late, tell_all, is_late_of, ends, clocked, clock_then, clock_all}
 use Rattle.aggregator_agent.specs.Setting.{Setting}
-use Rattle.aggregator_agent.specs.Steps.{sees, is_seen, request_at, children_for, with_new, opens_between, opens, request_to, accepts, answers, serves, pass_then, hear_all, hears, receives, ticks, step, may_take, after_if, after}
+use Rattle.aggregator_agent.specs.Steps.{sees, is_seen, request_at, children_for, with_new, opens_between, opens, request_to, accepts, answers, opens_query, asks_below, asks_if_own, place_named, queries, serves, pass_then, hear_all, hears, receives, ticks, step, may_take, after_if, after}
 use Rattle.aggregator_agent.specs.Good.{IsWritable, IsGood}
 use Rattle.aggregator_agent.specs.Queries.{answer_to}
+use Rattle.aggregator_agent.specs.Below.{is_asked, seek, hear_below}
 use Rattle.agent_state.proofs.Querying.{replied_by}
 use Rattle.aggregator_agent.proofs.Queried.{reply_asks_nothing, tells_printable, writable_at}
 use Rattle.aggregator_agent.specs.Laws.{AreDrawn}
 use Rattle.aggregator_agent.proofs.MildReplies.{AreMild, both_mild, IsMildMoved, stays_mild, writable_later, lives_mild}
-use Rattle.aggregator_agent.proofs.Mild.{AreLaws, IsMildAsking, none_mild, drawn_none, drawn_up, drawn_then, drawn_addressed, addressed_printable}
+use Rattle.aggregator_agent.proofs.Mild.{AreLaws, IsMildAsking, none_mild, drawn_none, drawn_up, drawn_addressed, addressed_printable, both_asking}
+use Rattle.aggregator_agent.proofs.Below.{all_sought, all_answers, answers_mild}
 use Rattle.aggregator_agent.proofs.MildTurns.{request_mild, answer_mild, spoken_mild}
 
 -- an entry, or a part of one
@@ -50,9 +53,6 @@ stays_step agent s g = record { good = g; said = none_mild agent s.base.next; an
 record AreMildly (agent next : ℕ) (rs : List Record) (out : List Message) (last : ℕ) : Type 0 where
   good : All IsWritable rs
   said : IsMildAsking agent next out last
-
-both_asking : (agent next : ℕ) (ms : List Message) (mid : ℕ) (ns : List Message) (last : ℕ) → IsMildAsking agent next ms mid → IsMildAsking agent mid ns last → IsMildAsking agent next (ms ++ ns) last
-both_asking agent next ms mid ns last a b = record { prints = All-append IsPrintable ms ns a.prints b.prints; drawn = drawn_then agent next ms mid ns last a.drawn b.drawn }
 
 heard_mildly : AreLaws → (agent : Agent) (now number : ℕ) (m : Message) (next : ℕ) (rs : List Record) (xss : List (List ChildConnection)) → All IsWritable rs →
     AreMildly agent.number next (hear_all agent now number m next rs xss).records (hear_all agent now number m next rs xss).out (hear_all agent now number m next rs xss).next
@@ -183,20 +183,27 @@ refusal_plain : (agent : List ℕ) (stp_of : List ℕ → Option ℕ) (rs : List
 unfolding refusal
 refusal_plain agent stp_of rs m = grind (arith, plain_of_record, plain_of_none)
 
-answered_step : AreLaws → (setting : Setting) (s : AgentState) (m : Message) (o : Option ErrorName) → IsPlain o → IsPrintable m → IsGood s → IsMildStep setting.agent.number s (answers o setting s m)
-unfolding answers AreDrawn
-answered_step laws setting s m (Some error) plain p g = record {
+refused_step : (setting : Setting) (s : AgentState) (m : Message) (error : ErrorName) → has_further_keys error ≡ false → IsGood s → IsMildStep setting.agent.number s (sends s (error_reply setting.agent.name m error ∷ []))
+unfolding AreDrawn
+refused_step setting s m error plain g = record {
   good = g;
   said = record { prints = All-cons IsPrintable (error_reply setting.agent.name m error) [] plain (All-nil IsPrintable); drawn = inl (refl, omega arith) };
   answer = refl;
 }
+
+answered_step : AreLaws → (setting : Setting) (s : AgentState) (m : Message) (o : Option ErrorName) → IsPlain o → IsPrintable m → IsGood s → IsMildStep setting.agent.number s (answers o setting s m)
+unfolding answers
+answered_step laws setting s m (Some error) plain p g = refused_step setting s m error plain g
 answered_step laws setting s m None plain p g = accepts_step laws setting s m (connection_of m.body) p g
 
 heard_step : AreLaws → (setting : Setting) (s : AgentState) (m : Message) → IsGood s → IsMildStep setting.agent.number s (hears setting s m)
 unfolding hears
 heard_step laws setting s m g =
+    let x = hear_all setting.agent s.base.now 0 m s.base.next s.base.records s.children in
     let all = heard_mildly laws setting.agent s.base.now 0 m s.base.next s.base.records s.children g in
-    record { good = all.good; said = all.said; answer = refl }
+    let more = (hear_below setting.agent.name s.base.records m s.queries).out in
+    let answered = answers_mild setting.agent.number x.next more (all_answers setting.agent.name s.base.records m s.queries) in
+    record { good = all.good; said = both_asking setting.agent.number s.base.next x.out x.next more x.next all.said answered; answer = refl }
 
 replied_step : (setting : Setting) (s : AgentState) (m : Message) → IsGood s → IsMildStep setting.agent.number s (sends s (query_reply setting.agent.name m (answer_to setting.agent.name s m) ∷ []))
 unfolding AreDrawn
@@ -214,8 +221,26 @@ replied_step setting s m g =
       answer = refl;
     }
 
+sought_step : (waits : Bool) (setting : Setting) (s : AgentState) (n : ℕ) (m : Message) → IsGood s → IsMildStep setting.agent.number s (opens_query waits setting s n m (seek setting.agent s.base.next (children_at n s.children)))
+unfolding AreDrawn
+sought_step true setting s n m g = record { good = g; said = all_sought setting.agent s.base.next (children_at n s.children); answer = refl }
+sought_step false setting s n m g = record { good = g; said = record { prints = All-cons IsPrintable _ [] tt (All-nil IsPrintable); drawn = inl (refl, omega arith) }; answer = refl }
+
+below_step : (setting : Setting) (s : AgentState) (n : ℕ) (m : Message) → IsGood s → IsMildStep setting.agent.number s (asks_below setting s n m)
+unfolding asks_below
+below_step setting s n m g = sought_step (list_any is_asked (seek setting.agent s.base.next (children_at n s.children)).parts) setting s n m g
+
+own_step : (is_own : Bool) (o : Option ℕ) (setting : Setting) (s : AgentState) (m : Message) → IsGood s → IsMildStep setting.agent.number s (asks_if_own is_own o setting s m)
+own_step true (Some n) setting s m g = below_step setting s n m g
+own_step true None setting s m g = refused_step setting s m ErrorName.Nonexistent refl g
+own_step false o setting s m g = refused_step setting s m ErrorName.WrongProvider refl g
+
+queried_step : (is_recursive : Bool) (setting : Setting) (s : AgentState) (m : Message) → IsGood s → IsMildStep setting.agent.number s (queries is_recursive setting s m)
+queried_step true setting s m g = own_step (bytes_eq m.header.provider setting.agent.name) (place_named m s.base.records) setting s m g
+queried_step false setting s m g = replied_step setting s m g
+
 served_step : AreLaws → (is_query : Bool) (setting : Setting) (s : AgentState) (m : Message) → IsPrintable m → IsGood s → IsMildStep setting.agent.number s (serves is_query setting s m)
-served_step laws true setting s m p g = replied_step setting s m g
+served_step laws true setting s m p g = queried_step (is_recursive m.body) setting s m g
 served_step laws false setting s m p g =
     answered_step laws setting s m (refusal setting.agent.name setting.stp_of s.base.records m) (refusal_plain setting.agent.name setting.stp_of s.base.records m) p g
 

@@ -192,10 +192,10 @@ settled_request agent now m number next b =
     let t = begin b.own b.children next in
     settled_turn (joined_of b.children) agent now (pass_on m agent (replies_by t (takes m now t.own)))
 
-pub heard_settled : (agent : Agent) (now : ℕ) (m : Message) (next : ℕ) (bs cs : List Bond) (o p : Outbox) (r : Result Said AllocError) → AreSettled bs →
-    (let all = each_bond (answered agent now m) 0 next bs in IfOk r (λ said. IsEntered cs o p said all.bonds all.out all.dues all.next)) → OnErr r (cs ≡ bs) → AreSettled cs
-heard_settled agent now m next bs cs o p (Ok x) was done back = subst AreSettled (sym done.bonds) (settled_each (answered agent now m) (λ number nx b h. settled_answer agent now m number nx b) 0 next bs was)
-heard_settled agent now m next bs cs o p (Err e) was done back = subst AreSettled (sym back) was
+pub heard_settled : (agent : Agent) (now : ℕ) (m : Message) (next : ℕ) (bs cs : List Bond) (o p : Outbox) (out : List Message) (r : Result Said AllocError) → AreSettled bs →
+    (let all = each_bond (answered agent now m) 0 next bs in IfOk r (λ said. IsEntered cs o p said all.bonds out all.dues all.next)) → OnErr r (cs ≡ bs) → AreSettled cs
+heard_settled agent now m next bs cs o p out (Ok x) was done back = subst AreSettled (sym done.bonds) (settled_each (answered agent now m) (λ number nx b h. settled_answer agent now m number nx b) 0 next bs was)
+heard_settled agent now m next bs cs o p out (Err e) was done back = subst AreSettled (sym back) was
 
 pub clocked_settled : (agent : Agent) (now : ℕ) (late : List Due) (next : ℕ) (bs cs : List Bond) → AreSettled bs → cs ≡ (each_bond (clocked_bond agent now late) 0 next bs).bonds → AreSettled cs
 clocked_settled agent now late next bs cs was done = subst AreSettled (sym done) (settled_each (clocked_bond agent now late) (λ number nx b h. settled_tick agent now late number nx b h) 0 next bs was)

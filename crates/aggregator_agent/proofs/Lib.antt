@@ -14,6 +14,8 @@ pub mod MildReplies
 pub mod Mild
 pub mod MildTurns
 pub mod Queried
+pub mod Below
+pub mod Awaiting
 pub mod Entries
 pub mod Steady
 pub mod Requested

@@ -81,6 +81,9 @@ pub record IsMildAsking (agent next : ℕ) (ms : List Message) (last : ℕ) : Ty
 pub none_mild : (agent next : ℕ) → IsMildAsking agent next [] next
 none_mild agent next = record { prints = All-nil IsPrintable; drawn = drawn_none agent next next (omega arith) }
 
+pub both_asking : (agent next : ℕ) (ms : List Message) (mid : ℕ) (ns : List Message) (last : ℕ) → IsMildAsking agent next ms mid → IsMildAsking agent mid ns last → IsMildAsking agent next (ms ++ ns) last
+both_asking agent next ms mid ns last a b = record { prints = All-append IsPrintable ms ns a.prints b.prints; drawn = drawn_then agent next ms mid ns last a.drawn b.drawn }
+
 -- a body can be asked of a child
 abbrev pub IsFit : Option Body → ChildConnection → Type 0
 IsFit body x = (name : List ℕ) (c : ℕ) → IfSome body (λ b. IsPrintable (to_child name c x b))

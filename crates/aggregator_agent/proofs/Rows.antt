@@ -1,5 +1,5 @@
 -- What an aggregator says, computed: an entry after another, over two or three providers and another aggregator.
-use Rattle.std.proofs.Common.{◌≡◌, ℕ, Bool, true, List, [], ◌∷◌, ◌++◌, map, Option, Some, None, refl, if◌then◌else◌}
+use Rattle.std.proofs.Common.{◌≡◌, ℕ, Bool, true, false, List, [], ◌∷◌, ◌++◌, map, Option, Some, None, refl, if◌then◌else◌}
 use Rattle.std.specs.Prelude.{bytes_eq, codes}
 use Rattle.nsi_base.specs.declared.flow.Flow.{Flow}
 use Rattle.nsi_primitive.specs.Ids.{id_of}
@@ -11,6 +11,10 @@ use Rattle.nsi_primitive.specs.declared.kind.FaultEvent.{FaultEvent}
 use Rattle.nsi_primitive.specs.declared.message.Body.{Body}
 use Rattle.nsi_primitive.specs.declared.message.Cause.{Cause}
 use Rattle.nsi_primitive.specs.declared.message.Message.{Message}
+use Rattle.nsi_primitive.specs.declared.message.RecursiveRow.{RecursiveRow}
+use Rattle.nsi_primitive.specs.declared.state.Lsm.{Lsm}
+use Rattle.nsi_primitive.specs.declared.state.Psm.{Psm}
+use Rattle.nsi_primitive.specs.declared.state.Rsm.{Rsm}
 use Rattle.nsi_primitive.specs.declared.entry.Input.{Input}
 use Rattle.nsi_primitive.specs.declared.entry.Entry.{Entry}
 use Rattle.reserve_machine.specs.Table.{step as row_of}
@@ -34,7 +38,9 @@ use Rattle.aggregator_agent.specs.Asking.{next_after, asked_view, next_behind, e
 use Rattle.aggregator_agent.specs.Settling.{is_held, checked, reservation_verdict, reservation_due, provision_verdict, provision_due, settles_reservation, settles_provision, closes_unless, settles, settle}
 use Rattle.aggregator_agent.specs.Turns.{tell_joined, pass_on, takes, turn_by_request, request_turn, is_timed_out, is_ended, hold_end_by, force_by, hold_ends, force_ends, heard_by, turn_by_answer, answer_turn, spoken}
 use Rattle.aggregator_agent.specs.Clock.{due_for, is_late, tells_late, tell_one, tell_all, ends, clocked, clock_then, clock_all}
-use Rattle.aggregator_agent.specs.Steps.{request_at, answers, pass_then, hear_all, hears, receives, ticks, step, after}
+use Rattle.nsi_query.specs.Nested.{own_row}
+use Rattle.aggregator_agent.specs.Below.{seek, part_of, tells_first}
+use Rattle.aggregator_agent.specs.Steps.{request_at, answers, pass_then, hear_all, hears, asks_below, receives, ticks, step, after}
 
 ---- The aggregator, its children and its requester
 
@@ -240,7 +246,7 @@ pub record AreReserved : Type 0 where
   a_request_is_taken_once : says two (reserved ++ reserved) ≡ []
 
 are_reserved : AreReserved
-unfolding said after step receives saw is_old is_heard with_heard is_taken with_taken answers refusal unnamed_refusal modification_refusal has_row is_in_place connection_of row_of provision_row_of lifecycle_row_of request_at request_turn turn_by_request takes pass_on passed_on request_if may_abort reserve_if each asked_view next_behind with_path views_of asks request_about reserve_for open_request is_kind hears hear_all pass_then answer_turn turn_by_answer heard_by is_timed_out is_ended hold_ends hold_end_by force_ends force_by child_hears settle settles settles_reservation settles_provision closes_unless is_held checked reservation_verdict reservation_due provision_verdict provision_due moves requested reserves provisions lives closes reservation_closing provision_closing event_of provision_event lifecycle_event is_live is_terminating tell_joined next_after tells_plane announces joined spoken kind_number due_for is_late tells_late tell_one tell_all ends clocked clock_then clock_all ticks without stands
+unfolding said after step receives saw is_old is_heard with_heard is_taken with_taken answers refusal unnamed_refusal modification_refusal has_row is_in_place connection_of row_of provision_row_of lifecycle_row_of request_at request_turn turn_by_request takes pass_on passed_on request_if may_abort reserve_if each asked_view next_behind with_path views_of asks request_about reserve_for open_request is_kind hears hear_all pass_then answer_turn turn_by_answer heard_by is_timed_out is_ended hold_ends hold_end_by force_ends force_by child_hears settle settles settles_reservation settles_provision closes_unless is_held checked reservation_verdict reservation_due provision_verdict provision_due moves requested reserves provisions lives closes reservation_closing provision_closing event_of provision_event lifecycle_event is_live is_terminating tell_joined next_after tells_plane announces joined spoken kind_number due_for is_late tells_late tell_one tell_all ends clocked clock_then clock_all ticks without stands part_of tells_first
 are_reserved = record {
   each_child_is_asked = refl;
   nothing_is_said_before_all_have_answered = refl;
@@ -269,7 +275,7 @@ pub record AreModified : Type 0 where
   a_failed_commit_is_mixed_too : says two (committing ++ got 0 (with_1 4 (commit_failed of_1 (codes "p1") (plain ErrorName.Gone))) ∷ got 0 (with_2 5 (Body.ReserveCommitConfirmed of_2)) ∷ []) ≡ r 2 (commit_failed own (codes "a1") (Cause.Child (codes "p1") ErrorName.Gone)) ∷ []
 
 are_modified : AreModified
-unfolding said after step receives saw is_old is_heard with_heard is_taken with_taken answers refusal unnamed_refusal modification_refusal has_row is_in_place connection_of row_of provision_row_of lifecycle_row_of request_at request_turn turn_by_request takes pass_on passed_on request_if may_abort reserve_if each asked_view next_behind with_path views_of asks request_about reserve_for open_request is_kind hears hear_all pass_then answer_turn turn_by_answer heard_by is_timed_out is_ended hold_ends hold_end_by force_ends force_by child_hears settle settles settles_reservation settles_provision closes_unless is_held checked reservation_verdict reservation_due provision_verdict provision_due moves requested reserves provisions lives closes reservation_closing provision_closing event_of provision_event lifecycle_event is_live is_terminating tell_joined next_after tells_plane announces joined spoken kind_number due_for is_late tells_late tell_one tell_all ends clocked clock_then clock_all ticks without stands
+unfolding said after step receives saw is_old is_heard with_heard is_taken with_taken answers refusal unnamed_refusal modification_refusal has_row is_in_place connection_of row_of provision_row_of lifecycle_row_of request_at request_turn turn_by_request takes pass_on passed_on request_if may_abort reserve_if each asked_view next_behind with_path views_of asks request_about reserve_for open_request is_kind hears hear_all pass_then answer_turn turn_by_answer heard_by is_timed_out is_ended hold_ends hold_end_by force_ends force_by child_hears settle settles settles_reservation settles_provision closes_unless is_held checked reservation_verdict reservation_due provision_verdict provision_due moves requested reserves provisions lives closes reservation_closing provision_closing event_of provision_event lifecycle_event is_live is_terminating tell_joined next_after tells_plane announces joined spoken kind_number due_for is_late tells_late tell_one tell_all ends clocked clock_then clock_all ticks without stands part_of tells_first
 are_modified = record {
   a_modification_names_the_childs_connection = refl;
   a_commit_goes_to_all = refl;
@@ -291,7 +297,7 @@ pub record AreViewed : Type 0 where
   an_answer_under_another_correlation_changes_nothing : says two (reserved ++ got 0 (with_1 3 (confirmed of_1 0 (codes "A") (codes "B"))) ∷ holds_2 ∷ []) ≡ []
 
 are_viewed : AreViewed
-unfolding said after step receives saw is_old is_heard with_heard is_taken with_taken answers refusal unnamed_refusal modification_refusal has_row is_in_place connection_of row_of provision_row_of lifecycle_row_of request_at request_turn turn_by_request takes pass_on passed_on request_if may_abort reserve_if each asked_view next_behind with_path views_of asks request_about reserve_for open_request is_kind hears hear_all pass_then answer_turn turn_by_answer heard_by is_timed_out is_ended hold_ends hold_end_by force_ends force_by child_hears settle settles settles_reservation settles_provision closes_unless is_held checked reservation_verdict reservation_due provision_verdict provision_due moves requested reserves provisions lives closes reservation_closing provision_closing event_of provision_event lifecycle_event is_live is_terminating tell_joined next_after tells_plane announces joined spoken kind_number due_for is_late tells_late tell_one tell_all ends clocked clock_then clock_all ticks without stands
+unfolding said after step receives saw is_old is_heard with_heard is_taken with_taken answers refusal unnamed_refusal modification_refusal has_row is_in_place connection_of row_of provision_row_of lifecycle_row_of request_at request_turn turn_by_request takes pass_on passed_on request_if may_abort reserve_if each asked_view next_behind with_path views_of asks request_about reserve_for open_request is_kind hears hear_all pass_then answer_turn turn_by_answer heard_by is_timed_out is_ended hold_ends hold_end_by force_ends force_by child_hears settle settles settles_reservation settles_provision closes_unless is_held checked reservation_verdict reservation_due provision_verdict provision_due moves requested reserves provisions lives closes reservation_closing provision_closing event_of provision_event lifecycle_event is_live is_terminating tell_joined next_after tells_plane announces joined spoken kind_number due_for is_late tells_late tell_one tell_all ends clocked clock_then clock_all ticks without stands part_of tells_first
 are_viewed = record {
   a_confirmation_before_the_response_teaches_the_id = refl;
   and_is_a_hold = refl;
@@ -312,7 +318,7 @@ pub record AreRefused : Type 0 where
   an_abort_while_children_are_asked_is_refused : says two (reserved ++ got 0 (r 2 (Body.ReserveAbort own)) ∷ []) ≡ r 2 (refused own (codes "a1") (plain ErrorName.InvalidTransition)) ∷ []
 
 are_refused : AreRefused
-unfolding said after step receives saw is_old is_heard with_heard is_taken with_taken answers refusal unnamed_refusal modification_refusal has_row is_in_place connection_of row_of provision_row_of lifecycle_row_of request_at request_turn turn_by_request takes pass_on passed_on request_if may_abort reserve_if each asked_view next_behind with_path views_of asks request_about reserve_for open_request is_kind hears hear_all pass_then answer_turn turn_by_answer heard_by is_timed_out is_ended hold_ends hold_end_by force_ends force_by child_hears settle settles settles_reservation settles_provision closes_unless is_held checked reservation_verdict reservation_due provision_verdict provision_due moves requested reserves provisions lives closes reservation_closing provision_closing event_of provision_event lifecycle_event is_live is_terminating tell_joined next_after tells_plane announces joined spoken kind_number due_for is_late tells_late tell_one tell_all ends clocked clock_then clock_all ticks without stands
+unfolding said after step receives saw is_old is_heard with_heard is_taken with_taken answers refusal unnamed_refusal modification_refusal has_row is_in_place connection_of row_of provision_row_of lifecycle_row_of request_at request_turn turn_by_request takes pass_on passed_on request_if may_abort reserve_if each asked_view next_behind with_path views_of asks request_about reserve_for open_request is_kind hears hear_all pass_then answer_turn turn_by_answer heard_by is_timed_out is_ended hold_ends hold_end_by force_ends force_by child_hears settle settles settles_reservation settles_provision closes_unless is_held checked reservation_verdict reservation_due provision_verdict provision_due moves requested reserves provisions lives closes reservation_closing provision_closing event_of provision_event lifecycle_event is_live is_terminating tell_joined next_after tells_plane announces joined spoken kind_number due_for is_late tells_late tell_one tell_all ends clocked clock_then clock_all ticks without stands part_of tells_first
 are_refused = record {
   a_reserve_that_a_child_refuses_fails = refl;
   an_abort_leaves_that_child_out = refl;
@@ -334,7 +340,7 @@ pub record AreNoticed : Type 0 where
   when_all_are_active_it_is_told : says two (provisioned ++ tick 10 ∷ got 10 (between (codes "a1") (codes "p1") (id_of 0 2) (plane of_1 1 10 true)) ∷ got 10 (between (codes "a1") (codes "p2") (id_of 1 2) (plane of_2 1 10 true)) ∷ []) ≡ a 8 (plane own 1 10 true) ∷ []
 
 are_noticed : AreNoticed
-unfolding said after step receives saw is_old is_heard with_heard is_taken with_taken answers refusal unnamed_refusal modification_refusal has_row is_in_place connection_of row_of provision_row_of lifecycle_row_of request_at request_turn turn_by_request takes pass_on passed_on request_if may_abort reserve_if each asked_view next_behind with_path views_of asks request_about reserve_for open_request is_kind hears hear_all pass_then answer_turn turn_by_answer heard_by is_timed_out is_ended hold_ends hold_end_by force_ends force_by child_hears settle settles settles_reservation settles_provision closes_unless is_held checked reservation_verdict reservation_due provision_verdict provision_due moves requested reserves provisions lives closes reservation_closing provision_closing event_of provision_event lifecycle_event is_live is_terminating tell_joined next_after tells_plane announces joined spoken kind_number due_for is_late tells_late tell_one tell_all ends clocked clock_then clock_all ticks without stands
+unfolding said after step receives saw is_old is_heard with_heard is_taken with_taken answers refusal unnamed_refusal modification_refusal has_row is_in_place connection_of row_of provision_row_of lifecycle_row_of request_at request_turn turn_by_request takes pass_on passed_on request_if may_abort reserve_if each asked_view next_behind with_path views_of asks request_about reserve_for open_request is_kind hears hear_all pass_then answer_turn turn_by_answer heard_by is_timed_out is_ended hold_ends hold_end_by force_ends force_by child_hears settle settles settles_reservation settles_provision closes_unless is_held checked reservation_verdict reservation_due provision_verdict provision_due moves requested reserves provisions lives closes reservation_closing provision_closing event_of provision_event lifecycle_event is_live is_terminating tell_joined next_after tells_plane announces joined spoken kind_number due_for is_late tells_late tell_one tell_all ends clocked clock_then clock_all ticks without stands part_of tells_first
 are_noticed = record {
   a_hold_that_ends_below_ends_the_own = refl;
   its_origin_is_passed_on_from_below_an_aggregator = refl;
@@ -357,7 +363,7 @@ pub record AreEnded : Type 0 where
   and_it_takes_no_more_reserves : says two (committed ++ tick 20 ∷ got 20 (r 3 (reserve (Some own) None None None)) ∷ []) ≡ r 3 (refused own (codes "a1") (plain ErrorName.InvalidTransition)) ∷ []
 
 are_ended : AreEnded
-unfolding said after step receives saw is_old is_heard with_heard is_taken with_taken answers refusal unnamed_refusal modification_refusal has_row is_in_place connection_of row_of provision_row_of lifecycle_row_of request_at request_turn turn_by_request takes pass_on passed_on request_if may_abort reserve_if each asked_view next_behind with_path views_of asks request_about reserve_for open_request is_kind hears hear_all pass_then answer_turn turn_by_answer heard_by is_timed_out is_ended hold_ends hold_end_by force_ends force_by child_hears settle settles settles_reservation settles_provision closes_unless is_held checked reservation_verdict reservation_due provision_verdict provision_due moves requested reserves provisions lives closes reservation_closing provision_closing event_of provision_event lifecycle_event is_live is_terminating tell_joined next_after tells_plane announces joined spoken kind_number due_for is_late tells_late tell_one tell_all ends clocked clock_then clock_all ticks without stands
+unfolding said after step receives saw is_old is_heard with_heard is_taken with_taken answers refusal unnamed_refusal modification_refusal has_row is_in_place connection_of row_of provision_row_of lifecycle_row_of request_at request_turn turn_by_request takes pass_on passed_on request_if may_abort reserve_if each asked_view next_behind with_path views_of asks request_about reserve_for open_request is_kind hears hear_all pass_then answer_turn turn_by_answer heard_by is_timed_out is_ended hold_ends hold_end_by force_ends force_by child_hears settle settles settles_reservation settles_provision closes_unless is_held checked reservation_verdict reservation_due provision_verdict provision_due moves requested reserves provisions lives closes reservation_closing provision_closing event_of provision_event lifecycle_event is_live is_terminating tell_joined next_after tells_plane announces joined spoken kind_number due_for is_late tells_late tell_one tell_all ends clocked clock_then clock_all ticks without stands part_of tells_first
 are_ended = record {
   a_child_without_an_id_is_not_asked_to_terminate = refl;
   it_is_once_its_id_is_learnt = refl;
@@ -378,7 +384,7 @@ pub record AreLate : Type 0 where
   work_and_a_forced_end_are_a_providers : says two (reserved ++ record { second = 0; input = Input.Force 0 } ∷ []) ≡ []
 
 are_late : AreLate
-unfolding said after step receives saw is_old is_heard with_heard is_taken with_taken answers refusal unnamed_refusal modification_refusal has_row is_in_place connection_of row_of provision_row_of lifecycle_row_of request_at request_turn turn_by_request takes pass_on passed_on request_if may_abort reserve_if each asked_view next_behind with_path views_of asks request_about reserve_for open_request is_kind hears hear_all pass_then answer_turn turn_by_answer heard_by is_timed_out is_ended hold_ends hold_end_by force_ends force_by child_hears settle settles settles_reservation settles_provision closes_unless is_held checked reservation_verdict reservation_due provision_verdict provision_due moves requested reserves provisions lives closes reservation_closing provision_closing event_of provision_event lifecycle_event is_live is_terminating tell_joined next_after tells_plane announces joined spoken kind_number due_for is_late tells_late tell_one tell_all ends clocked clock_then clock_all ticks without stands
+unfolding said after step receives saw is_old is_heard with_heard is_taken with_taken answers refusal unnamed_refusal modification_refusal has_row is_in_place connection_of row_of provision_row_of lifecycle_row_of request_at request_turn turn_by_request takes pass_on passed_on request_if may_abort reserve_if each asked_view next_behind with_path views_of asks request_about reserve_for open_request is_kind hears hear_all pass_then answer_turn turn_by_answer heard_by is_timed_out is_ended hold_ends hold_end_by force_ends force_by child_hears settle settles settles_reservation settles_provision closes_unless is_held checked reservation_verdict reservation_due provision_verdict provision_due moves requested reserves provisions lives closes reservation_closing provision_closing event_of provision_event lifecycle_event is_live is_terminating tell_joined next_after tells_plane announces joined spoken kind_number due_for is_late tells_late tell_one tell_all ends clocked clock_then clock_all ticks without stands part_of tells_first
 are_late = record {
   within_time_nothing_is_told = refl;
   each_late_request_is_told = refl;
@@ -386,4 +392,75 @@ are_late = record {
   what_is_acknowledged_is_not_late = refl;
   an_answer_is_no_acknowledgement = refl;
   work_and_a_forced_end_are_a_providers = refl;
+}
+
+---- Queries about all that is below
+
+abbrev row : (id depth : ℕ) → (agent : List ℕ) → Rsm → RecursiveRow
+row id depth agent state =
+    record { connection = id; depth = depth; lifecycle = Lsm.Created; provider = agent; provision = Psm.Released; reservation = state; version = None }
+
+abbrev below_of : ℕ → Body
+below_of id = Body.QueryRecursive id
+
+abbrev all_of : ℕ → Bool → List RecursiveRow → Body
+all_of id more rows = Body.QueryRecursiveConfirmed id more rows
+
+abbrev row_1 : ℕ → RecursiveRow
+row_1 depth = row of_1 depth (codes "p1") Rsm.ReserveHeld
+
+abbrev row_2 : ℕ → RecursiveRow
+row_2 depth = row of_2 depth (codes "p2") Rsm.ReserveHeld
+
+abbrev own_held : RecursiveRow
+own_held = row own 0 (codes "a1") Rsm.ReserveHeld
+
+abbrev asks_all : List Entry
+asks_all = held ++ got 0 (r 2 (below_of own)) ∷ []
+
+abbrev tells_1 : Entry
+tells_1 = got 0 (with_1 4 (all_of of_1 false (row_1 0 ∷ [])))
+
+abbrev tells_2 : Entry
+tells_2 = got 0 (with_2 5 (all_of of_2 false (row_2 0 ∷ [])))
+
+pub record AreNested : Type 0 where
+  without_a_known_child_it_is_answered_at_once : says two (reserved ++ got 0 (r 2 (below_of own)) ∷ []) ≡ r 2 (all_of own true (row own 0 (codes "a1") Rsm.ReserveChecking ∷ [])) ∷ []
+  without_a_path_nothing_is_missing : says (over []) (reserved ++ got 0 (r 2 (below_of own)) ∷ []) ≡ r 2 (all_of own false (row own 0 (codes "a1") Rsm.ReserveFailed ∷ [])) ∷ []
+  each_known_child_is_asked : says two asks_all ≡ with_1 4 (below_of of_1) ∷ with_2 5 (below_of of_2) ∷ []
+  one_that_is_known_alone : says two (reserved ++ holds_2 ∷ got 0 (r 2 (below_of own)) ∷ []) ≡ with_2 4 (below_of of_2) ∷ []
+  before_all_have_answered_nothing_is_said : says two (asks_all ++ tells_2 ∷ []) ≡ []
+  the_rows_stand_in_the_order_of_the_segments : says two (asks_all ++ tells_2 ∷ tells_1 ∷ []) ≡ r 2 (all_of own false (own_held ∷ row_1 1 ∷ row_2 1 ∷ [])) ∷ []
+  what_a_child_left_out_is_missing : says two (asks_all ++ tells_1 ∷ got 0 (with_2 5 (all_of of_2 true (row_2 0 ∷ []))) ∷ []) ≡ r 2 (all_of own true (own_held ∷ row_1 1 ∷ row_2 1 ∷ [])) ∷ []
+  an_error_has_no_rows : says two (asks_all ++ tells_1 ∷ got 0 (with_2 5 (refused of_2 (codes "p2") (plain ErrorName.Nonexistent))) ∷ []) ≡ r 2 (all_of own true (own_held ∷ row_1 1 ∷ [])) ∷ []
+  a_child_that_was_not_known_has_none : says two (reserved ++ holds_2 ∷ got 0 (r 2 (below_of own)) ∷ holds_1 ∷ got 0 (with_2 4 (all_of of_2 false (row_2 0 ∷ []))) ∷ []) ≡ r 2 (all_of own true (own_held ∷ row_2 1 ∷ [])) ∷ []
+  an_answer_is_taken_once : says two (asks_all ++ tells_1 ∷ tells_2 ∷ tells_2 ∷ []) ≡ []
+  another_answer_says_nothing : says two (asks_all ++ tells_1 ∷ tells_2 ∷ got 0 (between (codes "a1") (codes "p9") (id_of 3 5) (all_of of_2 false [])) ∷ []) ≡ []
+  two_queries_are_answered_each : says two (asks_all ++ got 0 (r 3 (below_of own)) ∷ got 0 (with_1 6 (all_of of_1 false [])) ∷ got 0 (with_2 7 (all_of of_2 false [])) ∷ []) ≡ r 3 (all_of own false (own_held ∷ [])) ∷ []
+  and_the_first_waits : says two (asks_all ++ got 0 (r 3 (below_of own)) ∷ got 0 (with_1 6 (all_of of_1 false [])) ∷ got 0 (with_2 7 (all_of of_2 false [])) ∷ tells_1 ∷ tells_2 ∷ []) ≡ r 2 (all_of own false (own_held ∷ row_1 1 ∷ row_2 1 ∷ [])) ∷ []
+  a_query_is_taken_once : says two (asks_all ++ got 0 (r 2 (below_of own)) ∷ []) ≡ []
+  a_connection_of_another_requester : says two (held ++ got 0 (between (codes "r2") (codes "a1") (id_of 5 1) (below_of own)) ∷ []) ≡ between (codes "r2") (codes "a1") (id_of 5 1) (refused own (codes "a1") (plain ErrorName.Nonexistent)) ∷ []
+  a_query_to_another_provider : says two (held ++ got 0 (between (codes "r1") (codes "a2") (id_of 4 2) (below_of own)) ∷ []) ≡ between (codes "r1") (codes "a2") (id_of 4 2) (refused own (codes "a1") (plain ErrorName.WrongProvider)) ∷ []
+  a_query_to_a_child_can_be_late : says two (held ++ record { second = 0; input = Input.Acked (identity (with_1 2 (asked (codes "A") (codes "B")))) } ∷ record { second = 0; input = Input.Acked (identity (with_2 3 (asked (codes "C") (codes "D")))) } ∷ got 0 (r 2 (below_of own)) ∷ tick 120 ∷ []) ≡ a 6 (late 4 1 120) ∷ a 7 (late 5 2 120) ∷ []
+
+are_nested : AreNested
+unfolding said after step receives saw is_old is_heard with_heard is_taken with_taken answers refusal unnamed_refusal modification_refusal has_row is_in_place connection_of row_of provision_row_of lifecycle_row_of request_at request_turn turn_by_request takes pass_on passed_on request_if may_abort reserve_if each asked_view next_behind with_path views_of asks request_about reserve_for open_request is_kind hears hear_all pass_then answer_turn turn_by_answer heard_by is_timed_out is_ended hold_ends hold_end_by force_ends force_by child_hears settle settles settles_reservation settles_provision closes_unless is_held checked reservation_verdict reservation_due provision_verdict provision_due moves requested reserves provisions lives closes reservation_closing provision_closing event_of provision_event lifecycle_event is_live is_terminating tell_joined next_after tells_plane announces joined spoken kind_number due_for is_late tells_late tell_one tell_all ends clocked clock_then clock_all ticks without stands part_of tells_first asks_below seek own_row
+are_nested = record {
+  without_a_known_child_it_is_answered_at_once = refl;
+  without_a_path_nothing_is_missing = refl;
+  each_known_child_is_asked = refl;
+  one_that_is_known_alone = refl;
+  before_all_have_answered_nothing_is_said = refl;
+  the_rows_stand_in_the_order_of_the_segments = refl;
+  what_a_child_left_out_is_missing = refl;
+  an_error_has_no_rows = refl;
+  a_child_that_was_not_known_has_none = refl;
+  an_answer_is_taken_once = refl;
+  another_answer_says_nothing = refl;
+  two_queries_are_answered_each = refl;
+  and_the_first_waits = refl;
+  a_query_is_taken_once = refl;
+  a_connection_of_another_requester = refl;
+  a_query_to_another_provider = refl;
+  a_query_to_a_child_can_be_late = refl;
 }

@@ -4,6 +4,7 @@ pub mod Settling
 pub mod Turns
 pub mod Clock
 pub mod Queries
+pub mod Below
 pub mod Steps
 pub mod Entering
 pub mod Connections
@@ -12,6 +13,7 @@ pub mod Undo
 pub mod Rounds
 pub mod Core
 pub mod Step
+pub mod Open
 pub mod Good
 pub mod Laws
 pub mod Requesting

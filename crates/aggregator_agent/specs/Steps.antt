@@ -1,5 +1,6 @@
 -- One entry at an aggregator.
-use Rattle.std.specs.Prelude.{ℕ, ◌+◌, Bool, true, false, not, List, [], ◌∷◌, ◌++◌, ◌&&◌, nat_lt, length, slice_set, Option, Some, None}
+use Rattle.std.specs.Prelude.{ℕ, ◌+◌, Bool, true, false, List, [], ◌∷◌, ◌++◌, ◌&&◌, nat_lt, length, bytes_eq, slice_set, Option, Some, None, option_and_then}
+use Rattle.std.specs.List.{list_any}
 use Rattle.nsi_primitive.specs.Ids.{id_of}
 use Rattle.nsi_primitive.specs.Messages.{is_request, is_query, connection_of}
 use Rattle.nsi_primitive.specs.declared.kind.ErrorName.{ErrorName}
@@ -22,6 +23,7 @@ use Rattle.aggregator_agent.specs.Setting.{Setting}
 use Rattle.aggregator_agent.specs.Asking.{Turn, with_path}
 use Rattle.aggregator_agent.specs.Turns.{request_turn, answer_turn, spoken}
 use Rattle.aggregator_agent.specs.Queries.{answer_to}
+use Rattle.aggregator_agent.specs.Below.{Sought, is_asked, seek, opened, nested_reply, Heard, hear_below}
 use Rattle.aggregator_agent.specs.Clock.{Clocked, clock_all, due_for, told_dues}
 
 ---- Messages that came
@@ -43,6 +45,7 @@ put_back setting s n t =
       base = record s.base { records = slice_set s.base.records n t.own; next = t.next };
       children = slice_set s.children n t.children;
       dues = s.dues ++ due_for n s.base.now t.asked;
+      queries = s.queries;
       views = s.views;
     })
     (spoken setting.agent t)
@@ -127,12 +130,50 @@ with_passed s p =
     (record s { base = record s.base { records = p.records; next = p.next }; children = p.children; dues = s.dues ++ p.dues })
     p.out
 
-unfoldable pub hears : Setting → AgentState → Message → AgentStepped
-hears setting s m = with_passed s (hear_all setting.agent s.base.now 0 m s.base.next s.base.records s.children)
+-- what is answered then stands behind all else
+abbrev pub with_heard : Heard → AgentStepped → AgentStepped
+with_heard h x = record x { state = record x.state { queries = h.queries }; out = x.out ++ h.out }
 
--- a query is answered at once by what the agent has, which stays as it is; every other request is one to do something
+-- the connections hear the message, and so do the open queries, whose connections are told as they stood before
+unfoldable pub hears : Setting → AgentState → Message → AgentStepped
+hears setting s m =
+    with_heard (hear_below setting.agent.name s.base.records m s.queries)
+    (with_passed s (hear_all setting.agent s.base.now 0 m s.base.next s.base.records s.children))
+
+---- A query
+
+-- the children that can be asked are, and the query waits for their answers; where there is none it is answered at once
+abbrev pub opens_query : (waits : Bool) → Setting → AgentState → ℕ → Message → Sought → AgentStepped
+opens_query true setting s n m x =
+    sends
+    (record s { base = record s.base { next = x.next }; dues = s.dues ++ due_for n s.base.now x.asked; queries = s.queries ++ opened m n x ∷ [] })
+    x.asked
+opens_query false setting s n m x = sends s (nested_reply setting.agent.name (record_at n s.base.records) (opened m n x) ∷ [])
+
+abbrev pub opens_sought : Setting → AgentState → ℕ → Message → Sought → AgentStepped
+opens_sought setting s n m x = opens_query (list_any is_asked x.parts) setting s n m x
+
+-- a query about the connection at a place, and all below it
+unfoldable pub asks_below : Setting → AgentState → ℕ → Message → AgentStepped
+asks_below setting s n m = opens_sought setting s n m (seek setting.agent s.base.next (children_at n s.children))
+
+abbrev pub asks_if_own : (is_own : Bool) → Option ℕ → Setting → AgentState → Message → AgentStepped
+asks_if_own true (Some n) setting s m = asks_below setting s n m
+asks_if_own true None setting s m = sends s (error_reply setting.agent.name m ErrorName.Nonexistent ∷ [])
+asks_if_own false o setting s m = sends s (error_reply setting.agent.name m ErrorName.WrongProvider ∷ [])
+
+-- where the connection stands that a request of its owner names
+abbrev pub place_named : Message → List Record → Option ℕ
+place_named m records = option_and_then (λ id. place_of id m.header.requester records) (connection_of m.body)
+
+-- every other query is answered at once by what the agent has, which stays as it is
+abbrev pub queries : (is_recursive : Bool) → Setting → AgentState → Message → AgentStepped
+queries true setting s m = asks_if_own (bytes_eq m.header.provider setting.agent.name) (place_named m s.base.records) setting s m
+queries false setting s m = sends s (query_reply setting.agent.name m (answer_to setting.agent.name s m) ∷ [])
+
+-- every other request is one to do something
 abbrev pub serves : (is_query : Bool) → Setting → AgentState → Message → AgentStepped
-serves true setting s m = sends s (query_reply setting.agent.name m (answer_to setting.agent.name s m) ∷ [])
+serves true setting s m = queries (is_recursive m.body) setting s m
 serves false setting s m = answers (refusal setting.agent.name setting.stp_of s.base.records m) setting s m
 
 -- a message is taken once
@@ -159,10 +200,9 @@ acknowledged i s = record s { base = record s.base { waiting = without i s.base.
 
 ---- One entry
 
--- an aggregator has no asks of its own, and answers no queryRecursive yet
+-- an aggregator has no asks of its own
 abbrev pub is_for_aggregator : Input → Bool
 is_for_aggregator (Input.Ask _ _) = false
-is_for_aggregator (Input.Got m) = not (is_recursive m.body)
 is_for_aggregator _ = true
 
 abbrev pub may_take : AgentState → Entry → Bool

@@ -13,7 +13,10 @@ use crate::connection_table::ConnectionTable;
 use crate::due_table::DueTable;
 use crate::entering::Entering;
 use crate::late::{Lateness, find_late};
+use crate::open::settle;
 use crate::outbox::Outbox;
+use crate::rounds::Begun;
+use agent_state::OpenQuery;
 use message_retry::Retry;
 use nsi_base::{AgentNo, Second};
 use nsi_primitive::{Entry, Input, Message};
@@ -26,6 +29,8 @@ pub struct Core {
     pub agent: Agent,
     pub connections: ConnectionTable,
     pub outbox: Outbox,
+    /// The queries that wait for children's answers, in the order in which they came.
+    pub queries: Vec<OpenQuery>,
     pub now: Second,
     /// How many entries were taken.
     pub taken: u64,
@@ -53,6 +58,7 @@ impl Core {
                 retry: Retry::new(alloc),
                 dues: DueTable::new(alloc),
             },
+            queries: Vec::new(alloc),
             now: Second::first(),
             taken: 0,
             next: 1,
@@ -100,13 +106,19 @@ impl Core {
         }
     }
 
-    /// All connections hear a message that is no request.
+    /// All connections hear a message that is no request, and so do the open queries.
     #[tactic(auto, unfolding(crate::specs::Steps::hears))]
     pub fn hear(&mut self, alloc: Global, message: &Message) -> Result<Vec<Message>, AllocError>
         ensures step { IsStep self.old self.new result
             (λ setting s. hears setting s message.now) }
         ensures taken { self.new.taken ≡ self.old.taken }
     {
+        let told = self.told_below(alloc, message)?;
+        let answer = self.answer_below(alloc, &told)?;
+        let begun = Begun {
+            next: self.next,
+            answer,
+        };
         let entering = Entering {
             alloc,
             agent: &self.agent,
@@ -114,7 +126,8 @@ impl Core {
             second: self.now,
         };
         let connections = &mut self.connections;
-        let said = connections.hear(&mut self.outbox, &entering, self.next)?;
+        let said = connections.hear(&mut self.outbox, &entering, begun)?;
+        settle(&mut self.queries, told);
         self.next = said.next;
         Ok(said.out)
     }

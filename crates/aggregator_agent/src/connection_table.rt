@@ -1,6 +1,6 @@
 //! The connections of an aggregator.
 
-ghost use Rattle.std.specs.Prelude.{◌≡◌, ◌<◌, ◌++◌, ◌∷◌, ℕ, [], length, vec_len, vec_capacity, IfOk, IfSome, OnErr};
+ghost use Rattle.std.specs.Prelude.{◌≡◌, ◌<◌, ◌++◌, ◌∷◌, ℕ, [], length, option_to_list, vec_len, vec_capacity, IfOk, IfSome, OnErr};
 ghost use Rattle.std.specs.Prelude.{List as Sequence};
 ghost use Rattle.agent_state.specs.declared.parent.Leg.{Leg as LegValue};
 ghost use Rattle.connection_record.specs.Refusal.{place_of, record_refusal};
@@ -17,7 +17,7 @@ use crate::entering::Entering;
 use crate::find::{number_of, place_among};
 use crate::outbox::Outbox;
 use crate::requesting::{Start, request};
-use crate::rounds::{clock_all, hear_all};
+use crate::rounds::{Begun, clock_all, hear_all};
 use crate::said::Said;
 use id_index::IdIndex;
 use nsi_base::Name;
@@ -82,17 +82,20 @@ impl ConnectionTable {
         self.items[place].own.refusal(body)
     }
 
-    /// All connections hear a message of a child. Where memory is wanting, none has heard it.
+    /// All connections hear a message of a child, and what is answered is said behind all else. Where memory is wanting,
+    /// none has heard it.
     pub fn hear(
         &mut self,
         outbox: &mut Outbox,
         entering: &Entering<'_>,
-        next: u64,
+        begun: Begun,
     ) -> Result<Said, AllocError>
         ensures done { let e = entering.now in
-            let all = each_bond (answered e.agent.now e.second e.message.now) 0 next self.old in
+            let does = answered e.agent.now e.second e.message.now in
+            let all = each_bond does 0 begun.next self.old in
+            let out = all.out ++ option_to_list begun.answer in
             IfOk result (λ said. IsEntered self.new
-            outbox.old outbox.new said all.bonds all.out all.dues all.next) }
+            outbox.old outbox.new said all.bonds out all.dues all.next) }
         ensures back { OnErr result (self.new ≡ self.old) }
         ensures unsaid { OnErr result (outbox.new.retry ≡ outbox.old.retry) }
         ensures undue { OnErr result (outbox.new.dues ≡ outbox.old.dues) }
@@ -106,7 +109,7 @@ impl ConnectionTable {
             places.items(),
             outbox,
             entering,
-            next,
+            begun,
         )
     }
 

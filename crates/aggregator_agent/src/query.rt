@@ -1,13 +1,13 @@
 //! How queries are answered.
 
-ghost use Rattle.std.specs.Prelude.{◌≡◌, ◌∷◌, [], map, IfOk};
+ghost use Rattle.std.specs.Prelude.{◌≡◌, false, map, IfOk};
 ghost use Rattle.nsi_query.specs.Summary.{summary};
-ghost use Rattle.agent_state.specs.Entries.{query_reply};
-ghost use Rattle.agent_state.specs.State.{sends};
+ghost use Rattle.agent_state.specs.Entries.{is_recursive};
 ghost use Rattle.aggregator_agent.specs.Bonds.{bonds, shown_of};
 ghost use Rattle.aggregator_agent.specs.Core.{state_at};
 ghost use Rattle.aggregator_agent.specs.Queries.{answer_to};
 ghost use Rattle.aggregator_agent.specs.Step.{IsStep};
+ghost use Rattle.aggregator_agent.specs.Steps.{queries};
 
 use crate::aggregator_core::Core;
 use crate::connection::Connection;
@@ -19,11 +19,22 @@ use nsi_query::{Rows, add_own, answer_about, summary_answer};
 use std::alloc::{AllocError, Global};
 
 impl Core {
-    /// Answers a query. Its connections stay as they are.
-    pub fn reply(&mut self, alloc: Global, message: &Message) -> Result<Vec<Message>, AllocError>
+    /// Answers a query, or asks the children. Its connections stay as they are.
+    pub fn query(&mut self, alloc: Global, message: &Message) -> Result<Vec<Message>, AllocError>
         ensures step { let m = message.now in
-            IsStep self.old self.new result (λ setting s.
-            sends s (query_reply setting.agent.name m (answer_to setting.agent.name s m) ∷ [])) }
+            IsStep self.old self.new result (λ setting s. queries (is_recursive m.body) setting s m) }
+        ensures taken { self.new.taken ≡ self.old.taken }
+    {
+        match &message.body {
+            Body::QueryRecursive { .. } => self.ask_below(alloc, message),
+            _ => self.reply(alloc, message),
+        }
+    }
+
+    /// Answers a query at once.
+    fn reply(&mut self, alloc: Global, message: &Message) -> Result<Vec<Message>, AllocError>
+        ensures step { IsStep self.old self.new result
+            (λ setting s. queries false setting s message.now) }
         ensures taken { self.new.taken ≡ self.old.taken }
     {
         let answer = self.answer_to(alloc, message)?;

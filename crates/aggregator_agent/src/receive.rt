@@ -80,7 +80,7 @@ impl Core {
         ensures taken { self.new.taken ≡ self.old.taken }
     {
         if message.is_query() {
-            self.reply(alloc, message)
+            self.query(alloc, message)
         } else {
             self.answer(alloc, topology, message)
         }
@@ -202,7 +202,7 @@ impl Core {
     }
 
     /// Refuses a request.
-    fn refuse(
+    pub fn refuse(
         &mut self,
         alloc: Global,
         message: &Message,

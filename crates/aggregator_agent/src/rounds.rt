@@ -1,6 +1,6 @@
 //! An entry at the connections of which it makes something, one after another.
 
-ghost use Rattle.std.specs.Prelude.{◌≡◌, ◌≢◌, ◌<◌, ◌⊎◌, ◌↔◌, length, Contains, IfOk, OnOk, OnErr};
+ghost use Rattle.std.specs.Prelude.{◌≡◌, ◌≢◌, ◌<◌, ◌⊎◌, ◌↔◌, ◌++◌, length, option_to_list, Contains, IfOk, OnOk, OnErr};
 ghost use Rattle.std.specs.Prelude.{List as Sequence};
 ghost use Rattle.record_index.specs.declared.deadlines.Deadline.{Deadline as DeadlineValue};
 ghost use Rattle.aggregator_agent.specs.declared.keeping.Kept.{Kept as KeptValue};
@@ -21,8 +21,23 @@ use crate::keeping::{Kept, go_back};
 use crate::outbox::Outbox;
 use crate::said::Said;
 use nsi_base::RecordNo;
+use nsi_primitive::Message;
 use record_index::Deadlines;
 use std::alloc::{AllocError, Global};
+
+/// The number of the next id, and what is answered behind all else.
+#[derive(Drop)]
+pub struct Begun {
+    pub next: u64,
+    pub answer: Option<Message>,
+}
+
+/// A message on its way, and what is answered behind all that it causes.
+#[derive(Drop)]
+struct Hearing<'a> {
+    entering: &'a Entering<'a>,
+    answer: Option<Message>,
+}
 
 /// What those connections were that are done, and what is said.
 #[derive(Drop)]
@@ -38,7 +53,7 @@ pub fn hear_all(
     places: &[usize],
     outbox: &mut Outbox,
     entering: &Entering<'_>,
-    next: u64,
+    begun: Begun,
 ) -> Result<Said, AllocError>
     requires touched { let e = entering.now in
         let does = answered e.agent.now e.second e.message.now in
@@ -46,17 +61,20 @@ pub fn hear_all(
     requires found { AreFound index.old (bonds connections.old.items) }
     ensures done { let e = entering.now in
         let does = answered e.agent.now e.second e.message.now in
-        let all = each_bond does 0 next (bonds connections.old.items) in
+        let all = each_bond does 0 begun.next (bonds connections.old.items) in
+        let out = all.out ++ option_to_list begun.answer in
         IfOk result (λ said. IsEntered (bonds connections.new.items)
-        outbox.old outbox.new said all.bonds all.out all.dues all.next) }
+        outbox.old outbox.new said all.bonds out all.dues all.next) }
     ensures back { let old = bonds connections.old.items in
         OnErr result (bonds connections.new.items ≡ old) }
     ensures found { AreFound index.new (bonds connections.new.items) }
     ensures unsaid { OnErr result (outbox.new.retry ≡ outbox.old.retry) }
     ensures undue { OnErr result (outbox.new.dues ≡ outbox.old.dues) }
 {
+    let Begun { next, answer } = begun;
     let mut round = Round::new(entering.alloc, next);
-    let heard = round.hear_and_store(connections, index, places, outbox, entering);
+    let hearing = Hearing { entering, answer };
+    let heard = round.hear_and_store(connections, index, places, outbox, hearing);
     let Round { kept, said } = round;
     match heard {
         Ok(()) => Ok(said),
@@ -119,32 +137,36 @@ impl Round {
         }
     }
 
-    /// The connections hear a message, and what they say waits. Where memory is wanting some may have heard it, and each of
-    /// them is kept.
+    /// The connections hear a message, and what they say waits, with an answer behind it. Where memory is wanting some may
+    /// have heard it, and each of them is kept.
     fn hear_and_store(
         &mut self,
         connections: &mut Vec<Connection>,
         index: &mut ConnectionIndex,
         places: &[usize],
         outbox: &mut Outbox,
-        entering: &Entering<'_>,
+        hearing: Hearing<'_>,
     ) -> Result<(), AllocError>
         requires begun { IsBegun self.old }
-        requires touched { let e = entering.now in
+        requires touched { let e = hearing.entering.now in
             let does = answered e.agent.now e.second e.message.now in
             AreTouched does (bonds connections.old.items) places.now }
         requires found { AreFound index.old (bonds connections.old.items) }
-        ensures done { let e = entering.now in
+        ensures done { let e = hearing.entry.entering.now in
             let does = answered e.agent.now e.second e.message.now in
             let all = each_bond does 0 self.old.said.next (bonds connections.old.items) in
-            OnOk result (done_by self.new.said (bonds connections.new.items) ≡ all) }
+            let out = all.out ++ option_to_list hearing.entry.answer in
+            OnOk result (done_by self.new.said (bonds connections.new.items)
+            ≡ record all { out = out }) }
         ensures undo { CanUndo (bonds connections.old.items) (bonds connections.new.items)
             self.new.kept.items }
         ensures grows { Grows index.old index.new }
         ensures found { OnOk result (AreFound index.new (bonds connections.new.items)) }
         ensures stored { IsStored outbox.old outbox.new self.new.said result }
     {
+        let Hearing { entering, answer } = hearing;
         self.hear_each(connections, index, places, entering)?;
+        self.said.answer(answer)?;
         outbox.store(entering.alloc, &self.said)
     }
 

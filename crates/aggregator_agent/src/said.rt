@@ -1,6 +1,6 @@
 //! What an aggregator has said in the course of an entry.
 
-ghost use Rattle.std.specs.Prelude.{◌≡◌, ◌++◌, ◌∷◌, [], OnOk};
+ghost use Rattle.std.specs.Prelude.{◌≡◌, ◌++◌, ◌∷◌, [], option_to_list, IfOk, OnOk};
 ghost use Rattle.aggregator_agent.specs.Clock.{due_for};
 ghost use Rattle.aggregator_agent.specs.Connections.{said_by};
 
@@ -40,6 +40,19 @@ impl Said {
         }
     }
 
+    /// An answer is said behind the rest, where there is one.
+    pub fn answer(&mut self, answer: Option<Message>) -> Result<(), AllocError>
+        ensures out { let more = option_to_list answer in
+            OnOk result (self.new.out.items ≡ self.old.out.items ++ more) }
+        ensures dues { self.new.dues ≡ self.old.dues }
+        ensures next { self.new.next ≡ self.old.next }
+    {
+        if let Some(answer) = answer {
+            self.out.push(answer)?;
+        }
+        Ok(())
+    }
+
     /// What a turn says is said behind the rest.
     pub fn add(
         &mut self,
@@ -58,6 +71,20 @@ impl Said {
         self.next = turning.next;
         turning.speak(&mut self.out, agent, owner)
     }
+}
+
+/// The requests to children that were caused at a moment.
+pub fn dues_for(
+    alloc: Global,
+    moment: &Moment,
+    requests: &[Message],
+) -> Result<Vec<Due>, AllocError>
+    ensures { let due = due_for moment.now.number moment.now.second requests.now in
+        IfOk result (λ dues. dues.items ≡ due) }
+{
+    let mut dues = Vec::new(alloc);
+    push_dues(&mut dues, moment, requests)?;
+    Ok(dues)
 }
 
 /// Requests to children were caused at a moment.

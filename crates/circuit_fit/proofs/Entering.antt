@@ -1,6 +1,6 @@
 -- Each entry of an aggregator keeps its connections fit, and asks to terminate for connections alone that don't live.
-use Rattle.std.proofs.Common.{ℕ, zero, suc, ◌≡◌, ◌∙◌, ◌<◌, ◌+◌, Bool, true, false, List, [], ◌∷◌, ◌++◌, ◌⊎◌, inl, inr, map, length, get_or, length-append, get_or-set_same, get_or-set_other, Contains, Option, Some, None, refl, sym, ap, subst, arith}
-use Rattle.std.specs.List.{All}
+use Rattle.std.proofs.Common.{ℕ, zero, suc, ◌≡◌, ◌∙◌, ◌<◌, ◌+◌, Bool, true, false, List, [], ◌∷◌, ◌++◌, ◌⊎◌, inl, inr, map, length, get_or, length-append, get_or-set_same, get_or-set_other, Contains, Option, Some, None, refl, sym, ap, subst, arith, bytes_eq}
+use Rattle.std.specs.List.{All, list_any}
 use Rattle.std.proofs.lemmas.Bool.{cases_eq}
 use Rattle.std.proofs.lemmas.List.Elements.{All-nil, All-map, Contains-append_left, Contains-append_right, Contains-append_cases}
 use Rattle.nsi_primitive.specs.Ids.{id_of}
@@ -9,7 +9,6 @@ use Rattle.nsi_primitive.specs.declared.entry.Entry.{Entry}
 use Rattle.nsi_primitive.specs.declared.entry.Input.{Input}
 use Rattle.nsi_primitive.specs.declared.kind.ErrorName.{ErrorName}
 use Rattle.nsi_primitive.specs.declared.message.Body.{Body}
-use Rattle.nsi_primitive.specs.declared.message.Exception.{Exception}
 use Rattle.nsi_primitive.specs.declared.message.Message.{Message}
 use Rattle.nsi_primitive.specs.declared.message.ReserveRequest.{ReserveRequest}
 use Rattle.nsi_primitive.specs.declared.message.Service.{Service}
@@ -20,23 +19,26 @@ use Rattle.connection_record.specs.declared.record.Record.{Record}
 use Rattle.connection_record.specs.Demand.{holds_pending}
 use Rattle.connection_record.specs.Moves.{asked_criteria, fresh, service_of, is_live}
 use Rattle.connection_record.specs.Refusal.{record_refusal, refusal, points_of}
-use Rattle.connection_record.specs.Replies.{plain, addressed}
+use Rattle.connection_record.specs.Replies.{addressed}
 use Rattle.connection_record.specs.Speaking.{tally, asks_for}
 use Rattle.connection_record.proofs.Unrefused.{unrefused_fits, reserve_row}
 use Rattle.child_connection.specs.Views.{ChildConnection}
 use Rattle.agent_state.specs.declared.parent.Due.{Due}
 use Rattle.agent_state.specs.declared.parent.Leg.{Leg}
-use Rattle.agent_state.specs.Entries.{error_reply, query_reply}
-use Rattle.agent_state.specs.State.{AgentState, AgentStepped, no_record, record_at, children_at, name_or, stays}
+use Rattle.agent_state.specs.declared.parent.OpenQuery.{OpenQuery}
+use Rattle.agent_state.specs.Entries.{is_recursive, error_reply, query_reply}
+use Rattle.agent_state.specs.State.{AgentState, AgentStepped, no_record, record_at, children_at, name_or, stays, sends}
 use Rattle.aggregator_agent.specs.declared.agent.Agent.{Agent}
 use Rattle.aggregator_agent.specs.Asking.{Turn, with_path, view_of, views_of}
+use Rattle.aggregator_agent.specs.Below.{is_asked, nested_reply, Sought, seek, opened as query_opened, hear_below}
 use Rattle.aggregator_agent.specs.Clock.{Told, tells_late, tell_one, tell_all, is_late_of, ends, clocked, clock_then, clock_all}
 use Rattle.aggregator_agent.specs.Setting.{Setting}
 use Rattle.aggregator_agent.specs.Settling.{is_held}
-use Rattle.aggregator_agent.specs.Steps.{sees, is_seen, children_for, request_at, with_new, opens_between, opens, request_to, accepts, answers, pass_then, hear_all, hears, receives, ticks, acknowledged, step, after_if, after, may_take, serves}
+use Rattle.aggregator_agent.specs.Steps.{sees, is_seen, children_for, request_at, with_new, opens_between, opens, request_to, accepts, answers, Passed, pass_then, hear_all, hears, opens_query, asks_below, asks_if_own, place_named, queries, receives, ticks, acknowledged, step, after_if, after, may_take, serves}
 use Rattle.aggregator_agent.specs.Turns.{takes, request_turn, answer_turn, spoken}
 use Rattle.circuit_link.proofs.Aggregators.{request_from, answer_from, clocked_course}
 use Rattle.circuit_link.proofs.Answering.{only_one}
+use Rattle.circuit_link.proofs.Below.{all_asked_below, all_said_below}
 use Rattle.circuit_link.proofs.Opening.{last_here, last_there}
 use Rattle.circuit_link.proofs.Requests.{found_by, first_by, reserve_unnamed}
 use Rattle.circuit_pairs.proofs.Overseeing.{turn_asks}
@@ -70,9 +72,29 @@ pub record HasTurned (parent : List ℕ) (honest : ℕ → List Message → Type
   pub said : (n : ℕ) (m : Message) → Contains (more n) m → Contains out m
   pub only : (m : Message) (id : ℕ) → Contains out m → m.body ≡ Body.Terminate id → (n : ℕ) × Contains (more n) m
 
--- all rest, and nothing that is said asks
+-- nothing that is said asks to terminate
+abbrev EndsNothing : List Message → Type 0
+EndsNothing out = (m : Message) (id : ℕ) → Contains out m → m.body ≡ Body.Terminate id → ⊥
+
+none_ends : EndsNothing []
+none_ends m id i e = nothing_in m i
+
+one_ends : (m : Message) → is_request m.body ≡ false → EndsNothing (m ∷ [])
+one_ends m q z id i e = false≢true (sym q ∙ ap (λ (y : Message). is_request y.body) (sym (only_one m z i)) ∙ terminate_asks z id e)
+
+both_end : (xs ys : List Message) → EndsNothing xs → EndsNothing ys → EndsNothing (xs ++ ys)
+both_end xs ys a b m id i e = elim (Contains-append_cases xs ys m i) [ inl j ↦ a m id j e | inr j ↦ b m id j e ]
+
+-- neither do queries about what is below, nor what answers them
+below_ends : (agent : Agent) (next : ℕ) (xs : List ChildConnection) → EndsNothing (seek agent next xs).asked
+below_ends agent next xs m id i e = all_asked_below (λ z. (id : ℕ) → z.body ≡ Body.Terminate id → ⊥) agent (λ c k x n w. absurd (cc)) next xs m i id e
+
+answers_end : (agent : List ℕ) (records : List Record) (a : Message) (qs : List OpenQuery) → EndsNothing (hear_below agent records a qs).out
+answers_end agent records a qs m id i e = all_said_below (λ z. (id : ℕ) → z.body ≡ Body.Terminate id → ⊥) agent (λ own q n w. absurd (cc)) records a qs m i id e
+
+-- all rest, and nothing that is said asks to terminate
 rest_turned : (parent : List ℕ) (honest : ℕ → List Message → Type 0) (rs rs' : List Record) (css css' : List (List ChildConnection)) (out : List Message) → ((n : ℕ) → IsAsBefore (record_at n rs) (record_at n rs')) → css' ≡ css →
-    ((m : Message) → Contains out m → is_request m.body ≡ true → ⊥) → HasTurned parent honest rs css rs' css' out
+    EndsNothing out → HasTurned parent honest rs css rs' css' out
 rest_turned parent honest rs rs' css css' out a e quiet =
     record {
       more = λ n. [];
@@ -80,8 +102,18 @@ rest_turned parent honest rs rs' css css' out a e quiet =
           subst (λ zs. IsTurned parent (honest n) (record_at n rs) (children_at n css) (record_at n rs') (children_at n zs) []) (sym e)
           (rests_turned parent (honest n) (record_at n rs) (record_at n rs') (children_at n css) (a n));
       said = λ n m i. absurd (nothing_in m i);
-      only = λ m id i e. absurd (quiet m i (terminate_asks m id e));
+      only = λ m id i e. absurd (quiet m id i e);
     }
+
+-- what asks nobody to terminate is said behind
+beside_turned : (parent : List ℕ) (honest : ℕ → List Message → Type 0) (rs rs' : List Record) (css css' : List (List ChildConnection)) (out more : List Message) → EndsNothing more → HasTurned parent honest rs css rs' css' out →
+    HasTurned parent honest rs css rs' css' (out ++ more)
+beside_turned parent honest rs rs' css css' out more none t =
+    record { more = t.more; each = t.each; said = λ n m i. Contains-append_left out more m (t.said n m i); only = λ m id i e. only m id e (Contains-append_cases out more m i) }
+  where
+    only : (m : Message) (id : ℕ) → m.body ≡ Body.Terminate id → Contains out m ⊎ Contains more m → (n : ℕ) × Contains (t.more n) m
+    only m id e (inl i) = t.only m id i e
+    only m id e (inr i) = absurd (none m id i e)
 
 -- the first of all, and those behind it
 more_turned : (parent : List ℕ) (honest : ℕ → List Message → Type 0) (r r' : Record) (xs xs' : List ChildConnection) (mine front : List Message) (rs rs' : List Record) (css css' : List (List ChildConnection)) (out : List Message) →
@@ -134,8 +166,8 @@ module _ (agent : Agent) (now : ℕ) (m : Message) where
   heard_turned : (number next : ℕ) (rs : List Record) (css : List (List ChildConnection)) →
       HasTurned agent.name (λ n. Honest (record_at n rs) (children_at n css)) rs css (hear_all agent now number m next rs css).records (hear_all agent now number m next rs css).children (hear_all agent now number m next rs css).out
   unfolding hear_all pass_then
-  heard_turned number next [] css = rest_turned agent.name _ [] [] css css [] (λ n. as_itself (record_at n [])) refl (λ z i. absurd (nothing_in z i))
-  heard_turned number next (r ∷ rs) [] = rest_turned agent.name _ (r ∷ rs) (r ∷ rs) [] [] [] (λ n. as_itself (record_at n (r ∷ rs))) refl (λ z i. absurd (nothing_in z i))
+  heard_turned number next [] css = rest_turned agent.name _ [] [] css css [] (λ n. as_itself (record_at n [])) refl none_ends
+  heard_turned number next (r ∷ rs) [] = rest_turned agent.name _ (r ∷ rs) (r ∷ rs) [] [] [] (λ n. as_itself (record_at n (r ∷ rs))) refl none_ends
   heard_turned number next (r ∷ rs) (xs ∷ css) =
       let t : Turn = answer_turn agent now m r xs next in
       let w = turn_asks (record { rec = r; out = [] }) t (answer_from agent now m r xs next) nothing_tallied in
@@ -178,17 +210,14 @@ clock_as agent now number ds waiting next [] n = as_itself (record_at n [])
 clock_as agent now number ds waiting next (r ∷ rs) zero = clocked_as agent now number ds waiting r next
 clock_as agent now number ds waiting next (r ∷ rs) (suc n) = clock_as agent now (number + 1) ds waiting (clocked agent now number ds waiting r next).next rs n
 
-both_quiet : (xs ys : List Message) → ((m : Message) → Contains xs m → is_request m.body ≡ true → ⊥) → ((m : Message) → Contains ys m → is_request m.body ≡ true → ⊥) → (m : Message) → Contains (xs ++ ys) m → is_request m.body ≡ true → ⊥
-both_quiet xs ys a b m i e = elim (Contains-append_cases xs ys m i) [ inl j ↦ a m j e | inr j ↦ b m j e ]
-
-clock_quiet : (agent : Agent) (now number : ℕ) (ds : List Due) (waiting : List Message) (next : ℕ) (rs : List Record) (m : Message) → Contains (clock_all agent now number ds waiting next rs).out m → is_request m.body ≡ true → ⊥
+clock_ends : (agent : Agent) (now number : ℕ) (ds : List Due) (waiting : List Message) (next : ℕ) (rs : List Record) → EndsNothing (clock_all agent now number ds waiting next rs).out
 unfolding clock_all clock_then
-clock_quiet agent now number ds waiting next [] m i e = nothing_in m i
-clock_quiet agent now number ds waiting next (r ∷ rs) m i e =
+clock_ends agent now number ds waiting next [] = none_ends
+clock_ends agent now number ds waiting next (r ∷ rs) =
     let t : Told = clocked agent now number ds waiting r next in
-    both_quiet (addressed agent.name t.own.owner t.out) (clock_all agent now (number + 1) ds waiting t.next rs).out
-    (λ z j q. addressed_asks agent.name t.own.owner t.out (course_asks r t.own t.out (clocked_course agent now number ds waiting r next)) z j q)
-    (λ z j q. clock_quiet agent now (number + 1) ds waiting t.next rs z j q) m i e
+    both_end (addressed agent.name t.own.owner t.out) (clock_all agent now (number + 1) ds waiting t.next rs).out
+    (λ z id j e. addressed_asks agent.name t.own.owner t.out (course_asks r t.own t.out (clocked_course agent now number ds waiting r next)) z j (terminate_asks z id e))
+    (clock_ends agent now (number + 1) ds waiting t.next rs)
 
 ---- A request
 
@@ -299,11 +328,8 @@ module _ (setting : Setting) (s : AgentState) (even : length s.children ≡ leng
   abbrev Does : AgentStepped → Type 0
   Does x = HasTurned setting.agent.name (λ n. Anything) s.base.records s.children x.state.base.records x.state.children x.out
 
-  rests : (out : List Message) → ((m : Message) → Contains out m → is_request m.body ≡ true → ⊥) → HasTurned setting.agent.name (λ n. Anything) s.base.records s.children s.base.records s.children out
+  rests : (out : List Message) → EndsNothing out → HasTurned setting.agent.name (λ n. Anything) s.base.records s.children s.base.records s.children out
   rests out quiet = rest_turned setting.agent.name (λ n. Anything) s.base.records s.base.records s.children s.children out (λ n. as_itself (record_at n s.base.records)) refl quiet
-
-  none_said : (m : Message) → Contains [] m → is_request m.body ≡ true → ⊥
-  none_said m i e = nothing_in m i
 
   module _ (s' : AgentState) (same : s'.children ≡ s.children) (rows : s'.base.records ≡ s.base.records) (m : Message) where
     -- the turn of a connection in a state that differs in what was taken alone
@@ -405,11 +431,11 @@ module _ (setting : Setting) (s : AgentState) (even : length s.children ≡ leng
     abbrev Taken : AgentStepped → Type 0
     Taken x = HasTurned setting.agent.name (λ n. Anything) s'.base.records s'.children x.state.base.records x.state.children x.out
 
-    still : (out : List Message) → ((z : Message) → Contains out z → is_request z.body ≡ true → ⊥) → HasTurned setting.agent.name (λ n. Anything) s'.base.records s'.children s'.base.records s'.children out
+    still : (out : List Message) → EndsNothing out → HasTurned setting.agent.name (λ n. Anything) s'.base.records s'.children s'.base.records s'.children out
     still out quiet = rest_turned setting.agent.name (λ n. Anything) s'.base.records s'.base.records s'.children s'.children out (λ n. as_itself (record_at n s'.base.records)) refl quiet
 
     between : (o : Option (ℕ × ℕ)) (q : ReserveRequest) → m.body ≡ Body.Reserve q → (asked_criteria q [] ≡ None → ⊥) → Taken (opens_between o setting s' m q)
-    between None q e asks = still [] none_said
+    between None q e asks = still [] none_ends
     between (Some points) q e asks = opened q points e asks
 
     -- a first reserve that isn't refused asks for criteria
@@ -420,7 +446,7 @@ module _ (setting : Setting) (s : AgentState) (even : length s.children ≡ leng
       where
         same_reserve : (a b : ReserveRequest) → Body.Reserve a ≡ Body.Reserve b → a ≡ b
         same_reserve a b e = cc
-    opening _ e c r = still [] none_said
+    opening _ e c r = still [] none_ends
 
     accepting : (o : Option ℕ) → connection_of m.body ≡ o → refusal setting.agent.name setting.stp_of s'.base.records m ≡ None → Taken (accepts o setting s' m)
     accepting None e r = opening m.body refl e r
@@ -428,21 +454,40 @@ module _ (setting : Setting) (s : AgentState) (even : length s.children ≡ leng
         let f = found_by setting.agent.name setting.stp_of m id (record { records = s'.base.records; seen = []; said = [] }) e r in
         subst (λ o. Taken (request_to o setting s' m)) (sym f.found) (at_turned f.place f.about.within f.about.unrefused)
 
+    refusing : (error : ErrorName) → Taken (sends s' (error_reply setting.agent.name m error ∷ []))
+    refusing error = still (error_reply setting.agent.name m error ∷ []) (one_ends (error_reply setting.agent.name m error) refl)
+
     answering : (o : Option ErrorName) → refusal setting.agent.name setting.stp_of s'.base.records m ≡ o → Taken (answers o setting s' m)
     unfolding answers
-    answering (Some error) r = still (error_reply setting.agent.name m error ∷ []) (λ z i e. error_quiet m error z i e)
-      where
-        no_request : (b : Option ℕ) (x : Exception) → is_request (Body.Error b x) ≡ true → ⊥
-        no_request b x e = absurd (cc)
-
-        error_quiet : (m : Message) (error : ErrorName) (z : Message) → Contains (error_reply setting.agent.name m error ∷ []) z → is_request z.body ≡ true → ⊥
-        error_quiet m error z i e = no_request (connection_of m.body) (plain setting.agent.name error) (sym (ap (λ (y : Message). is_request y.body) (only_one (error_reply setting.agent.name m error) z i)) ∙ e)
+    answering (Some error) r = refusing error
     answering None r = accepting (connection_of m.body) refl r
 
-    serving : (b : Bool) → Taken (serves b setting s' m)
-    serving true =
+    -- a query about all that is below asks no child to terminate
+    opening_query : (n : ℕ) (x : Sought) → EndsNothing x.asked → (b : Bool) → Taken (opens_query b setting s' n m x)
+    opening_query n x none true = still x.asked none
+    opening_query n x none false =
+        let reply = nested_reply setting.agent.name (record_at n s'.base.records) (query_opened m n x) in
+        still (reply ∷ []) (one_ends reply refl)
+
+    asking_below : (n : ℕ) → Taken (asks_below setting s' n m)
+    unfolding asks_below
+    asking_below n =
+        let x : Sought = seek setting.agent s'.base.next (children_at n s'.children) in
+        opening_query n x (below_ends setting.agent s'.base.next (children_at n s'.children)) (list_any is_asked x.parts)
+
+    telling_below : (b : Bool) (o : Option ℕ) → Taken (asks_if_own b o setting s' m)
+    telling_below true (Some n) = asking_below n
+    telling_below true None = refusing ErrorName.Nonexistent
+    telling_below false o = refusing ErrorName.WrongProvider
+
+    querying : (b : Bool) → Taken (queries b setting s' m)
+    querying true = telling_below (bytes_eq m.header.provider setting.agent.name) (place_named m s'.base.records)
+    querying false =
         let reply = query_reply setting.agent.name m (answer_to setting.agent.name s' m) in
-        still (reply ∷ []) (λ z i e. false≢true (sym (reply_asks_nothing setting.agent.name s' m) ∙ ap (λ (y : Message). is_request y.body) (sym (only_one reply z i)) ∙ e))
+        still (reply ∷ []) (one_ends reply (reply_asks_nothing setting.agent.name s' m))
+
+    serving : (b : Bool) → Taken (serves b setting s' m)
+    serving true = querying (is_recursive m.body)
     serving false = answering (refusal setting.agent.name setting.stp_of s'.base.records m) refl
 
   ---- Any entry
@@ -461,31 +506,33 @@ module _ (setting : Setting) (s : AgentState) (even : length s.children ≡ leng
   heard_entered : (m : Message) → Entered (Input.Got m) (hears setting (sees m s) m)
   unfolding hears saw
   heard_entered m =
-      weaker_turned setting.agent.name (λ n. Honest setting.agent (sees m s).base.now m (record_at n s.base.records) (children_at n s.children)) _ s.base.records _ s.children _ _ (λ n asked h. h m refl)
-      (heard_turned setting.agent (sees m s).base.now m 0 (sees m s).base.next s.base.records s.children)
+      let p : Passed = hear_all setting.agent (sees m s).base.now 0 m (sees m s).base.next s.base.records s.children in
+      beside_turned setting.agent.name _ s.base.records p.records s.children p.children p.out (hear_below setting.agent.name s.base.records m s.queries).out (answers_end setting.agent.name s.base.records m s.queries)
+      (weaker_turned setting.agent.name (λ n. Honest setting.agent (sees m s).base.now m (record_at n s.base.records) (children_at n s.children)) _ s.base.records p.records s.children p.children p.out (λ n asked h. h m refl)
+      (heard_turned setting.agent (sees m s).base.now m 0 (sees m s).base.next s.base.records s.children))
 
   receiving : (m : Message) (a b : Bool) → is_request m.body ≡ a → Entered (Input.Got m) (receives a b setting s m)
   unfolding receives saw
   receiving m true false q =
       anything_entered (Input.Got m) (serves (is_query m.body) setting (sees m s) m) (serving (sees m s) refl refl m (is_query m.body))
   receiving m false false q = heard_entered m
-  receiving m true true q = anything_entered (Input.Got m) (stays s) (rests [] none_said)
-  receiving m false true q = anything_entered (Input.Got m) (stays s) (rests [] none_said)
+  receiving m true true q = anything_entered (Input.Got m) (stays s) (rests [] none_ends)
+  receiving m false true q = anything_entered (Input.Got m) (stays s) (rests [] none_ends)
 
   ticks_entered : (now : ℕ) → HasTurned setting.agent.name (λ n. Anything) s.base.records s.children (ticks setting now s).state.base.records (ticks setting now s).state.children (ticks setting now s).out
   unfolding ticks
   ticks_entered now =
       rest_turned setting.agent.name (λ n. Anything) s.base.records _ s.children s.children _ (λ n. clock_as setting.agent now 0 s.dues s.base.waiting s.base.next s.base.records n) refl
-      (λ m i e. clock_quiet setting.agent now 0 s.dues s.base.waiting s.base.next s.base.records m i e)
+      (clock_ends setting.agent now 0 s.dues s.base.waiting s.base.next s.base.records)
 
   step_entered : (input : Input) (second : ℕ) → Entered input (step input second setting s)
   unfolding step
   step_entered (Input.Got m) second = receiving m (is_request m.body) (is_seen s m) refl
   step_entered Input.Tick second = anything_entered Input.Tick (ticks setting second s) (ticks_entered second)
-  step_entered (Input.Acked i) second = anything_entered (Input.Acked i) (stays (acknowledged i s)) (rests [] none_said)
-  step_entered (Input.Work n machine) second = anything_entered (Input.Work n machine) (stays s) (rests [] none_said)
-  step_entered (Input.Force n) second = anything_entered (Input.Force n) (stays s) (rests [] none_said)
-  step_entered (Input.Ask n ask) second = anything_entered (Input.Ask n ask) (stays s) (rests [] none_said)
+  step_entered (Input.Acked i) second = anything_entered (Input.Acked i) (stays (acknowledged i s)) (rests [] none_ends)
+  step_entered (Input.Work n machine) second = anything_entered (Input.Work n machine) (stays s) (rests [] none_ends)
+  step_entered (Input.Force n) second = anything_entered (Input.Force n) (stays s) (rests [] none_ends)
+  step_entered (Input.Ask n ask) second = anything_entered (Input.Ask n ask) (stays s) (rests [] none_ends)
 
   pub entered : (e : Entry) → Entered e.input (after setting s e)
   unfolding after
@@ -493,7 +540,7 @@ module _ (setting : Setting) (s : AgentState) (even : length s.children ≡ leng
     where
       by_test : (b : Bool) → Entered e.input (after_if b setting s e)
       by_test true = step_entered e.input e.second
-      by_test false = anything_entered e.input (stays s) (rests [] none_said)
+      by_test false = anything_entered e.input (stays s) (rests [] none_ends)
 
 ---- The laws
 

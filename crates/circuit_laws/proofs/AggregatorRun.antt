@@ -46,6 +46,7 @@ use Rattle.requester_agent.specs.Views.{asks_if_free, asks_if_known}
 use Rattle.aggregator_agent.specs.Asking.{next_after, asked_view, next_behind, each, request_if, may_abort, reserve_if, passed_on, views_of, with_path}
 use Rattle.aggregator_agent.specs.Settling.{is_held, checked, reservation_verdict, reservation_due, provision_verdict, provision_due, settles_reservation, settles_provision, closes_unless, settles, settle}
 use Rattle.aggregator_agent.specs.Turns.{tell_joined, pass_on, takes, turn_by_request, request_turn, is_timed_out, is_ended, hold_end_by, force_by, hold_ends, force_ends, heard_by, turn_by_answer, answer_turn, spoken}
+use Rattle.aggregator_agent.specs.Below.{part_of}
 use Rattle.aggregator_agent.specs.Clock.{due_for}
 use Rattle.aggregator_agent.specs.Setting.{setting_of, agent_in}
 use Rattle.aggregator_agent.specs.Steps.{request_at, answers, pass_then, hear_all, hears, receives, step, after}
@@ -206,7 +207,7 @@ pub record IsRow : Type 0 where
   pub which_has_it : IsBackedIn homes whole 2 0 (view whole 0) 0 (id_of 2 4)
 
 pub row : IsRow
-unfolding kind_number connection_of named_connection reservation_row provision_row lifecycle_row status joined announces is_heard with_heard is_old saw is_taken with_taken lack_at first_from first_lack_by places asks_child request_about reserve_for child_hears is_kind open_request reservation_closing provision_closing closes moves requested provided is_terminating record_waits record_work tells_plane record_tells demand provision_event provisions lifecycle_event lives event_of is_live is_working record_worked record_reserves has_row is_in_place unnamed_refusal modification_refusal refusal lacks_among capacities_among works provider_receives provider_step provider_after find_view requester_answers asks_at asks_new asks_found reserves asked_of requester_asked hears_if requester_step requester_after asks_if_free asks_if_known next_after asked_view next_behind each request_if may_abort reserve_if passed_on views_of with_path is_held checked reservation_verdict reservation_due provision_verdict provision_due settles_reservation settles_provision closes_unless settles settle tell_joined pass_on takes turn_by_request request_turn is_timed_out is_ended hold_end_by force_by hold_ends force_ends heard_by turn_by_answer answer_turn spoken due_for request_at answers pass_then hear_all hears receives step after home_in after_as goes_on world_after
+unfolding kind_number connection_of named_connection reservation_row provision_row lifecycle_row status joined announces is_heard with_heard is_old saw is_taken with_taken lack_at first_from first_lack_by places asks_child request_about reserve_for child_hears is_kind open_request reservation_closing provision_closing closes moves requested provided is_terminating record_waits record_work tells_plane record_tells demand provision_event provisions lifecycle_event lives event_of is_live is_working record_worked record_reserves has_row is_in_place unnamed_refusal modification_refusal refusal lacks_among capacities_among works provider_receives provider_step provider_after find_view requester_answers asks_at asks_new asks_found reserves asked_of requester_asked hears_if requester_step requester_after asks_if_free asks_if_known next_after asked_view next_behind each request_if may_abort reserve_if passed_on views_of with_path is_held checked reservation_verdict reservation_due provision_verdict provision_due settles_reservation settles_provision closes_unless settles settle tell_joined pass_on takes turn_by_request request_turn is_timed_out is_ended hold_end_by force_by hold_ends force_ends heard_by turn_by_answer answer_turn spoken due_for request_at answers pass_then hear_all part_of hears receives step after home_in after_as goes_on world_after
 row =
     record {
       the_aggregator_is_an_agent = refl;
@@ -232,7 +233,7 @@ pub record IsSecondRow : Type 0 where
   pub has_it_by_another_commit : IsBackedIn homes whole 2 1 (view whole 1) 0 (id_of 2 5)
 
 pub second_row : IsSecondRow
-unfolding kind_number connection_of named_connection reservation_row provision_row lifecycle_row status joined announces is_heard with_heard is_old saw is_taken with_taken lack_at first_from first_lack_by places asks_child request_about reserve_for child_hears is_kind open_request reservation_closing provision_closing closes moves requested provided is_terminating record_waits record_work tells_plane record_tells demand provision_event provisions lifecycle_event lives event_of is_live is_working record_worked record_reserves has_row is_in_place unnamed_refusal modification_refusal refusal lacks_among capacities_among works provider_receives provider_step provider_after find_view requester_answers asks_at asks_new asks_found reserves asked_of requester_asked hears_if requester_step requester_after asks_if_free asks_if_known next_after asked_view next_behind each request_if may_abort reserve_if passed_on views_of with_path is_held checked reservation_verdict reservation_due provision_verdict provision_due settles_reservation settles_provision closes_unless settles settle tell_joined pass_on takes turn_by_request request_turn is_timed_out is_ended hold_end_by force_by hold_ends force_ends heard_by turn_by_answer answer_turn spoken due_for request_at answers pass_then hear_all hears receives step after home_in after_as goes_on world_after
+unfolding kind_number connection_of named_connection reservation_row provision_row lifecycle_row status joined announces is_heard with_heard is_old saw is_taken with_taken lack_at first_from first_lack_by places asks_child request_about reserve_for child_hears is_kind open_request reservation_closing provision_closing closes moves requested provided is_terminating record_waits record_work tells_plane record_tells demand provision_event provisions lifecycle_event lives event_of is_live is_working record_worked record_reserves has_row is_in_place unnamed_refusal modification_refusal refusal lacks_among capacities_among works provider_receives provider_step provider_after find_view requester_answers asks_at asks_new asks_found reserves asked_of requester_asked hears_if requester_step requester_after asks_if_free asks_if_known next_after asked_view next_behind each request_if may_abort reserve_if passed_on views_of with_path is_held checked reservation_verdict reservation_due provision_verdict provision_due settles_reservation settles_provision closes_unless settles settle tell_joined pass_on takes turn_by_request request_turn is_timed_out is_ended hold_end_by force_by hold_ends force_ends heard_by turn_by_answer answer_turn spoken due_for request_at answers pass_then hear_all part_of hears receives step after home_in after_as goes_on world_after
 second_row =
     record {
       the_second_provider = record { agent = refl; named = refl; other = λ e. cc; asked = refl };
@@ -258,7 +259,7 @@ pub record IsUpperRow : Type 0 where
   pub as_the_aggregator_has : IsBackedIn homes whole 3 2 lab_view 0 (id_of 3 2)
 
 pub upper_row : IsUpperRow
-unfolding kind_number connection_of named_connection reservation_row provision_row lifecycle_row status joined announces is_heard with_heard is_old saw is_taken with_taken lack_at first_from first_lack_by places asks_child request_about reserve_for child_hears is_kind open_request reservation_closing provision_closing closes moves requested provided is_terminating record_waits record_work tells_plane record_tells demand provision_event provisions lifecycle_event lives event_of is_live is_working record_worked record_reserves has_row is_in_place unnamed_refusal modification_refusal refusal lacks_among capacities_among works provider_receives provider_step provider_after find_view requester_answers asks_at asks_new asks_found reserves asked_of requester_asked hears_if requester_step requester_after asks_if_free asks_if_known next_after asked_view next_behind each request_if may_abort reserve_if passed_on views_of with_path is_held checked reservation_verdict reservation_due provision_verdict provision_due settles_reservation settles_provision closes_unless settles settle tell_joined pass_on takes turn_by_request request_turn is_timed_out is_ended hold_end_by force_by hold_ends force_ends heard_by turn_by_answer answer_turn spoken due_for request_at answers pass_then hear_all hears receives step after home_in after_as goes_on world_after
+unfolding kind_number connection_of named_connection reservation_row provision_row lifecycle_row status joined announces is_heard with_heard is_old saw is_taken with_taken lack_at first_from first_lack_by places asks_child request_about reserve_for child_hears is_kind open_request reservation_closing provision_closing closes moves requested provided is_terminating record_waits record_work tells_plane record_tells demand provision_event provisions lifecycle_event lives event_of is_live is_working record_worked record_reserves has_row is_in_place unnamed_refusal modification_refusal refusal lacks_among capacities_among works provider_receives provider_step provider_after find_view requester_answers asks_at asks_new asks_found reserves asked_of requester_asked hears_if requester_step requester_after asks_if_free asks_if_known next_after asked_view next_behind each request_if may_abort reserve_if passed_on views_of with_path is_held checked reservation_verdict reservation_due provision_verdict provision_due settles_reservation settles_provision closes_unless settles settle tell_joined pass_on takes turn_by_request request_turn is_timed_out is_ended hold_end_by force_by hold_ends force_ends heard_by turn_by_answer answer_turn spoken due_for request_at answers pass_then hear_all part_of hears receives step after home_in after_as goes_on world_after
 upper_row =
     record {
       the_requester_knows_its_provider = record { agent = refl; named = refl; other = λ e. cc; asked = refl };
@@ -285,7 +286,7 @@ pub record IsRowWithout : Type 0 where
   pub by_all_that_is_synced : IsCutOf without 2 8
 
 pub row_without : IsRowWithout
-unfolding kind_number connection_of named_connection reservation_row provision_row lifecycle_row status joined announces is_heard with_heard is_old saw is_taken with_taken lack_at first_from first_lack_by places asks_child request_about reserve_for child_hears is_kind open_request reservation_closing provision_closing closes moves requested provided is_terminating record_waits record_work tells_plane record_tells demand provision_event provisions lifecycle_event lives event_of is_live is_working record_worked record_reserves has_row is_in_place unnamed_refusal modification_refusal refusal lacks_among capacities_among works provider_receives provider_step provider_after find_view requester_answers asks_at asks_new asks_found reserves asked_of requester_asked hears_if requester_step requester_after asks_if_free asks_if_known next_after asked_view next_behind each request_if may_abort reserve_if passed_on views_of with_path is_held checked reservation_verdict reservation_due provision_verdict provision_due settles_reservation settles_provision closes_unless settles settle tell_joined pass_on takes turn_by_request request_turn is_timed_out is_ended hold_end_by force_by hold_ends force_ends heard_by turn_by_answer answer_turn spoken due_for request_at answers pass_then hear_all hears receives step after home_in after_as goes_on world_after
+unfolding kind_number connection_of named_connection reservation_row provision_row lifecycle_row status joined announces is_heard with_heard is_old saw is_taken with_taken lack_at first_from first_lack_by places asks_child request_about reserve_for child_hears is_kind open_request reservation_closing provision_closing closes moves requested provided is_terminating record_waits record_work tells_plane record_tells demand provision_event provisions lifecycle_event lives event_of is_live is_working record_worked record_reserves has_row is_in_place unnamed_refusal modification_refusal refusal lacks_among capacities_among works provider_receives provider_step provider_after find_view requester_answers asks_at asks_new asks_found reserves asked_of requester_asked hears_if requester_step requester_after asks_if_free asks_if_known next_after asked_view next_behind each request_if may_abort reserve_if passed_on views_of with_path is_held checked reservation_verdict reservation_due provision_verdict provision_due settles_reservation settles_provision closes_unless settles settle tell_joined pass_on takes turn_by_request request_turn is_timed_out is_ended hold_end_by force_by hold_ends force_ends heard_by turn_by_answer answer_turn spoken due_for request_at answers pass_then hear_all part_of hears receives step after home_in after_as goes_on world_after
 row_without =
     record {
       the_second_provider_has_none = refl;

@@ -19,7 +19,7 @@ use Rattle.requester_agent.specs.Setting.{Setting as RequesterSetting}
 use Rattle.nsi_agent.specs.Homes.{Role, provides, aggregates, requests, Routes, AreRoutes, home_in}
 use Rattle.nsi_agent.specs.Told.{Asks}
 use Rattle.nsi_agent.proofs.RequesterSays.{AreLaws, IsOf}
-use Rattle.nsi_agent.proofs.AggregatorSays.{IsChild}
+use Rattle.nsi_agent.proofs.Below.{IsChild}
 use Rattle.nsi_world.specs.Worlds.{Homes, IsAgent, World, empty}
 use Rattle.nsi_world.specs.Runs.{world_after, AreAllowed}
 use Rattle.nsi_world.specs.Laws.{HeardWasSent}
@@ -85,8 +85,9 @@ module _ (laws : AreLaws) (heard : HeardWasSent) (t : Network) (routes : Routes)
       let here : slice_get xs its.0 ≡ Some x = place_there xs x its in
       let there : slice_get s.children n ≡ Some xs = list_there s.children n its.0 x here in
       let P : List ChildConnection → Type 0 = λ ys. All (IsChild (Asks (aggregates setting))) ys in
+      let held : AreOf (aggregates setting) s = subst (λ (r : Role). AreOf r s) e are_of in
       let of : Asks (aggregates setting) x.child =
-      All-contains (IsChild (Asks (aggregates setting))) xs x (All-get_or P s.children n [] (slice_get_within s.children n xs there) (subst (λ (r : Role). AreOf r s) e are_of)) its
+      All-contains (IsChild (Asks (aggregates setting))) xs x (All-get_or P s.children n [] (slice_get_within s.children n xs there) held.children) its
       in
       let (b, its_child) = child (aggregates setting) e x.child of in (
         b,

@@ -6,7 +6,7 @@ use Rattle.std.proofs.lemmas.List.{get_or_default}
 use Rattle.std.proofs.lemmas.List.Elements.{All-weaker, All-take, All-contains}
 use Rattle.std.proofs.lemmas.Option.{get_or_from_slice_get}
 use Rattle.std.proofs.lemmas.Slice.Eq.{bytes_eq-Decides}
-use Rattle.nsi_primitive.specs.Messages.{is_request}
+use Rattle.nsi_primitive.specs.Messages.{has_rows, is_request}
 use Rattle.nsi_primitive.specs.declared.entry.Entry.{Entry}
 use Rattle.nsi_primitive.specs.declared.entry.Event.{Event}
 use Rattle.nsi_primitive.specs.declared.entry.Input.{Input}
@@ -18,6 +18,7 @@ use Rattle.nsi_primitive.specs.declared.message.Message.{Message}
 use Rattle.nsi_primitive.specs.declared.message.ReserveConfirmation.{ReserveConfirmation}
 use Rattle.nsi_primitive.specs.declared.message.ReserveRequest.{ReserveRequest}
 use Rattle.record_index.proofs.Members.{nothing_in}
+use Rattle.child_connection.specs.Hearing.{Heard}
 use Rattle.child_connection.specs.Views.{ChildConnection, sent}
 use Rattle.connection_record.specs.declared.record.Record.{Record}
 use Rattle.connection_record.specs.Moves.{is_live}
@@ -43,6 +44,7 @@ use Rattle.run_identities.proofs.Sent.{Given, given_in, agents_same, front, got_
 use Rattle.run_identities.proofs.Worlds.{grown_fair, synced_cut, cut_at}
 use Rattle.circuit_link.specs.Children.{Child, about, header_of, IsFair}
 use Rattle.circuit_link.specs.Serving.{child_of}
+use Rattle.circuit_link.proofs.Hearing.{rows_unheard}
 use Rattle.circuit_pairs.specs.Pairs.{IsAsked, IsReserveOf, IsTerminateOf, IsPair}
 use Rattle.circuit_pairs.specs.Minding.{no_child, mine}
 use Rattle.circuit_pairs.proofs.Minding.{connected, notice_alike}
@@ -83,6 +85,15 @@ quiet_honest parent asked lives b c x e =
       stays = λ id g. (notice_alike b c x e).connection ∙ g;
       confirms = λ f v g. absurd (true≢false (ap is_answering (sym g) ∙ e));
       refuses = λ o x' l g. absurd (true≢false (ap is_answering (sym g) ∙ e));
+    }
+
+-- nor do rows
+rows_honest : (parent : List ℕ) (asked : List Message) (lives : Bool) (b : Body) (c : ℕ) (x : ChildConnection) → has_rows b ≡ true → IsHonest parent asked lives b c x
+rows_honest parent asked lives b c x e =
+    record {
+      stays = λ id g. ap (λ (z : Heard). z.view.connection) (rows_unheard b c x e) ∙ g;
+      confirms = λ f v g. absurd (true≢false (sym e ∙ ap has_rows g));
+      refuses = λ o x' l g. absurd (true≢false (sym e ∙ ap has_rows g));
     }
 
 reserve_same : (p q : ReserveRequest) → Body.Reserve p ≡ Body.Reserve q → p ≡ q
@@ -145,7 +156,7 @@ module _ (own_law : WhatIsSaidIsItsOwn) (homes : Homes) (given : Given homes) (a
 
     ---- One child
 
-    module _ (ended : AllEnd mine_told.out mine_told.state) (m : Message) (came : IsSent homes (all_synced journal) m) (to : IsTo homes a m) (e : is_answering m.body ≡ true) (z : IsAnswerer m) where
+    module _ (ended : AllEnd mine_told.out mine_told.state) (m : Message) (came : IsSent homes (all_synced journal) m) (to : IsTo homes a m) (e : is_answering m.body ≡ true) (rowless : has_rows m.body ≡ false) (z : IsAnswerer m) where
       abbrev child : List ℕ
       child = name_in (homes z.b).role
 
@@ -165,7 +176,7 @@ module _ (own_law : WhatIsSaidIsItsOwn) (homes : Homes) (given : Given homes) (a
       fair_child = told_fair (homes z.b) (journal z.b) parent
 
       said : Contains (about (header_of parent child m.header.correlation) their_child.said) m.body
-      said = answer_said homes given a z.b agent z.other journal grown m came to e (sym z.named)
+      said = answer_said homes given a z.b agent z.other journal grown m came to e rowless (sym z.named)
 
       -- a view that is there, by its place
       slot_is : (n k : ℕ) (d : ChildConnection) → k < length (children_at n mine_told.state.children) → (get_or (children_at n mine_told.state.children) k d).child ≡ child → views (n, k) ≡ get_or (children_at n mine_told.state.children) k d
@@ -213,11 +224,12 @@ module _ (own_law : WhatIsSaidIsItsOwn) (homes : Homes) (given : Given homes) (a
 
     -- whatever comes
     all_honest : AllEnd mine_told.out mine_told.state → (m : Message) → IsSent homes (all_synced journal) m → IsTo homes a m → AllHonest parent mine_told.out mine_told.state m
-    all_honest ended m came to n k d l p = by_kind (is_answering m.body) refl
+    all_honest ended m came to n k d l p = by_kind (is_answering m.body) (has_rows m.body) refl refl
       where
-        by_kind : (t : Bool) → is_answering m.body ≡ t → IsHonest parent mine_told.out (is_live (record_at n mine_told.state.base.records).lsm) m.body m.header.correlation (get_or (children_at n mine_told.state.children) k d)
-        by_kind true e = honest_view ended m came to e (answerer m came to e) n k d l p
-        by_kind false e = quiet_honest parent mine_told.out (is_live (record_at n mine_told.state.base.records).lsm) m.body m.header.correlation (get_or (children_at n mine_told.state.children) k d) e
+        by_kind : (t r : Bool) → is_answering m.body ≡ t → has_rows m.body ≡ r → IsHonest parent mine_told.out (is_live (record_at n mine_told.state.base.records).lsm) m.body m.header.correlation (get_or (children_at n mine_told.state.children) k d)
+        by_kind true true e h = rows_honest parent mine_told.out (is_live (record_at n mine_told.state.base.records).lsm) m.body m.header.correlation (get_or (children_at n mine_told.state.children) k d) h
+        by_kind true false e h = honest_view ended m came to e h (answerer m came to e) n k d l p
+        by_kind false r e h = quiet_honest parent mine_told.out (is_live (record_at n mine_told.state.base.records).lsm) m.body m.header.correlation (get_or (children_at n mine_told.state.children) k d) e
 
   ---- Every journal
 

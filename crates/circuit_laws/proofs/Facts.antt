@@ -1,7 +1,7 @@
 -- What a parent and its child know of each other, where journals are made by entries alone.
-use Rattle.std.proofs.Common.{ℕ, ◌≤◌, ◌≡◌, ◌∙◌, Bool, true, false, List, ◌==◌, Contains, refl, sym, ap, subst, arith, nat_lt, eq-eqb}
+use Rattle.std.proofs.Common.{ℕ, ◌≤◌, ◌≡◌, ◌∙◌, Bool, true, false, List, ◌==◌, Contains, inl, inr, refl, sym, ap, subst, arith, nat_lt, eq-eqb}
 use Rattle.nsi_primitive.specs.Ids.{id_of}
-use Rattle.nsi_primitive.specs.Messages.{is_request}
+use Rattle.nsi_primitive.specs.Messages.{has_rows, is_request}
 use Rattle.nsi_primitive.specs.declared.entry.Entry.{Entry}
 use Rattle.nsi_primitive.specs.declared.message.Body.{Body}
 use Rattle.nsi_primitive.specs.declared.message.Header.{Header}
@@ -21,7 +21,7 @@ use Rattle.agent_speech.proofs.Spoken.{asked_by, request_once, taken_came}
 use Rattle.run_identities.specs.Cuts.{all_synced, IsGrown}
 use Rattle.run_identities.proofs.Sent.{Given, agents_same, got_sent, request_by, answer_by, to_requester, request_asks, answer_asks}
 use Rattle.run_identities.proofs.Worlds.{synced_whole, grown_fair}
-use Rattle.circuit_link.specs.Children.{about, header_of, IsFair}
+use Rattle.circuit_link.specs.Children.{about, header_of, MayReach, IsFair}
 use Rattle.circuit_link.specs.Serving.{child_of}
 use Rattle.circuit_link.proofs.Answering.{none_there}
 use Rattle.circuit_link.proofs.Abouts.{header_itself, headers_same, said_under}
@@ -35,11 +35,11 @@ pub told_fair : (h : Home) (es : List Entry) (parent : List ℕ) → IsFair pare
 told_fair h es parent =
     record {
       silent = λ c u. none_there (about (header_of parent (name_in h.role) c) (told h es).out) (λ b i. silent c u b i);
-      unowed = λ c n k u o. unowed (name_in h.role) (drawer_of h.role) (told h es).state.base (told h es).out once parent c n k u o;
-      ids = λ n k l m e. ids_apart (name_in h.role) (drawer_of h.role) (told h es).state.base (told h es).out once n k l m (sym e);
+      unowed = λ c n k u o. unowed (name_in h.role) (drawer_of h.role) (told h es).state (told h es).out once parent c n k u o;
+      ids = λ n k l m e. ids_apart (name_in h.role) (drawer_of h.role) (told h es).state (told h es).out once n k l m (sym e);
     }
   where
-    once : HasSaidOnce (name_in h.role) (drawer_of h.role) (told h es).state.base (told h es).out
+    once : HasSaidOnce (name_in h.role) (drawer_of h.role) (told h es).state (told h es).out
     once = nothing_is_said_twice h es
 
     counts : (g : Header) (m : Message) → is_answering m.body ≡ true → is_same_request g m.header ≡ true → answers_to g (number_of m.body) m ≡ true
@@ -50,7 +50,7 @@ told_fair h es parent =
         let s = said_under (header_of parent (name_in h.role) c) b (told h es).out i in
         omega (
           arith,
-          (unsaid (name_in h.role) (drawer_of h.role) (told h es).state.base (told h es).out once (header_of parent (name_in h.role) c) (number_of s.message.body) u).0,
+          (unsaid (name_in h.role) (drawer_of h.role) (told h es).state (told h es).out once (header_of parent (name_in h.role) c) (number_of s.message.body) u).0,
           tally_in (answers_to (header_of parent (name_in h.role) c) (number_of s.message.body)) s.message (told h es).out s.there
               (counts (header_of parent (name_in h.role) c) s.message s.answering s.header),
         )
@@ -69,7 +69,7 @@ pub undrawn : (h : Home) (es : List Entry) (k : ℕ) → (told h es).state.base.
 unfolding before
 undrawn h es k l m i e f =
     let c : ℕ = id_of (drawer_of h.role) k in
-    let once : HasSaidOnce (name_in h.role) (drawer_of h.role) (told h es).state.base (told h es).out = nothing_is_said_twice h es in
+    let once : HasSaidOnce (name_in h.role) (drawer_of h.role) (told h es).state (told h es).out = nothing_is_said_twice h es in
     omega (
       arith,
       tally_in (is_drawn c) m (told h es).out i (drawn m c (request_asks m e) f),
@@ -118,9 +118,9 @@ module _ (homes : Homes) (given : Given homes) (a b : ℕ) (agent : IsAgent home
       (q.message, request_said q.message c.0 q.request (ap (λ (g : Header). g.requester) q.header ∙ r), q.header, q.request)
 
   -- an answer of the child that the parent may hear was said to it
-  pub answer_said : (m : Message) → IsSent homes (all_synced journal) m → IsTo homes a m → is_answering m.body ≡ true → m.header.provider ≡ child →
+  pub answer_said : (m : Message) → IsSent homes (all_synced journal) m → IsTo homes a m → is_answering m.body ≡ true → has_rows m.body ≡ false → m.header.provider ≡ child →
       Contains (about (header_of parent child m.header.correlation) theirs.out) m.body
-  answer_said m s to e p =
+  answer_said m s to e rowless p =
       let z : ℕ = s.0 in
       let name : (homes z).name ≡ (homes b).name = answer_by homes given (all_synced journal) fair z m s.1 e ∙ (p ∙ given.named b) in
       let same : z ≡ b = agents_same homes given (all_synced journal) fair z b s.1.0 other name in
@@ -132,8 +132,16 @@ module _ (homes : Homes) (given : Given homes) (a b : ℕ) (agent : IsAgent home
       let header : m.header ≡ header_of parent child m.header.correlation =
       headers_same m.header.correlation m.header.correlation m.header.requester parent m.header.provider child refl own p
       in
-      about_in (header_of parent child m.header.correlation) m theirs.out there e
+      about_in (header_of parent child m.header.correlation) m theirs.out there e rowless
       (subst (λ (g : Header). is_same_request (header_of parent child m.header.correlation) g ≡ true) (sym header) (header_itself (header_of parent child m.header.correlation)))
+
+  pub answer_reaches : (m : Message) → IsSent homes (all_synced journal) m → IsTo homes a m → is_answering m.body ≡ true → m.header.provider ≡ child →
+      MayReach (header_of parent child m.header.correlation) theirs.out m.body
+  answer_reaches m s to e p = by_rows (has_rows m.body) refl
+    where
+      by_rows : (t : Bool) → has_rows m.body ≡ t → MayReach (header_of parent child m.header.correlation) theirs.out m.body
+      by_rows true r = inr r
+      by_rows false r = inl (answer_said m s to e r p)
 
   -- no id that the parent hasn't drawn was asked under, nor taken
   pub told_fresh : IsFresh parent child (drawer_of (homes a).role) (child_of theirs.state.base theirs.out) mine.state.base.next mine.out

@@ -23,7 +23,7 @@ use Rattle.circuit_pairs.specs.Laws.{CanTellApart}
 use Rattle.circuit_pairs.proofs.Serving.{serving_pair}
 use Rattle.circuit_pairs.proofs.Starting.{start_pair}
 use Rattle.circuit_laws.proofs.Roles.{Keeps, serves_as, even_from}
-use Rattle.circuit_laws.proofs.Facts.{told_fair, told_once, told_fresh, request_said, answer_said}
+use Rattle.circuit_laws.proofs.Facts.{told_fair, told_once, told_fresh, request_said, answer_reaches}
 
 pub told_none : (h : Home) → told h [] ≡ record { state = blank_agent; out = [] }
 unfolding goes_on
@@ -59,7 +59,7 @@ module _ (homes : Homes) (given : Given homes) (a b : ℕ) (agent : IsAgent home
         (keeps (child_of (at_second (journal b)).state.base (at_second (journal b)).out) (at_first (journal a)).out (at_first (journal a)).state e
         (even_from (homes a) (journal a) blank_agent (blank_is_even (homes a))) (told_fair (homes b) (journal b) (name_in (homes a).role)) (told_once (homes a) (journal a))
         (told_fresh homes given a b agent other journal grown)
-        (λ m i r p. let c = came m i in answer_said homes given a b agent other journal grown m c.0 c.1 r p) pair)
+        (λ m i r p. let c = came m i in answer_reaches homes given a b agent other journal grown m c.0 c.1 r p) pair)
 
     -- an entry of the child
     second_more : Came b → Paired (at_first (journal a)) (at_second (journal b ++ e ∷ []))

@@ -1,6 +1,7 @@
 -- What agents of each kind do, as their parents and their children see it.
-use Rattle.std.proofs.Common.{ℕ, ◌≡◌, Bool, true, false, List, [], ◌∷◌, ◌++◌, ◌&&◌, if◌then◌else◌, Contains, sym, ap, subst, inl, inr}
+use Rattle.std.proofs.Common.{ℕ, ◌≡◌, Bool, true, false, not, List, [], ◌∷◌, ◌++◌, ◌&&◌, if◌then◌else◌, Contains, sym, ap, subst, inl, inr}
 use Rattle.record_index.proofs.Members.{nothing_in, contains_first}
+use Rattle.nsi_primitive.specs.Messages.{has_rows}
 use Rattle.nsi_primitive.specs.declared.entry.Entry.{Entry}
 use Rattle.nsi_primitive.specs.declared.entry.Input.{Input}
 use Rattle.nsi_primitive.specs.declared.message.Body.{Body}
@@ -18,7 +19,7 @@ use Rattle.nsi_agent.specs.Told.{goes_on, name_in, drawer_of}
 use Rattle.nsi_world.specs.Runs.{is_requester}
 use Rattle.agent_speech.specs.Laws.{IsEven}
 use Rattle.agent_speech.proofs.Every.{entries_keep_even}
-use Rattle.circuit_link.specs.Children.{Child, about, header_of, IsFair}
+use Rattle.circuit_link.specs.Children.{Child, is_for_views, about, header_of, MayReach, IsFair}
 use Rattle.circuit_link.specs.Serving.{child_of, Serves}
 use Rattle.circuit_link.proofs.Answering.{first_there, later_there}
 use Rattle.circuit_link.proofs.Providers.{provider_serves}
@@ -44,7 +45,7 @@ abbrev pub Keeps : (I : Type 0) → Role → List ℕ → (AgentState → I → 
 Keeps I role child views =
     (d : Child) (asked : List Message) (s : AgentState) (e : Entry) → IsEven role s → IsFair (name_in role) child d → IsOnce (name_in role) asked →
     IsFresh (name_in role) child (drawer_of role) d s.base.next asked →
-    ((m : Message) → e.input ≡ Input.Got m → is_answering m.body ≡ true → m.header.provider ≡ child → Contains (about (header_of (name_in role) child m.header.correlation) d.said) m.body) →
+    ((m : Message) → e.input ≡ Input.Got m → is_answering m.body ≡ true → m.header.provider ≡ child → MayReach (header_of (name_in role) child m.header.correlation) d.said m.body) →
     IsPair I (name_in role) child (views s) asked d → IsPair I (name_in role) child (views (after_as role s e).state) (asked ++ (after_as role s e).out) d
 
 abbrev pub views_to : List ℕ → AgentState → ℕ → ChildConnection
@@ -75,18 +76,21 @@ even_from h (e ∷ es) s v = even_from h es (after h s e).state (entries_keep_ev
 
 ---- What was said under a header
 
-pub about_in : (h : Header) (m : Message) (out : List Message) → Contains out m → is_answering m.body ≡ true → is_same_request h m.header ≡ true → Contains (about h out) m.body
+pub about_in : (h : Header) (m : Message) (out : List Message) → Contains out m → is_answering m.body ≡ true → has_rows m.body ≡ false → is_same_request h m.header ≡ true → Contains (about h out) m.body
 unfolding about
-about_in h m [] c a r = absurd (nothing_in m c)
-about_in h m (n ∷ ns) c a r = elim (contains_first n m ns c) [
-  | inl e ↦ first (is_answering n.body) (is_same_request h n.header) (subst (λ (z : Message). is_answering z.body ≡ true) e a) (subst (λ (z : Message). is_same_request h z.header ≡ true) e r) e
-  | inr k ↦ later (is_answering n.body && is_same_request h n.header) (about_in h m ns k a r)
+about_in h m [] c a w r = absurd (nothing_in m c)
+about_in h m (n ∷ ns) c a w r = elim (contains_first n m ns c) [
+  | inl e ↦
+      first (is_answering n.body) (has_rows n.body) (is_same_request h n.header) (subst (λ (z : Message). is_answering z.body ≡ true) e a) (subst (λ (z : Message). has_rows z.body ≡ false) e w)
+      (subst (λ (z : Message). is_same_request h z.header ≡ true) e r) e
+  | inr k ↦ later (is_for_views n.body && is_same_request h n.header) (about_in h m ns k a w r)
 ]
   where
-    first : (x y : Bool) → x ≡ true → y ≡ true → m ≡ n → Contains (if x && y then n.body ∷ about h ns else about h ns) m.body
-    first true true p q e = subst (λ (b : Body). Contains (n.body ∷ about h ns) b) (sym (ap (λ (z : Message). z.body) e)) (first_there n.body (about h ns))
-    first true false p q e = absurd (cc)
-    first false y p q e = absurd (cc)
+    first : (x y z : Bool) → x ≡ true → y ≡ false → z ≡ true → m ≡ n → Contains (if (x && not y) && z then n.body ∷ about h ns else about h ns) m.body
+    first true false true p q r e = subst (λ (b : Body). Contains (n.body ∷ about h ns) b) (sym (ap (λ (z : Message). z.body) e)) (first_there n.body (about h ns))
+    first true false false p q r e = absurd (cc)
+    first true true z p q r e = absurd (cc)
+    first false y z p q r e = absurd (cc)
 
     later : (x : Bool) → Contains (about h ns) m.body → Contains (if x then n.body ∷ about h ns else about h ns) m.body
     later true j = later_there n.body m.body (about h ns) j

@@ -11,9 +11,10 @@ use Rattle.requester_agent.proofs.Entries.{after_is as requester_takes}
 use Rattle.nsi_agent.specs.Homes.{Role, provides, aggregates, requests, Home}
 use Rattle.nsi_agent.specs.Steps.{after, after_as, may_take_as}
 use Rattle.nsi_agent.specs.Told.{goes_on, told, name_in, Asks, IsFor, IsForIn}
-use Rattle.nsi_agent.proofs.ProviderSays.{CameFor}
+use Rattle.nsi_agent.proofs.ProviderSays.{CameFor, IsOwed}
 use Rattle.nsi_agent.proofs.RequesterSays.{AreLaws, IsOf, step_saying as requester_says}
-use Rattle.nsi_agent.proofs.AggregatorSays.{IsChild, step_saying as aggregator_says}
+use Rattle.nsi_agent.proofs.Below.{IsChild, IsOpen}
+use Rattle.nsi_agent.proofs.AggregatorSays.{IsHeld, step_saying as aggregator_says}
 use Rattle.nsi_agent.proofs.Staying.{left_out_by}
 use Rattle.nsi_world.specs.Worlds.{Homes, World}
 use Rattle.nsi_world.specs.Heard.{WasSent, IsHeard, IsFair}
@@ -21,14 +22,14 @@ use Rattle.run_identities.proofs.Sent.{Given}
 
 ---- One entry
 
+-- nothing is asked of an owner
+abbrev pub Any : List ℕ → Type 0
+Any name = Unit {0}
+
 abbrev pub AreOf : Role → AgentState → Type 0
 AreOf (provides setting stp_of) s = Unit {0}
-AreOf (aggregates setting) s = All (λ (xs : List ChildConnection). All (IsChild (Asks (aggregates setting))) xs) s.children
+AreOf (aggregates setting) s = IsHeld setting.agent.name (Asks (aggregates setting)) Any s
 AreOf (requests setting) s = All (IsOf setting.provider) s.views
-
--- nothing is asked of an owner
-abbrev Any : List ℕ → Type 0
-Any name = Unit {0}
 
 came : (name : List ℕ) (input : Input) → IsFor name input → CameFor name Any input
 came name (Input.Got m) for = λ asks. (sym (ap (λ (b : Bool). cond b m.header.provider m.header.requester) asks) ∙ for, tt)
@@ -43,7 +44,7 @@ unfolding after_as
 taken_of laws (provides setting stp_of) s e may for of = tt
 taken_of laws (aggregates setting) s e may for of =
     subst (λ (y : AgentStepped). AreOf (aggregates setting) y.state) (sym (aggregator_takes setting s e may))
-    (aggregator_says laws setting (Asks (aggregates setting)) Any (λ source dest k d l. (source, dest, _, Contains-get_or (setting.route source dest) k d l, refl)) e.input e.second s (λ k d l. tt) of (came setting.agent.name e.input for)).children
+    (aggregator_says laws setting (Asks (aggregates setting)) Any (λ source dest k d l. (source, dest, _, Contains-get_or (setting.route source dest) k d l, refl)) e.input e.second s of (came setting.agent.name e.input for)).held
 taken_of laws (requests setting) s e may for of =
     subst (λ (y : AgentStepped). AreOf (requests setting) y.state) (sym (requester_takes setting s e may)) (requester_says laws setting s of e.input e.second).views
 
@@ -64,7 +65,12 @@ of_from laws h (e ∷ es) s for of =
 
 blank_of : (role : Role) → AreOf role blank_agent
 blank_of (provides setting stp_of) = tt
-blank_of (aggregates setting) = All-nil (λ (xs : List ChildConnection). All (IsChild (Asks (aggregates setting))) xs)
+blank_of (aggregates setting) =
+    record {
+      owners = All-nil (IsOwed Any);
+      children = All-nil (λ (xs : List ChildConnection). All (IsChild (Asks (aggregates setting))) xs);
+      queries = All-nil (IsOpen setting.agent.name Any);
+    }
 blank_of (requests setting) = All-nil (IsOf setting.provider)
 
 ---- In a world

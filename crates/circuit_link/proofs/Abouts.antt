@@ -1,8 +1,9 @@
 -- The answers that a child has said under a header.
-use Rattle.std.proofs.Common.{ℕ, ◌≡◌, Bool, true, false, List, [], ◌∷◌, ◌++◌, Contains, ◌⊎◌, inl, inr, ◌==◌, ◌&&◌, ◌||◌, if◌then◌else◌, refl, sym, ap, ◌∙◌, subst, arith, bytes_eq}
+use Rattle.std.proofs.Common.{ℕ, ◌≡◌, Bool, true, false, not, List, [], ◌∷◌, ◌++◌, Contains, ◌⊎◌, inl, inr, ◌==◌, ◌&&◌, ◌||◌, if◌then◌else◌, refl, sym, ap, ◌∙◌, subst, arith, bytes_eq}
 use Rattle.std.proofs.lemmas.List.Elements.{Contains-append_left, Contains-append_right, Contains-append_cases}
 use Rattle.std.proofs.lemmas.Slice.Eq.{bytes_eq-Decides}
 use Rattle.std.specs.List.{list_any}
+use Rattle.nsi_primitive.specs.Messages.{has_rows}
 use Rattle.nsi_primitive.specs.declared.message.Body.{Body}
 use Rattle.nsi_primitive.specs.declared.message.Header.{Header}
 use Rattle.nsi_primitive.specs.declared.message.Message.{Message}
@@ -12,7 +13,7 @@ use Rattle.connection_record.specs.declared.moves.Reply.{Reply}
 use Rattle.connection_record.specs.Courses.{answering}
 use Rattle.connection_record.specs.Replies.{addressed}
 use Rattle.connection_record.specs.Speaking.{is_answering}
-use Rattle.circuit_link.specs.Children.{about, header_of}
+use Rattle.circuit_link.specs.Children.{is_for_views, about, header_of}
 use Rattle.circuit_link.proofs.Answering.{first_there, later_there}
 
 ---- Headers
@@ -87,7 +88,7 @@ taken_apart h g seen u n = taken_with h g seen u ∙ by_test (is_same_request h 
 pub about_append : (h : Header) (xs ys : List Message) → about h (xs ++ ys) ≡ about h xs ++ about h ys
 unfolding about
 about_append h [] ys = refl
-about_append h (m ∷ xs) ys = by_test (is_answering m.body && is_same_request h m.header) (about_append h xs ys)
+about_append h (m ∷ xs) ys = by_test (is_for_views m.body && is_same_request h m.header) (about_append h xs ys)
   where
     by_test : (b : Bool) → about h (xs ++ ys) ≡ about h xs ++ about h ys →
         (if b then m.body ∷ about h (xs ++ ys) else about h (xs ++ ys)) ≡ (if b then m.body ∷ about h xs else about h xs) ++ about h ys
@@ -103,71 +104,87 @@ about_left h xs ys b i = subst (λ w. Contains w b) (sym (about_append h xs ys))
 pub about_right : (h : Header) (xs ys : List Message) (b : Body) → Contains (about h ys) b → Contains (about h (xs ++ ys)) b
 about_right h xs ys b i = subst (λ w. Contains w b) (sym (about_append h xs ys)) (Contains-append_right (about h xs) (about h ys) b i)
 
--- an answer that was said under a header
+-- an answer for views that was said under a header
 pub record IsSaidUnder (h : Header) (b : Body) (out : List Message) : Type 0 where
   pub message : Message
   pub there : Contains out message
   pub body : message.body ≡ b
   pub answering : is_answering message.body ≡ true
+  pub rowless : has_rows message.body ≡ false
   pub header : is_same_request h message.header ≡ true
 
 pub said_under : (h : Header) (b : Body) (out : List Message) → Contains (about h out) b → IsSaidUnder h b out
 unfolding about
 said_under h b [] i = absurd (nothing_in b i)
-said_under h b (m ∷ ms) i = by_test (is_answering m.body) (is_same_request h m.header) refl refl (said_under h b ms) i
+said_under h b (m ∷ ms) i = by_test (is_answering m.body) (has_rows m.body) (is_same_request h m.header) refl refl refl (said_under h b ms) i
   where
     later : IsSaidUnder h b ms → IsSaidUnder h b (m ∷ ms)
-    later s = record { message = s.message; there = later_there m s.message ms s.there; body = s.body; answering = s.answering; header = s.header }
+    later s = record { message = s.message; there = later_there m s.message ms s.there; body = s.body; answering = s.answering; rowless = s.rowless; header = s.header }
 
-    by_test : (x y : Bool) → is_answering m.body ≡ x → is_same_request h m.header ≡ y → (Contains (about h ms) b → IsSaidUnder h b ms) →
-        Contains (if x && y then m.body ∷ about h ms else about h ms) b → IsSaidUnder h b (m ∷ ms)
-    by_test true true p q f j = elim (contains_first m.body b (about h ms) j) [
-      | inl e ↦ record { message = m; there = first_there m ms; body = sym e; answering = p; header = q }
+    by_test : (x r y : Bool) → is_answering m.body ≡ x → has_rows m.body ≡ r → is_same_request h m.header ≡ y → (Contains (about h ms) b → IsSaidUnder h b ms) →
+        Contains (if (x && not r) && y then m.body ∷ about h ms else about h ms) b → IsSaidUnder h b (m ∷ ms)
+    by_test true false true p w q f j = elim (contains_first m.body b (about h ms) j) [
+      | inl e ↦ record { message = m; there = first_there m ms; body = sym e; answering = p; rowless = w; header = q }
       | inr k ↦ later (f k)
     ]
-    by_test true false p q f j = later (f j)
-    by_test false y p q f j = later (f j)
+    by_test true false false p w q f j = later (f j)
+    by_test true true y p w q f j = later (f j)
+    by_test false r y p w q f j = later (f j)
 
 ---- Replies of one record
 
+-- none of them has rows
+abbrev pub AreRowless : List Reply → Type 0
+AreRowless out = (y : Reply) → Contains out y → has_rows y.body ≡ false
+
+rest_rowless : (y : Reply) (ys : List Reply) → AreRowless (y ∷ ys) → AreRowless ys
+rest_rowless y ys n z i = n z (later_there y z ys i)
+
 -- replies to the parent, as it hears them
-about_own : (h : Header) (name owner : List ℕ) (out : List Reply) → bytes_eq h.requester owner ≡ true → bytes_eq h.provider name ≡ true → about h (addressed name owner out) ≡ answering h.correlation out
+about_own : (h : Header) (name owner : List ℕ) (out : List Reply) → bytes_eq h.requester owner ≡ true → bytes_eq h.provider name ≡ true → AreRowless out → about h (addressed name owner out) ≡ answering h.correlation out
 unfolding about answering
-about_own h name owner [] e f = refl
-about_own h name owner (y ∷ ys) e f =
-    by_tests (bytes_eq h.requester owner) (bytes_eq h.provider name) e f (is_answering y.body) (h.correlation == y.correlation) (about_own h name owner ys e f)
+about_own h name owner [] e f n = refl
+about_own h name owner (y ∷ ys) e f n =
+    by_tests (bytes_eq h.requester owner) (bytes_eq h.provider name) (has_rows y.body) e f (n y (first_there y ys)) (is_answering y.body) (h.correlation == y.correlation)
+    (about_own h name owner ys e f (rest_rowless y ys n))
   where
-    by_tests : (a b : Bool) → a ≡ true → b ≡ true → (p q : Bool) → about h (addressed name owner ys) ≡ answering h.correlation ys →
-        (if p && (a && (b && q)) then y.body ∷ about h (addressed name owner ys) else about h (addressed name owner ys)) ≡
+    by_tests : (a b r : Bool) → a ≡ true → b ≡ true → r ≡ false → (p q : Bool) → about h (addressed name owner ys) ≡ answering h.correlation ys →
+        (if (p && not r) && (a && (b && q)) then y.body ∷ about h (addressed name owner ys) else about h (addressed name owner ys)) ≡
         (if p && q then y.body ∷ answering h.correlation ys else answering h.correlation ys)
-    by_tests true true e f true true i = ap (λ z. y.body ∷ z) i
-    by_tests true true e f true false i = i
-    by_tests true true e f false q i = i
-    by_tests false b e f p q i = absurd (cc)
-    by_tests true false e f p q i = absurd (cc)
+    by_tests true true false e f g true true i = ap (λ z. y.body ∷ z) i
+    by_tests true true false e f g true false i = i
+    by_tests true true false e f g false q i = i
+    by_tests true true true e f g p q i = absurd (cc)
+    by_tests false b r e f g p q i = absurd (cc)
+    by_tests true false r e f g p q i = absurd (cc)
 
--- replies to another
-about_other : (h : Header) (name owner : List ℕ) (out : List Reply) → bytes_eq h.requester owner ≡ false → about h (addressed name owner out) ≡ []
-unfolding about
-about_other h name owner [] e = refl
-about_other h name owner (y ∷ ys) e =
-    by_tests (bytes_eq h.requester owner) e (is_answering y.body) (bytes_eq h.provider name && (h.correlation == y.correlation)) (about_other h name owner ys e)
-  where
-    by_tests : (a : Bool) → a ≡ false → (p q : Bool) → about h (addressed name owner ys) ≡ [] → (if p && (a && q) then y.body ∷ about h (addressed name owner ys) else about h (addressed name owner ys)) ≡ []
-    by_tests false e true q i = i
-    by_tests false e false q i = i
-    by_tests true e p q i = absurd (cc)
-
+-- what is heard of replies is among them
 pub addressed_in : (name owner parent : List ℕ) (c : ℕ) (out : List Reply) (b : Body) → Contains (about (header_of parent name c) (addressed name owner out)) b → (owner ≡ parent) × Contains (answering c out) b
-addressed_in name owner parent c out b i = by_owner (bytes_eq parent owner) refl
+unfolding about answering
+addressed_in name owner parent c [] b i = absurd (nothing_in b i)
+addressed_in name owner parent c (y ∷ ys) b i =
+    by_tests (bytes_eq parent owner) refl (is_answering y.body) (has_rows y.body) (bytes_eq name name) (c == y.correlation) (addressed_in name owner parent c ys b) i
   where
-    by_owner : (t : Bool) → bytes_eq parent owner ≡ t → (owner ≡ parent) × Contains (answering c out) b
-    by_owner false e = absurd (nothing_in b (subst (λ w. Contains w b) (about_other (header_of parent name c) name owner out e) i))
-    by_owner true e =
-        (sym ((bytes_eq-Decides parent owner).0 e), subst (λ w. Contains w b) (about_own (header_of parent name c) name owner out e (same_bytes name)) i)
+    later : (p q : Bool) → (owner ≡ parent) × Contains (answering c ys) b → (owner ≡ parent) × Contains (if p && q then y.body ∷ answering c ys else answering c ys) b
+    later true true (o, j) = (o, later_there y.body b (answering c ys) j)
+    later true false w = w
+    later false q w = w
 
-pub addressed_of : (name owner : List ℕ) (c : ℕ) (out : List Reply) (b : Body) → Contains (answering c out) b → Contains (about (header_of owner name c) (addressed name owner out)) b
-addressed_of name owner c out b i = subst (λ w. Contains w b) (sym (about_own (header_of owner name c) name owner out (same_bytes owner) (same_bytes name))) i
+    by_tests : (a : Bool) → bytes_eq parent owner ≡ a → (p r n q : Bool) → (Contains (about (header_of parent name c) (addressed name owner ys)) b → (owner ≡ parent) × Contains (answering c ys) b) →
+        Contains (if (p && not r) && (a && (n && q)) then y.body ∷ about (header_of parent name c) (addressed name owner ys) else about (header_of parent name c) (addressed name owner ys)) b →
+        (owner ≡ parent) × Contains (if p && q then y.body ∷ answering c ys else answering c ys) b
+    by_tests true e true false true true f j = elim (contains_first y.body b (about (header_of parent name c) (addressed name owner ys)) j) [
+      | inl w ↦ (sym ((bytes_eq-Decides parent owner).0 e), subst (λ z. Contains (y.body ∷ answering c ys) z) (sym w) (first_there y.body (answering c ys)))
+      | inr k ↦ later true true (f k)
+    ]
+    by_tests true e true false true false f j = f j
+    by_tests true e true false false q f j = later true q (f j)
+    by_tests false e true false n q f j = later true q (f j)
+    by_tests a e true true n q f j = later true q (f j)
+    by_tests a e false r n q f j = f j
+
+pub addressed_of : (name owner : List ℕ) (c : ℕ) (out : List Reply) (b : Body) → AreRowless out → Contains (answering c out) b → Contains (about (header_of owner name c) (addressed name owner out)) b
+addressed_of name owner c out b n i = subst (λ w. Contains w b) (sym (about_own (header_of owner name c) name owner out (same_bytes owner) (same_bytes name) n)) i
 
 pub addressed_append : (name owner : List ℕ) (xs ys : List Reply) → addressed name owner (xs ++ ys) ≡ addressed name owner xs ++ addressed name owner ys
 addressed_append name owner [] ys = refl

@@ -3,7 +3,7 @@ use Rattle.std.proofs.Common.{ℕ, ◌≡◌, ◌+◌, Bool, true, false, List, 
 use Rattle.std.proofs.lemmas.List.Elements.{Contains-append_cases}
 use Rattle.std.specs.List.{list_any}
 use Rattle.nsi_primitive.specs.Ids.{id_of}
-use Rattle.nsi_primitive.specs.Messages.{identity, kind_of, connection_of, is_request, is_query}
+use Rattle.nsi_primitive.specs.Messages.{identity, kind_of, connection_of, has_rows, is_request, is_query}
 use Rattle.nsi_primitive.specs.declared.entry.Entry.{Entry}
 use Rattle.nsi_primitive.specs.declared.entry.Input.{Input}
 use Rattle.nsi_primitive.specs.declared.kind.ErrorName.{ErrorName}
@@ -34,22 +34,27 @@ use Rattle.connection_record.specs.Replies.{Moved, stays, addressed}
 use Rattle.connection_record.specs.Speaking.{is_answering, is_asking, is_noting}
 use Rattle.connection_record.proofs.Courses.{course_after, merges_append, merges_first}
 use Rattle.agent_state.specs.declared.parent.Due.{Due}
-use Rattle.agent_state.specs.Entries.{retry_of, with_retry, reply_by}
-use Rattle.agent_state.specs.State.{AgentState, AgentStepped, record_at, sends}
+use Rattle.agent_state.specs.declared.parent.OpenQuery.{OpenQuery}
+use Rattle.agent_state.specs.Entries.{is_recursive, retry_of, with_retry, reply_by}
+use Rattle.agent_state.specs.State.{AgentState, AgentStepped, record_at, children_at, sends}
 use Rattle.aggregator_agent.specs.declared.agent.Agent.{Agent}
 use Rattle.aggregator_agent.specs.Asking.{Turn, Asked, Asking, begin, replies_by, notices_by, notices_under, ask_one, each, asks_by, if_free, if_apart, request_if, reserve_if, passed_on, pass_one}
 use Rattle.aggregator_agent.specs.Clock.{Told, tells_more, tells_late, tell_one, tell_all, is_late_of, ends, clocked, clock_then, clock_all}
+use Rattle.aggregator_agent.specs.Below.{is_asked, nested_reply, Sought, seek, opened, Heard, hear_below}
 use Rattle.aggregator_agent.specs.Setting.{Setting}
 use Rattle.aggregator_agent.specs.Settling.{settles, settle}
-use Rattle.aggregator_agent.specs.Steps.{sees, is_seen, children_for, request_at, with_new, opens_between, opens, request_to, accepts, answers, pass_then, hear_all, hears, receives, ticks, step, after_if, after, may_take, serves}
+use Rattle.aggregator_agent.specs.Steps.{sees, is_seen, children_for, request_at, with_new, opens_between, opens, request_to, accepts, answers, Passed, pass_then, hear_all, hears, opens_query, asks_below, asks_if_own, place_named, queries, receives, ticks, step, after_if, after, may_take, serves}
 use Rattle.aggregator_agent.specs.Turns.{joined_of, tell_joined, pass_on, takes, turn_by_request, request_turn, loses, breaks, late_terminate, hear_one, hold_ends, force_ends, heard_by, turn_by_answer, answer_turn, spoken}
+use Rattle.circuit_link.specs.Children.{TellsNothing}
 use Rattle.circuit_link.specs.Serving.{child_of, IsByItself, Tells, TakeCourses, IsTurn, IsNew, IsAbout, Serves}
-use Rattle.circuit_link.proofs.Abouts.{addressed_append, same_bytes}
+use Rattle.circuit_link.proofs.Abouts.{AreRowless, addressed_append, same_bytes}
 use Rattle.circuit_link.proofs.Acting.{settles_course, hold_course, force_course, plane_course, ends_course, late_course}
 use Rattle.circuit_link.proofs.Answering.{only_one}
-use Rattle.circuit_link.proofs.Gathering.{AnswersNothing, tells_addressed, tells_spoken, no_courses, more_courses}
+use Rattle.circuit_link.proofs.Below.{all_asked_below, all_said_below}
+use Rattle.circuit_link.proofs.Gathering.{AnswersNothing, requests_tell, rows_tell, row_tells, nothing_tells, tells_addressed, tells_spoken, no_courses, more_courses, courses_beside}
 use Rattle.circuit_link.proofs.Living.{itself_same, itself_then, itself_append, hold_itself, plane_itself, settles_itself, forced_itself, ends_itself, late_itself}
-use Rattle.circuit_link.proofs.Requests.{refused_by, found_by, first_by, unnamed_kind, reserve_unnamed}
+use Rattle.circuit_link.proofs.Requests.{refused_by, found_by, first_by, unnamed_kind, query_kind, reserve_unnamed}
+use Rattle.circuit_link.proofs.Rowless.{course_rowless}
 use Rattle.aggregator_agent.specs.Queries.{answer_by, answer_to, shown_at}
 use Rattle.aggregator_agent.proofs.Queried.{tells_rows}
 use Rattle.nsi_query.specs.Answers.{answer_about}
@@ -117,6 +122,14 @@ each_asks : (does : ℕ → ChildConnection → Asked) → ((n : ℕ) (x : Child
 unfolding each
 each_asks does h next [] = none_asks
 each_asks does h next (x ∷ xs) = both_ask (does next x).asked (each does (does next x).next xs).asked (h next x) (each_asks does h (does next x).next xs)
+
+-- nor are the queries about what is below, and their answers are rows
+below_asks : (agent : Agent) (next : ℕ) (xs : List ChildConnection) → AnswersNothing (seek agent next xs).asked
+unfolding is_answering is_asking is_noting
+below_asks agent = all_asked_below (λ m. is_answering m.body ≡ false) agent (λ c id x. refl)
+
+below_tells : (agent : List ℕ) (records : List Record) (m : Message) (qs : List OpenQuery) → TellsNothing (hear_below agent records m qs).out
+below_tells agent records m qs = rows_tell (hear_below agent records m qs).out (all_said_below (λ z. has_rows z.body ≡ true) agent (λ own q. refl) records m qs)
 
 ---- Turns
 
@@ -206,9 +219,9 @@ answer_from agent now m own xs next =
     started = record { rest = []; replies = refl; course = Course.rests own; itself = itself_same own; asked = none_asks }
 
 -- what a turn by a child's message says of the own record
-spoken_tells : (agent : Agent) (t : Turn) → AnswersNothing t.asked → Tells agent.name t.own.owner (t.replies ++ t.notices) (spoken agent t)
+spoken_tells : (agent : Agent) (t : Turn) → AreRowless (t.replies ++ t.notices) → AnswersNothing t.asked → Tells agent.name t.own.owner (t.replies ++ t.notices) (spoken agent t)
 unfolding spoken
-spoken_tells agent t n = tells_spoken agent.name t.own.owner t.replies t.notices t.asked n
+spoken_tells agent t rowless n = tells_spoken agent.name t.own.owner t.replies t.notices t.asked rowless n
 
 answer_course : (agent : Agent) (now : ℕ) (m : Message) (own : Record) (xs : List ChildConnection) (next : ℕ) →
     (let t : Turn = answer_turn agent now m own xs next in Course own t.own (t.replies ++ t.notices) × IsByItself own t.own (t.replies ++ t.notices) × Tells agent.name own.owner (t.replies ++ t.notices) (spoken agent t))
@@ -216,7 +229,7 @@ answer_course agent now m own xs next =
     let t : Turn = answer_turn agent now m own xs next in
     let f : From (stays own) t = answer_from agent now m own xs next in
     let c : Course own t.own (t.replies ++ t.notices) = subst (λ z. Course own t.own (z ++ t.notices)) (sym f.replies) f.course in
-    (c, subst (λ z. IsByItself own t.own (z ++ t.notices)) (sym f.replies) f.itself, subst (λ o. Tells agent.name o (t.replies ++ t.notices) (spoken agent t)) (course_after own t.own (t.replies ++ t.notices) c).later.owner (spoken_tells agent t f.asked))
+    (c, subst (λ z. IsByItself own t.own (z ++ t.notices)) (sym f.replies) f.itself, subst (λ o. Tells agent.name o (t.replies ++ t.notices) (spoken agent t)) (course_after own t.own (t.replies ++ t.notices) c).later.owner (spoken_tells agent t (course_rowless own t.own (t.replies ++ t.notices) c) f.asked))
 
 ---- All records in order
 
@@ -286,7 +299,7 @@ clocked_courses agent now number ds waiting next (r ∷ rs) =
     let t : Told = clocked agent now number ds waiting r next in
     let c : Course r t.own t.out = clocked_course agent now number ds waiting r next in
     more_courses agent.name r t.own t.out (addressed agent.name t.own.owner t.out) rs _ _ c (clocked_itself agent now number ds waiting r next)
-    (subst (λ o. Tells agent.name o t.out (addressed agent.name t.own.owner t.out)) (course_after r t.own t.out c).later.owner (tells_addressed agent.name t.own.owner t.out))
+    (subst (λ o. Tells agent.name o t.out (addressed agent.name t.own.owner t.out)) (course_after r t.own t.out c).later.owner (tells_addressed agent.name t.own.owner t.out (course_rowless r t.own t.out c)))
     (clocked_courses agent now (number + 1) ds waiting t.next rs)
 
 ---- A request
@@ -303,7 +316,7 @@ turn_is agent now m n rs xs next =
       itself = f.itself;
       records = refl;
       spoken = whole;
-      tells = tells_spoken agent.name t.own.owner f.rest t.notices t.asked f.asked;
+      tells = tells_spoken agent.name t.own.owner f.rest t.notices t.asked (course_rowless y.rec t.own (f.rest ++ t.notices) f.course) f.asked;
     }
   where
     y : Moved
@@ -360,7 +373,7 @@ module _ (setting : Setting) (input : Input) (said : List Message) where
         (turn_is setting.agent s.base.now m (length s.base.records) _ (children_for setting (with_new setting seen_now m q points) (length s.base.records) m) (s.base.next + 1))
 
     left : is_reservation (kind_of m.body) ≡ false → Does s (record { state = seen_now; out = []; answer = None })
-    left k = Serves.leaves m new k refl refl
+    left k = Serves.leaves m new k refl nothing_tells
 
     opening : (body : Body) → m.body ≡ body → connection_of m.body ≡ None → refusal name setting.stp_of s.base.records m ≡ None → Does s (opens body setting seen_now m)
     opening (Body.Reserve q) e c r = between (points_of setting.stp_of q) q refl e (reserve_unnamed m.body q e c) r
@@ -388,12 +401,38 @@ module _ (setting : Setting) (input : Input) (said : List Message) where
     another e is = true≢false (sym (same_bytes name) ∙ sym (ap (λ p. bytes_eq p name) is) ∙ e)
 
     telling : is_query m.body ≡ true → (b : Bool) (o : Option Body) → bytes_eq m.header.provider name ≡ b → answer_to name seen_now m ≡ o → Does s (sends seen_now (reply_by b o name m ∷ []))
-    telling q true (Some body) p e = Serves.tells m body new q (tells_rows name seen_now m body e) refl refl
+    telling q true (Some body) p e = Serves.leaves m new (query_kind m.body q) refl (row_tells m.header body (tells_rows name seen_now m body e))
     telling q true None p e = Serves.refuses m ErrorName.Nonexistent new (λ n id own names at. absurd (is_there n id q e names at)) refl refl
     telling q false o p e = Serves.refuses m ErrorName.WrongProvider new (λ n id own names at. absurd (another p own)) refl refl
 
+    -- a query about all that is below is answered, or its children are asked
+    opening_query : is_query m.body ≡ true → (n : ℕ) (x : Sought) → AnswersNothing x.asked → (b : Bool) → Does s (opens_query b setting seen_now n m x)
+    opening_query q n x asks true = Serves.leaves m new (query_kind m.body q) refl (requests_tell x.asked asks)
+    opening_query q n x asks false = Serves.leaves m new (query_kind m.body q) refl (row_tells m.header (nested_reply name (record_at n s.base.records) (opened m n x)).body refl)
+
+    asking_below : is_query m.body ≡ true → (n : ℕ) → Does s (asks_below setting seen_now n m)
+    unfolding asks_below
+    asking_below q n =
+        let x : Sought = seek setting.agent s.base.next (children_at n s.children) in
+        opening_query q n x (below_asks setting.agent s.base.next (children_at n s.children)) (list_any is_asked x.parts)
+
+    unplaced : (n id : ℕ) → place_named m s.base.records ≡ None → connection_of m.body ≡ Some id → place_of id m.header.requester s.base.records ≡ Some n → ⊥
+    unplaced n id e names at = none_some n (sym e ∙ ap (λ o. option_and_then (λ k. place_of k m.header.requester s.base.records) o) names ∙ at)
+      where
+        none_some : (n : ℕ) → None ≡ Some n → ⊥
+        none_some n e = cc
+
+    telling_below : is_query m.body ≡ true → (b : Bool) (o : Option ℕ) → bytes_eq m.header.provider name ≡ b → place_named m s.base.records ≡ o → Does s (asks_if_own b o setting seen_now m)
+    telling_below q true (Some n) p e = asking_below q n
+    telling_below q true None p e = Serves.refuses m ErrorName.Nonexistent new (λ n id own names at. absurd (unplaced n id e names at)) refl refl
+    telling_below q false o p e = Serves.refuses m ErrorName.WrongProvider new (λ n id own names at. absurd (another p own)) refl refl
+
+    answering_query : is_query m.body ≡ true → (b : Bool) → Does s (queries b setting seen_now m)
+    answering_query q true = telling_below q (bytes_eq m.header.provider name) (place_named m s.base.records) refl refl
+    answering_query q false = telling q (bytes_eq m.header.provider name) (answer_to name seen_now m) refl refl
+
     serving : (b : Bool) → is_query m.body ≡ b → Does s (serves b setting seen_now m)
-    serving true q = telling q (bytes_eq m.header.provider name) (answer_to name seen_now m) refl refl
+    serving true q = answering_query q (is_recursive m.body)
     serving false q = answering (refusal name setting.stp_of s.base.records m) refl
 
   ---- Any message
@@ -413,9 +452,11 @@ module _ (setting : Setting) (input : Input) (said : List Message) where
   heard_serve : (m : Message) (s s' : AgentState) → s'.base.records ≡ s.base.records → s'.base.seen ≡ s.base.seen → Does s (hears setting s' m)
   unfolding hears
   heard_serve m s s' e h =
+      let p : Passed = hear_all setting.agent s'.base.now 0 m s'.base.next s'.base.records s'.children in
+      let below : Heard = hear_below setting.agent.name s'.base.records m s'.queries in
       Serves.acts h
-      (subst (λ z. TakeCourses setting.agent.name z (hear_all setting.agent s'.base.now 0 m s'.base.next s'.base.records s'.children).records (hear_all setting.agent s'.base.now 0 m s'.base.next s'.base.records s'.children).out) e
-      (heard_courses setting.agent s'.base.now 0 m s'.base.next s'.base.records s'.children))
+      (courses_beside setting.agent.name s.base.records p.records p.out below.out (below_tells setting.agent.name s'.base.records m s'.queries)
+      (subst (λ z. TakeCourses setting.agent.name z p.records p.out) e (heard_courses setting.agent s'.base.now 0 m s'.base.next s'.base.records s'.children)))
 
   receiving : (m : Message) (s : AgentState) (a b : Bool) → input ≡ Input.Got m → is_request m.body ≡ a → is_seen s m ≡ b → Does s (receives a b setting s m)
   unfolding receives

@@ -2,10 +2,9 @@
 use Rattle.std.proofs.Common.{ℕ, ◌≡◌, ◌<◌, true, false, List, [], ◌∷◌, ◌++◌, length, Option, Some, None, ◌⊎◌, inl, inr, refl, sym, ap, ◌∙◌, subst, arith, length-append, slice_set, true≢false}
 use Rattle.std.proofs.lemmas.Bool.{cases_eq}
 use Rattle.std.proofs.lemmas.List.{length-set}
-use Rattle.nsi_primitive.specs.Messages.{kind_of, connection_of, is_query, is_request}
+use Rattle.nsi_primitive.specs.Messages.{kind_of, connection_of, is_request}
 use Rattle.nsi_primitive.specs.declared.entry.Input.{Input}
 use Rattle.nsi_primitive.specs.declared.kind.Kind.{Kind}
-use Rattle.nsi_primitive.specs.declared.message.Body.{Body}
 use Rattle.nsi_primitive.specs.declared.message.Header.{Header}
 use Rattle.nsi_primitive.specs.declared.message.Message.{Message}
 use Rattle.nsi_primitive.specs.declared.message.Service.{Service}
@@ -29,7 +28,7 @@ use Rattle.circuit_link.specs.Serving.{taken_by, IsTurn, IsAbout, IsFirst, Serve
 use Rattle.circuit_link.proofs.Answering.{same_some}
 use Rattle.circuit_link.proofs.Coursing.{OwesNothingNew}
 use Rattle.circuit_link.proofs.Opening.{last_here, last_there, fresh_owed, longer, longer_mate, new_link, new_seated, open_start}
-use Rattle.circuit_link.proofs.Owning.{foreign_refused, foreign_told, foreign_seen, own_refused, own_link, own_seated}
+use Rattle.circuit_link.proofs.Owning.{foreign_refused, foreign_seen, own_refused, own_link, own_seated}
 use Rattle.circuit_link.proofs.Served.{courses_mate, turn_mate}
 use Rattle.circuit_link.proofs.Starting.{foreign_start, beside_start}
 use Rattle.circuit_link.proofs.Taking.{taking_link}
@@ -37,11 +36,6 @@ use Rattle.circuit_link.proofs.Taking.{taking_link}
 -- the message that came
 same_message : (a b : Message) → Input.Got a ≡ Input.Got b → a ≡ b
 same_message a b e = cc
-
--- a query is no request of the reservation machine
-query_kind : (body : Body) → is_query body ≡ true → is_reservation (kind_of body) ≡ false
-unfolding is_reservation
-query_kind body q = grind (arith, q)
 
 none_some : (n : ℕ) → None ≡ Some n → ⊥
 none_some n e = cc
@@ -100,10 +94,7 @@ module _ (parent name : List ℕ) (x : ChildConnection) (place : Option ℕ) (d 
     pub passing_mate : Serves name input d records seen out → ((m : Message) → input ≡ Input.Got m → is_request m.body ≡ true → is_taken m.header d.seen ≡ false → IsForeign parent name x m × LeavesAlone name place m d) → After place
     passing_mate (Serves.acts e v) other = as_done place records d.seen out refl e refl (courses_mate parent name x place d records out v unowed h)
     passing_mate (Serves.leaves m w k r o) other =
-        as_done place d.records (with_taken m.header d.seen) [] r w.counted o (foreign_seen Place.Provider name parent 0 x place d 0 m w.untaken (other m w.got w.request w.untaken).0 h)
-    passing_mate (Serves.tells m body w q rows r o) other =
-        as_done place d.records (with_taken m.header d.seen) (record { header = m.header; body = body } ∷ []) r w.counted o
-        (foreign_told Place.Provider name parent 0 x place d 0 m body w.untaken (other m w.got w.request w.untaken).0 h)
+        as_done place d.records (with_taken m.header d.seen) out r w.counted refl (foreign_seen Place.Provider name parent 0 x place d 0 m out o w.untaken (other m w.got w.request w.untaken).0 h)
     passing_mate (Serves.refuses m error w v r o) other =
         as_done place d.records (with_taken m.header d.seen) (error_reply name m error ∷ []) r w.counted o
         (foreign_refused Place.Provider name parent 0 x place d 0 m error w.untaken (other m w.got w.request w.untaken).0 h)
@@ -229,8 +220,6 @@ module _ (parent name : List ℕ) (x : ChildConnection) (place : Option ℕ) (d 
       pub own_mate : Serves name input d records seen out → Owned
       own_mate (Serves.acts e v) = stays (as_done place records d.seen out refl e refl (courses_mate parent name x place d records out v unowed h))
       own_mate (Serves.leaves n w k r o) = absurd (true≢false (sym kinds ∙ ap (λ (z : Message). is_reservation (kind_of z.body)) (sym (same_as n w.got)) ∙ k))
-      own_mate (Serves.tells n body w q rows r o) =
-          absurd (true≢false (sym kinds ∙ ap (λ (z : Message). is_reservation (kind_of z.body)) (sym (same_as n w.got)) ∙ query_kind n.body q))
       own_mate (Serves.refuses n error w v r o) =
           let e = same_as n w.got in
           stays

@@ -1,8 +1,9 @@
 -- What records do by themselves, gathered: one of them, or each in order; and whose answers stand among what is said.
-use Rattle.std.proofs.Common.{ℕ, zero, suc, ◌≡◌, ◌<◌, Bool, true, false, List, [], ◌∷◌, ◌++◌, length, Contains, ◌⊎◌, inl, inr, refl, sym, ap, ◌∙◌, subst, arith, slice_set, get_or-set_same, get_or-set_other}
+use Rattle.std.proofs.Common.{ℕ, zero, suc, ◌≡◌, ◌<◌, true, false, List, [], ◌∷◌, ◌++◌, length, Contains, ◌⊎◌, inl, inr, refl, sym, ap, ◌∙◌, subst, arith, append-nil, slice_set, get_or-set_same, get_or-set_other, true≢false}
 use Rattle.std.proofs.lemmas.Bool.{cases_eq}
 use Rattle.std.proofs.lemmas.List.{length-set}
 use Rattle.std.proofs.lemmas.List.Elements.{Contains-append_left, Contains-append_right, Contains-append_cases}
+use Rattle.nsi_primitive.specs.Messages.{has_rows}
 use Rattle.nsi_primitive.specs.declared.message.Body.{Body}
 use Rattle.nsi_primitive.specs.declared.message.Header.{Header}
 use Rattle.nsi_primitive.specs.declared.message.Message.{Message}
@@ -14,32 +15,47 @@ use Rattle.connection_record.specs.Replies.{addressed}
 use Rattle.connection_record.specs.Speaking.{is_answering}
 use Rattle.connection_record.proofs.Acts.{answering_append}
 use Rattle.agent_state.specs.State.{no_record, record_at}
-use Rattle.circuit_link.specs.Children.{about, header_of}
+use Rattle.circuit_link.specs.Children.{about, header_of, TellsNothing}
 use Rattle.circuit_link.specs.Serving.{IsByItself, Tells, TakeCourses}
 use Rattle.circuit_link.proofs.Living.{itself_same}
-use Rattle.circuit_link.proofs.Abouts.{about_cases, about_left, about_right, addressed_in, addressed_of, said_under}
-use Rattle.circuit_link.proofs.Answering.{nothing_answered}
+use Rattle.circuit_link.proofs.Abouts.{about_append, about_cases, about_left, about_right, AreRowless, addressed_in, addressed_of, IsSaidUnder, said_under}
+use Rattle.circuit_link.proofs.Answering.{nothing_answered, none_there, only_one}
 
 ---- What is said
 
-pub tells_addressed : (name owner : List ℕ) (replies : List Reply) → Tells name owner replies (addressed name owner replies)
-tells_addressed name owner replies =
-    record { only = λ parent c b i. addressed_in name owner parent c replies b i; all = λ c b i. addressed_of name owner c replies b i }
+pub tells_addressed : (name owner : List ℕ) (replies : List Reply) → AreRowless replies → Tells name owner replies (addressed name owner replies)
+tells_addressed name owner replies n =
+    record { only = λ parent c b i. addressed_in name owner parent c replies b i; all = λ c b i. addressed_of name owner c replies b n i }
 
 -- none of the messages is an answer
 abbrev pub AnswersNothing : List Message → Type 0
 AnswersNothing ms = (m : Message) → Contains ms m → is_answering m.body ≡ false
 
 pub no_answer_there : (h : Header) (ms : List Message) (b : Body) → AnswersNothing ms → Contains (about h ms) b → ⊥
-no_answer_there h ms b n i = let w = said_under h b ms i in both w.answering (n w.message w.there)
+no_answer_there h ms b n i = let w = said_under h b ms i in true≢false (sym w.answering ∙ n w.message w.there)
+
+-- requests concern no view
+pub requests_tell : (ms : List Message) → AnswersNothing ms → TellsNothing ms
+requests_tell ms n h = none_there (about h ms) (λ b i. no_answer_there h ms b n i)
+
+-- nor do rows
+pub rows_tell : (ms : List Message) → ((m : Message) → Contains ms m → has_rows m.body ≡ true) → TellsNothing ms
+rows_tell ms n h = none_there (about h ms) (λ b i. let w : IsSaidUnder h b ms = said_under h b ms i in true≢false (sym (n w.message w.there) ∙ w.rowless))
+
+pub row_tells : (h : Header) (body : Body) → has_rows body ≡ true → TellsNothing (record { header = h; body = body } ∷ [])
+row_tells h body r = rows_tell (said ∷ []) (λ m i. ap (λ (z : Message). has_rows z.body) (only_one said m i) ∙ r)
   where
-    both : {t : Bool} → t ≡ true → t ≡ false → ⊥
-    both {t} p q = absurd (let e : true ≡ false = sym p ∙ q in cc)
+    said : Message
+    said = record { header = h; body = body }
+
+pub nothing_tells : TellsNothing []
+unfolding about
+nothing_tells h = refl
 
 -- answers, then what is no answer, then notices
-pub tells_spoken : (name owner : List ℕ) (replies notices : List Reply) (asked : List Message) → AnswersNothing asked →
+pub tells_spoken : (name owner : List ℕ) (replies notices : List Reply) (asked : List Message) → AreRowless (replies ++ notices) → AnswersNothing asked →
     Tells name owner (replies ++ notices) (addressed name owner replies ++ (asked ++ addressed name owner notices))
-tells_spoken name owner replies notices asked n = record { only = λ parent c b i. first parent c b (about_cases (header_of parent name c) (addressed name owner replies) (asked ++ addressed name owner notices) b i); all = λ c b i. back c b (both c b i) }
+tells_spoken name owner replies notices asked rowless n = record { only = λ parent c b i. first parent c b (about_cases (header_of parent name c) (addressed name owner replies) (asked ++ addressed name owner notices) b i); all = λ c b i. back c b (both c b i) }
   where
     left : (parent : List ℕ) (c : ℕ) (b : Body) → (owner ≡ parent) × Contains (answering c replies) b → (owner ≡ parent) × Contains (answering c (replies ++ notices)) b
     left parent c b (o, j) = (o, subst (λ w. Contains w b) (sym (answering_append c replies notices)) (Contains-append_left (answering c replies) (answering c notices) b j))
@@ -60,10 +76,10 @@ tells_spoken name owner replies notices asked n = record { only = λ parent c b 
     both c b i = Contains-append_cases (answering c replies) (answering c notices) b (subst (λ w. Contains w b) (answering_append c replies notices) i)
 
     back : (c : ℕ) (b : Body) → Contains (answering c replies) b ⊎ Contains (answering c notices) b → Contains (about (header_of owner name c) (addressed name owner replies ++ (asked ++ addressed name owner notices))) b
-    back c b (inl j) = about_left (header_of owner name c) (addressed name owner replies) (asked ++ addressed name owner notices) b (addressed_of name owner c replies b j)
+    back c b (inl j) = about_left (header_of owner name c) (addressed name owner replies) (asked ++ addressed name owner notices) b (addressed_of name owner c replies b (λ y i. rowless y (Contains-append_left replies notices y i)) j)
     back c b (inr j) =
         about_right (header_of owner name c) (addressed name owner replies) (asked ++ addressed name owner notices) b
-        (about_right (header_of owner name c) asked (addressed name owner notices) b (addressed_of name owner c notices b j))
+        (about_right (header_of owner name c) asked (addressed name owner notices) b (addressed_of name owner c notices b (λ y i. rowless y (Contains-append_right replies notices y i)) j))
 
 ---- Courses
 
@@ -145,3 +161,18 @@ more_courses name r q said front rs qs out course itself tells rest =
         (n : ℕ) × ((record_at n (r ∷ rs)).owner ≡ parent) × Contains (answering c (said_at n)) b
     only_of parent c b (inl i) = let w = tells.only parent c b i in (zero, w.0, w.1)
     only_of parent c b (inr i) = let w = rest.only parent c b i in (suc w.0, w.1, w.2)
+
+-- what concerns no view is said behind
+pub courses_beside : (name : List ℕ) (rs qs : List Record) (out more : List Message) → TellsNothing more → TakeCourses name rs qs out → TakeCourses name rs qs (out ++ more)
+courses_beside name rs qs out more none v =
+    record {
+      long = v.long;
+      said = v.said;
+      each = v.each;
+      itself = v.itself;
+      all = λ n c b l i. about_left (header_of (record_at n rs).owner name c) out more b (v.all n c b l i);
+      only = λ parent c b i. v.only parent c b (subst (λ w. Contains w b) (same (header_of parent name c)) i);
+    }
+  where
+    same : (h : Header) → about h (out ++ more) ≡ about h out
+    same h = about_append h out more ∙ ap (λ w. about h out ++ w) (none h) ∙ append-nil (about h out)

@@ -1,13 +1,14 @@
 -- What a view hears of what was said keeps its link.
 use Rattle.std.proofs.Common.{ℕ, ◌≡◌, Bool, true, false, [], Contains, Option, Some, None, ◌⊎◌, inl, inr, refl, sym, ap, ◌∙◌, subst, arith, ne_eqb, eqb-true}
 use Rattle.std.proofs.lemmas.Bool.{cases_eq}
+use Rattle.nsi_primitive.specs.Messages.{has_rows}
 use Rattle.nsi_primitive.specs.declared.kind.Kind.{Kind}
 use Rattle.nsi_primitive.specs.declared.message.Body.{Body}
 use Rattle.nsi_primitive.specs.declared.state.Rsm.{Rsm}
 use Rattle.child_connection.specs.declared.state.Phase.{Phase}
 use Rattle.child_connection.specs.declared.state.Sent.{Sent}
 use Rattle.child_connection.specs.Views.{ChildConnection, sent, is_id, is_open}
-use Rattle.child_connection.specs.Hearing.{hears, is_reserving_or_held}
+use Rattle.child_connection.specs.Hearing.{ignored, hears, is_reserving_or_held}
 use Rattle.child_connection.specs.Holding.{settles, is_timeout, is_response, phase_of, IsSameReservation}
 use Rattle.child_connection.specs.Standing.{Rests, back}
 use Rattle.child_connection.proofs.AtRest.{same_quiet, timed_out_rests}
@@ -171,3 +172,14 @@ hearing_link b d x s i (Link.asked c k r p a y) = by_request (cases_eq d c)
     by_request : (d ≡ c) ⊎ (d ≡ c → ⊥) → Link (hears b d x).view s
     by_request (inr n) = same (other_same b d c k x n r p a)
     by_request (inl e) = subst (λ z. Link (hears b z x).view s) (sym e) (answer b (subst (λ z. Contains (s.said z) b) e i) y)
+
+---- Rows
+
+-- they are nothing to a view
+pub rows_unheard : (b : Body) (c : ℕ) (x : ChildConnection) → has_rows b ≡ true → hears b c x ≡ ignored x
+unfolding hears
+rows_unheard (Body.QuerySummaryConfirmed more rows) c x e = refl
+rows_unheard (Body.QueryNotificationConfirmed id more rows) c x e = refl
+rows_unheard (Body.QueryResultConfirmed id more rows) c x e = refl
+rows_unheard (Body.QueryRecursiveConfirmed id more rows) c x e = refl
+rows_unheard _ c x e = absurd (cc)

@@ -5,6 +5,8 @@ pub mod Taking
 pub mod Hearing
 pub mod Reading
 pub mod Abouts
+pub mod Rowless
+pub mod Below
 pub mod Mild
 pub mod Coursing
 pub mod Starting

@@ -9,7 +9,7 @@ use Rattle.child_connection.specs.declared.state.Phase.{Phase}
 use Rattle.child_connection.specs.declared.state.Sent.{Sent}
 use Rattle.child_connection.specs.Views.{ChildConnection, sent, is_open}
 use Rattle.child_connection.specs.Asks.{asks}
-use Rattle.child_connection.specs.Hearing.{hears}
+use Rattle.child_connection.specs.Hearing.{Heard, hears}
 use Rattle.child_connection.specs.Holding.{is_reservation, phase_of, teaches, IsHeeded, IsSameReservation, IsAlike, Learns}
 use Rattle.child_connection.proofs.Holds.{asked_stands}
 use Rattle.child_connection.proofs.Learning.{messages_teach, first_answer_teaches}
@@ -21,10 +21,10 @@ use Rattle.connection_record.specs.Speaking.{owed}
 use Rattle.agent_state.specs.State.{no_record, record_at}
 use Rattle.circuit_link.specs.Links.{IsAttempt, Link}
 use Rattle.circuit_link.specs.Sides.{Side}
-use Rattle.circuit_link.specs.Children.{Child, about, header_of, record_of, side_of, IsFair}
+use Rattle.circuit_link.specs.Children.{Child, about, header_of, record_of, side_of, MayReach, IsFair}
 use Rattle.circuit_link.specs.Mates.{IsSeatOf, IsOpening, IsOpened, IsMate}
 use Rattle.circuit_link.proofs.Answering.{same_some}
-use Rattle.circuit_link.proofs.Hearing.{same_link, hearing_link, other_same}
+use Rattle.circuit_link.proofs.Hearing.{same_link, hearing_link, other_same, rows_unheard}
 use Rattle.circuit_link.proofs.Owning.{none_owed}
 use Rattle.circuit_link.proofs.Taking.{asking_link}
 
@@ -170,8 +170,8 @@ module _ (parent child : List ℕ) (d : Child) where
         by_learnt (inl w) = let g = h.opened n p (sym w ∙ q) in by_correlation g (sym w ∙ q) (cases_eq e g.c)
         by_learnt (inr w) = absurd (none_id w.0 (sym q ∙ w.2))
 
-    pub hearing_mate : IsMate parent child (hears b e x).view place d
-    hearing_mate =
+    pub told_mate : IsMate parent child (hears b e x).view place d
+    told_mate =
         record {
           linked = hearing_link b e x (side_of parent child place d) said h.linked;
           seated =
@@ -184,3 +184,7 @@ module _ (parent child : List ℕ) (d : Child) where
               };
           opened = opened_now;
         }
+
+  pub hearing_mate : (b : Body) (e : ℕ) (x : ChildConnection) (place : Option ℕ) → MayReach (header_of parent child e) d.said b → IsMate parent child x place d → IsMate parent child (hears b e x).view place d
+  hearing_mate b e x place (inl said) h = told_mate b e x place said h
+  hearing_mate b e x place (inr rows) h = subst (λ (z : Heard). IsMate parent child z.view place d) (sym (rows_unheard b e x rows)) h

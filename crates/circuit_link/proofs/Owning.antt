@@ -26,12 +26,12 @@ use Rattle.agent_state.specs.Entries.{error_reply}
 use Rattle.agent_state.specs.State.{no_record, record_at}
 use Rattle.circuit_link.specs.Sides.{Side, took_in, OwesTaken}
 use Rattle.circuit_link.specs.Links.{Link}
-use Rattle.circuit_link.specs.Children.{Child, goes_on, about, header_of, record_of, side_of}
+use Rattle.circuit_link.specs.Children.{Child, goes_on, about, TellsNothing, header_of, record_of, side_of}
 use Rattle.circuit_link.specs.Mates.{IsSeated, IsOpening, IsMate}
 use Rattle.circuit_link.proofs.Abouts.{same_header, header_itself, about_cases, about_left, about_right, addressed_in, addressed_of, taken_now, taken_still, taken_apart, said_under}
-use Rattle.record_index.proofs.Members.{nothing_in}
-use Rattle.circuit_link.proofs.Answering.{same_some, only_one, first_there, one_answer, answer_there, replied_of}
+use Rattle.circuit_link.proofs.Answering.{same_some, only_one, not_there, first_there, one_answer, answer_there, replied_of}
 use Rattle.circuit_link.proofs.Likeness.{IsLike, link_like}
+use Rattle.circuit_link.proofs.Rowless.{taken_rowless}
 use Rattle.circuit_link.proofs.Mild.{KeepsSeat, seat_kept, IsAside, aside_mate, replied_named}
 use Rattle.circuit_link.proofs.Starting.{first_move, first_records, first_seen, first_out, at, within_after, owner_after, id_after, new_record, later}
 use Rattle.circuit_link.proofs.Taking.{refusing_link, refused_side}
@@ -93,7 +93,7 @@ module _ (side : Place) (name parent : List ℕ) (now : ℕ) (x : ChildConnectio
     told_in b w i = (addressed_in name step.rec.owner parent b step.out w i).1
 
     told_of : (b : ℕ) (w : Body) → Contains (answering b step.out) w → Contains (about (header_of parent name b) tells) w
-    told_of b w i = subst (λ o. Contains (about (header_of o name b) tells) w) its_owner (addressed_of name step.rec.owner b step.out w i)
+    told_of b w i = subst (λ o. Contains (about (header_of o name b) tells) w) its_owner (addressed_of name step.rec.owner b step.out w (taken_rowless side m.body m.header.correlation now row) i)
 
     pub own_link : Link x (took_in c (side_of parent name place d) (first_move side name parent now x place d n m)) → Link x (side_of parent name place (goes_on d rows takes tells))
     own_link h = link_like x (took_in c here step) then_side alike h
@@ -149,16 +149,12 @@ module _ (side : Place) (name parent : List ℕ) (now : ℕ) (x : ChildConnectio
   abbrev refusal : ErrorName → List Message
   refusal error = error_reply name m error ∷ []
 
-  -- one message under the header of what came
-  telling_says : (body : Body) (c : ℕ) (b : Body) → Contains (about (header_of parent name c) (record { header = m.header; body = body } ∷ [])) b → (header_of parent name c ≡ m.header) × (b ≡ body)
-  telling_says body c b i =
-      let said : Message = record { header = m.header; body = body } in
+  refusal_says : (error : ErrorName) (c : ℕ) (b : Body) → Contains (about (header_of parent name c) (error_reply name m error ∷ [])) b → (header_of parent name c ≡ m.header) × (b ≡ Body.Error (connection_of m.body) (plain name error))
+  refusal_says error c b i =
+      let said : Message = error_reply name m error in
       let w = said_under (header_of parent name c) b (said ∷ []) i in
       let q : w.message ≡ said = only_one said w.message w.there in
       (same_header (header_of parent name c) m.header (sym (ap (λ (z : Message). is_same_request (header_of parent name c) z.header) q) ∙ w.header), sym w.body ∙ ap (λ (z : Message). z.body) q)
-
-  refusal_says : (error : ErrorName) (c : ℕ) (b : Body) → Contains (about (header_of parent name c) (error_reply name m error ∷ [])) b → (header_of parent name c ≡ m.header) × (b ≡ Body.Error (connection_of m.body) (plain name error))
-  refusal_says error = telling_says (Body.Error (connection_of m.body) (plain name error))
 
   refusal_there : (error : ErrorName) → Contains (about m.header (error_reply name m error ∷ [])) (Body.Error (connection_of m.body) (plain name error))
   unfolding about is_answering is_asking is_noting
@@ -192,26 +188,21 @@ module _ (side : Place) (name parent : List ℕ) (now : ℕ) (x : ChildConnectio
         seen_same = same;
       }
 
-  -- another's request is answered at once, and nothing else is done
-  pub foreign_told : (body : Body) → is_taken m.header d.seen ≡ false → ((c : ℕ) → IsHeeded x c → m.header ≡ header_of parent name c → ⊥) → IsMate parent name x place d →
-      IsMate parent name x place (goes_on d d.records (with_taken m.header d.seen) (record { header = m.header; body = body } ∷ []))
-  foreign_told body u foreign h =
-      aside_mate parent name x place d d.records (with_taken m.header d.seen) (record { header = m.header; body = body } ∷ [])
-      (still_aside (with_taken m.header d.seen) (record { header = m.header; body = body } ∷ []) h.seated (λ c t. taken_still (header_of parent name c) m.header d.seen u t)
-      (λ c b i j. foreign c i (sym (telling_says body c b j).0)) (λ c i. taken_apart (header_of parent name c) m.header d.seen u (λ e. foreign c (inr i) (sym e)))) h
-
   -- another's request is refused
   pub foreign_refused : (error : ErrorName) → is_taken m.header d.seen ≡ false → ((c : ℕ) → IsHeeded x c → m.header ≡ header_of parent name c → ⊥) → IsMate parent name x place d →
       IsMate parent name x place (goes_on d d.records (with_taken m.header d.seen) (error_reply name m error ∷ []))
-  foreign_refused error = foreign_told (Body.Error (connection_of m.body) (plain name error))
+  foreign_refused error u foreign h =
+      aside_mate parent name x place d d.records (with_taken m.header d.seen) (refusal error)
+      (still_aside (with_taken m.header d.seen) (refusal error) h.seated (λ c t. taken_still (header_of parent name c) m.header d.seen u t)
+      (λ c b i j. foreign c i (sym (refusal_says error c b j).0)) (λ c i. taken_apart (header_of parent name c) m.header d.seen u (λ e. foreign c (inr i) (sym e)))) h
 
-  -- another's request is taken, and nothing is done
-  pub foreign_seen : is_taken m.header d.seen ≡ false → ((c : ℕ) → IsHeeded x c → m.header ≡ header_of parent name c → ⊥) → IsMate parent name x place d → IsMate parent name x place (goes_on d d.records (with_taken m.header d.seen) [])
-  unfolding about
-  foreign_seen u foreign h =
-      aside_mate parent name x place d d.records (with_taken m.header d.seen) []
-      (still_aside (with_taken m.header d.seen) [] h.seated (λ c t. taken_still (header_of parent name c) m.header d.seen u t)
-      (λ c b i j. nothing_in b j) (λ c i. taken_apart (header_of parent name c) m.header d.seen u (λ e. foreign c (inr i) (sym e)))) h
+  -- another's request is taken, and what is said concerns no view
+  pub foreign_seen : (out : List Message) → TellsNothing out → is_taken m.header d.seen ≡ false → ((c : ℕ) → IsHeeded x c → m.header ≡ header_of parent name c → ⊥) → IsMate parent name x place d →
+      IsMate parent name x place (goes_on d d.records (with_taken m.header d.seen) out)
+  foreign_seen out none u foreign h =
+      aside_mate parent name x place d d.records (with_taken m.header d.seen) out
+      (still_aside (with_taken m.header d.seen) out h.seated (λ c t. taken_still (header_of parent name c) m.header d.seen u t)
+      (λ c b i j. not_there (about (header_of parent name c) out) b (none (header_of parent name c)) j) (λ c i. taken_apart (header_of parent name c) m.header d.seen u (λ e. foreign c (inr i) (sym e)))) h
 
   -- the view's own request is refused
   pub own_refused : (error : ErrorName) (c : ℕ) (k : Kind) → is_taken m.header d.seen ≡ false → m.header ≡ header_of parent name c → x.reserve_request ≡ Some (sent c k) →

@@ -31,9 +31,10 @@ use Rattle.provider_agent.specs.Setting.{Setting}
 use Rattle.provider_agent.specs.Steps.{keeps, taken_at, with_new, opens_between, opens, accepts, answers, serves, receives, is_waiting, works, is_forcible, forces, own_origin, agent_of, told_at, is_told_at, drawn, ticks_all, ticks, step, after_if, after, may_take}
 use Rattle.circuit_link.specs.Serving.{child_of, IsByItself, Tells, TakeCourses, taken_by, IsTurn, IsNew, Serves}
 use Rattle.circuit_link.proofs.Abouts.{addressed_append, same_bytes}
-use Rattle.circuit_link.proofs.Gathering.{tells_addressed, no_courses, one_course, more_courses}
+use Rattle.circuit_link.proofs.Gathering.{row_tells, nothing_tells, tells_addressed, no_courses, one_course, more_courses}
 use Rattle.circuit_link.proofs.Living.{work_itself, force_itself, tick_itself, plane_itself, telling_itself}
-use Rattle.circuit_link.proofs.Requests.{refused_by, found_by, first_by, unnamed_kind, reserve_unnamed}
+use Rattle.circuit_link.proofs.Requests.{refused_by, found_by, first_by, unnamed_kind, query_kind, reserve_unnamed}
+use Rattle.circuit_link.proofs.Rowless.{act_rowless}
 
 -- the change of the data plane that is told behind a move is an act of its own
 plane_act : (before : Plane) (c now : ℕ) (r : Record) → IsAct r (tells before c now (stays r))
@@ -55,7 +56,7 @@ module _ (setting : Setting) (input : Input) (said : List Message) where
       (subst (λ z. TakeCourses setting.name s.records (slice_set z n y.rec) (addressed setting.name y.rec.owner y.out)) (sym rs)
       (one_course setting.name s.records n y.rec y.out (addressed setting.name y.rec.owner y.out) l (Course.does (record_at n s.records) y act)
       (telling_itself before (id_of setting.number s'.next) s'.now (record_at n s.records) x itself)
-      (subst (λ o. Tells setting.name o y.out (addressed setting.name y.rec.owner y.out)) act.later.owner (tells_addressed setting.name y.rec.owner y.out))))
+      (subst (λ o. Tells setting.name o y.out (addressed setting.name y.rec.owner y.out)) act.later.owner (tells_addressed setting.name y.rec.owner y.out (act_rowless (record_at n s.records) y act)))))
     where
       before : Plane
       before = status_of s'.now (record_at n s'.records)
@@ -94,7 +95,7 @@ module _ (setting : Setting) (input : Input) (said : List Message) where
       more_courses setting.name r y.rec y.out (addressed setting.name y.rec.owner y.out) rs (ticks_all (agent_of setting) before now (next + drawn (is_told_at (agent_of setting) before now r)) rs).records
       (ticks_all (agent_of setting) before now (next + drawn (is_told_at (agent_of setting) before now r)) rs).out (Course.does r y act)
       (telling_itself (status_of before r) (id_of setting.number next) now r _ (tick_itself (is_live r.lsm) (own_origin (agent_of setting) r) now r))
-      (subst (λ o. Tells setting.name o y.out (addressed setting.name y.rec.owner y.out)) act.later.owner (tells_addressed setting.name y.rec.owner y.out))
+      (subst (λ o. Tells setting.name o y.out (addressed setting.name y.rec.owner y.out)) act.later.owner (tells_addressed setting.name y.rec.owner y.out (act_rowless r y act)))
       (ticks_course before now (next + drawn (is_told_at (agent_of setting) before now r)) rs)
     where
       y : Moved
@@ -122,7 +123,7 @@ module _ (setting : Setting) (input : Input) (said : List Message) where
           itself = plane_itself (is_told before s.now x.rec) (status_of s.now x.rec) (id_of setting.number s.next) s.now x.rec;
           records = refl;
           spoken = addressed_append setting.name z.rec.owner x.out z.out ∙ ap (λ o. addressed setting.name o x.out ++ addressed setting.name z.rec.owner z.out) act.later.owner;
-          tells = tells_addressed setting.name z.rec.owner z.out;
+          tells = tells_addressed setting.name z.rec.owner z.out (act_rowless x.rec z act);
         }
       where
         x : Moved
@@ -151,7 +152,7 @@ module _ (setting : Setting) (input : Input) (said : List Message) where
           (turn (with_new setting seen_now m q points) (length s.records))
 
       left : is_reservation (kind_of m.body) ≡ false → Does s (unchanged seen_now)
-      left k = Serves.leaves m new k refl refl
+      left k = Serves.leaves m new k refl nothing_tells
 
       opening : (body : Body) → m.body ≡ body → connection_of m.body ≡ None → refusal setting.name stp_of s.records m ≡ None → Does s (opens body setting stp_of seen_now m)
       opening (Body.Reserve q) e c r = between (points_of stp_of q) q refl e (reserve_unnamed m.body q e c) r
@@ -182,7 +183,7 @@ module _ (setting : Setting) (input : Input) (said : List Message) where
 
       telling : is_query m.body ≡ true → (b : Bool) (o : Option Body) → bytes_eq m.header.provider setting.name ≡ b → answer_to setting.name s.now s.records m ≡ o
           → Does s (says (seen_now stp_of s got req u) (reply_by b o setting.name m ∷ []))
-      telling q true (Some body) p e = Serves.tells m body (new stp_of s got req u) q (providers_tell_rows setting.name s.now s.records m body e) refl refl
+      telling q true (Some body) p e = Serves.leaves m (new stp_of s got req u) (query_kind m.body q) refl (row_tells m.header body (providers_tell_rows setting.name s.now s.records m body e))
       telling q true None p e = Serves.refuses m ErrorName.Nonexistent (new stp_of s got req u) (λ n id own names at. absurd (is_there n id q e names at)) refl refl
       telling q false o p e = Serves.refuses m ErrorName.WrongProvider (new stp_of s got req u) (λ n id own names at. absurd (another p own)) refl refl
 

@@ -3,7 +3,7 @@ use Rattle.std.proofs.Common.{ℕ, ◌≡◌, ◌<◌, ◌==◌, ◌&&◌, true,
 use Rattle.std.proofs.lemmas.Option.{get_or_from_slice_get, slice_get_within, slice_get-get_or}
 use Rattle.std.proofs.lemmas.List.Quantifiers.{position-Some}
 use Rattle.std.proofs.lemmas.Slice.Eq.{bytes_eq-Decides}
-use Rattle.nsi_primitive.specs.Messages.{kind_of, connection_of}
+use Rattle.nsi_primitive.specs.Messages.{kind_of, connection_of, is_query}
 use Rattle.nsi_primitive.specs.declared.kind.ErrorName.{ErrorName}
 use Rattle.nsi_primitive.specs.declared.message.Body.{Body}
 use Rattle.nsi_primitive.specs.declared.message.Message.{Message}
@@ -68,6 +68,11 @@ unnamed_kind (Body.Reserve q) c n = absurd (n q refl)
 unnamed_kind (Body.ReserveCommit id) c n = absurd (cc)
 unnamed_kind (Body.ReserveAbort id) c n = absurd (cc)
 unnamed_kind _ c n = refl
+
+-- nor is a query
+pub query_kind : (body : Body) → is_query body ≡ true → is_reservation (kind_of body) ≡ false
+unfolding is_reservation
+query_kind body q = grind (arith, q)
 
 pub reserve_unnamed : (body : Body) (q : ReserveRequest) → body ≡ Body.Reserve q → connection_of body ≡ None → q.connection ≡ None
 unfolding connection_of

@@ -1,5 +1,6 @@
 -- What a child keeps and has said, as the view of one of its connections stands against it.
-use Rattle.std.specs.Prelude.{ℕ, ◌≡◌, false, List, [], ◌∷◌, ◌++◌, length, ◌<◌, Option, Some, None, ◌&&◌, if◌then◌else◌}
+use Rattle.std.specs.Prelude.{ℕ, ◌≡◌, Bool, true, false, not, List, [], ◌∷◌, ◌++◌, length, ◌<◌, Contains, Option, Some, None, ◌&&◌, ◌⊎◌, if◌then◌else◌}
+use Rattle.nsi_primitive.specs.Messages.{has_rows}
 use Rattle.nsi_primitive.specs.declared.message.Body.{Body}
 use Rattle.nsi_primitive.specs.declared.message.Header.{Header}
 use Rattle.nsi_primitive.specs.declared.message.Message.{Message}
@@ -19,10 +20,22 @@ pub record Child : Type 0 where
 abbrev pub goes_on : Child → List Record → List Header → List Message → Child
 goes_on d records seen out = record { records = records; seen = seen; said = d.said ++ out }
 
--- the answers that were said under a header
+-- an answer that a view may listen to: rows that answer a query concern no view
+abbrev pub is_for_views : Body → Bool
+is_for_views body = is_answering body && not (has_rows body)
+
+-- the answers for views that were said under a header
 unfoldable pub about : Header → List Message → List Body
 about h [] = []
-about h (m ∷ ms) = if is_answering m.body && is_same_request h m.header then m.body ∷ about h ms else about h ms
+about h (m ∷ ms) = if is_for_views m.body && is_same_request h m.header then m.body ∷ about h ms else about h ms
+
+-- what concerns no view
+abbrev pub TellsNothing : List Message → Type 0
+TellsNothing out = (h : Header) → about h out ≡ []
+
+-- what may reach a view under a header: an answer for views that was said, or rows
+abbrev pub MayReach : Header → List Message → Body → Type 0
+MayReach h said body = Contains (about h said) body ⊎ (has_rows body ≡ true)
 
 abbrev pub header_of : (parent child : List ℕ) → ℕ → Header
 header_of parent child c = record { correlation = c; requester = parent; provider = child }

@@ -26,7 +26,7 @@ use Rattle.provider_agent.specs.Setting.{Setting as ProviderSetting}
 use Rattle.provider_agent.specs.Steps.{after as provider_after}
 use Rattle.aggregator_agent.specs.Setting.{Setting as AggregatorSetting}
 use Rattle.aggregator_agent.specs.Steps.{after as aggregator_after}
-use Rattle.circuit_link.specs.Children.{Child, goes_on, about, header_of, IsFair}
+use Rattle.circuit_link.specs.Children.{Child, goes_on, header_of, MayReach, IsFair}
 use Rattle.circuit_link.specs.Mates.{IsMate}
 use Rattle.circuit_link.specs.Serving.{child_of, Serves, IsForeign, IsOwn, LeavesAlone, IsPlaceAfter}
 use Rattle.circuit_link.specs.Sides.{Side, standing_of, took_in, OwesTaken}
@@ -107,10 +107,10 @@ AskingKeepsMate =
     (parent child : List ℕ) (d : Child) (k : Kind) (c : ℕ) (x : ChildConnection) (place : Option ℕ) → IsFair parent child d → is_reservation k ≡ true → x.reserve_request ≡ None →
     is_taken (header_of parent child c) d.seen ≡ false → IsMate parent child x place d → IsMate parent child (asks k c x) place d
 
--- the view hears what the child has said
+-- the view hears what may come of the child
 abbrev pub HearingKeepsMate : Type 0
 HearingKeepsMate =
-    (parent child : List ℕ) (d : Child) (b : Body) (c : ℕ) (x : ChildConnection) (place : Option ℕ) → Contains (about (header_of parent child c) d.said) b → IsMate parent child x place d →
+    (parent child : List ℕ) (d : Child) (b : Body) (c : ℕ) (x : ChildConnection) (place : Option ℕ) → MayReach (header_of parent child c) d.said b → IsMate parent child x place d →
     IsMate parent child (hears b c x).view place d
 
 -- what the view does besides

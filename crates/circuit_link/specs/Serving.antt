@@ -1,6 +1,6 @@
 -- What an entry does at an agent that is asked, whatever its kind, as far as the views of its connections are concerned.
 use Rattle.std.specs.Prelude.{ℕ, ◌≡◌, ◌<◌, true, false, List, [], ◌∷◌, ◌++◌, length, slice_set, Contains, Option, Some, None, option_map, ◌⊎◌}
-use Rattle.nsi_primitive.specs.Messages.{kind_of, connection_of, has_rows, is_query, is_request}
+use Rattle.nsi_primitive.specs.Messages.{kind_of, connection_of, is_request}
 use Rattle.nsi_primitive.specs.declared.entry.Input.{Input}
 use Rattle.nsi_primitive.specs.declared.kind.ErrorName.{ErrorName}
 use Rattle.nsi_primitive.specs.declared.kind.Kind.{Kind}
@@ -24,7 +24,7 @@ use Rattle.connection_record.specs.Refusal.{record_refusal, place_of}
 use Rattle.connection_record.specs.Replies.{Moved, id_or, addressed}
 use Rattle.agent_state.specs.Entries.{error_reply}
 use Rattle.agent_state.specs.State.{State, record_at}
-use Rattle.circuit_link.specs.Children.{Child, about, header_of}
+use Rattle.circuit_link.specs.Children.{Child, about, header_of, TellsNothing}
 use Rattle.circuit_link.specs.Sides.{version_of}
 
 -- What a record does by itself: it lives on; it checks nothing that it didn't check before; and what it confirms is what it was checking, under the
@@ -103,13 +103,11 @@ IsRefused name m error d =
     (n id : ℕ) → m.header.provider ≡ name → connection_of m.body ≡ Some id → place_of id m.header.requester d.records ≡ Some n →
     record_refusal m.body (record_at n d.records) ≡ Some error
 
--- An entry: no request is taken, and records do something by themselves; or one is taken, and nothing is done, as it isn't the reservation's;
--- or it is a query, which is answered by rows; or it is refused; or a record takes it; or a record is opened for it.
+-- An entry: no request is taken, and records do something by themselves; or one is taken that isn't the reservation's, as a query is, and what is
+-- said then concerns no view; or it is refused; or a record takes it; or a record is opened for it.
 pub data Serves (name : List ℕ) (input : Input) (d : Child) (records : List Record) (seen : List Header) (out : List Message) : Type 0 where
   acts : seen ≡ d.seen → TakeCourses name d.records records out → Serves name input d records seen out
-  leaves : (m : Message) → IsNew input m d seen → is_reservation (kind_of m.body) ≡ false → records ≡ d.records → out ≡ [] → Serves name input d records seen out
-  tells : (m : Message) (body : Body) → IsNew input m d seen → is_query m.body ≡ true → has_rows body ≡ true → records ≡ d.records → out ≡ record { header = m.header; body = body } ∷ [] →
-      Serves name input d records seen out
+  leaves : (m : Message) → IsNew input m d seen → is_reservation (kind_of m.body) ≡ false → records ≡ d.records → TellsNothing out → Serves name input d records seen out
   refuses : (m : Message) (error : ErrorName) → IsNew input m d seen → IsRefused name m error d → records ≡ d.records → out ≡ error_reply name m error ∷ [] → Serves name input d records seen out
   takes : (m : Message) (n : ℕ) (side : Side) (now : ℕ) → IsNew input m d seen → IsAbout name m n d → IsTurn side name now m n d.records records out → Serves name input d records seen out
   opens : (m : Message) (id : ℕ) (service : Service) (source dest : ℕ) (side : Side) (now : ℕ) → IsNew input m d seen → IsFirst name m →

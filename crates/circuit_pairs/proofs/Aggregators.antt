@@ -1,5 +1,6 @@
 -- An entry of an aggregator keeps the pair of its views and a child.
-use Rattle.std.proofs.Common.{ℕ, ◌≡◌, ◌<◌, ◌≤◌, Bool, true, false, List, [], ◌∷◌, ◌++◌, length, get_or, Contains, Option, Some, None, ◌⊎◌, inl, inr, refl, sym, ap, ◌∙◌, subst, arith, slice_set, append_assoc, append-nil, length-append, get_or-set_same, get_or-set_other}
+use Rattle.std.proofs.Common.{ℕ, ◌≡◌, ◌<◌, ◌≤◌, Bool, true, false, List, [], ◌∷◌, ◌++◌, length, get_or, Contains, Option, Some, None, ◌⊎◌, inl, inr, refl, sym, ap, ◌∙◌, subst, arith, slice_set, append_assoc, append-nil, length-append, get_or-set_same, get_or-set_other, bytes_eq, true≢false}
+use Rattle.std.specs.List.{list_any}
 use Rattle.std.proofs.lemmas.Bool.{cases_eq}
 use Rattle.std.proofs.lemmas.List.Elements.{Contains-append_cases}
 use Rattle.nsi_primitive.specs.Ids.{id_of}
@@ -14,22 +15,25 @@ use Rattle.nsi_primitive.specs.declared.state.Side.{Side}
 use Rattle.message_retry.specs.Retry.{saw}
 use Rattle.child_connection.specs.Views.{ChildConnection}
 use Rattle.child_connection.specs.Hearing.{hear}
-use Rattle.child_connection.specs.Holding.{IsAlike}
+use Rattle.child_connection.specs.Holding.{is_reservation, IsAlike}
 use Rattle.connection_record.specs.declared.record.Record.{Record}
 use Rattle.connection_record.specs.Refusal.{refusal, points_of}
 use Rattle.connection_record.specs.Replies.{Moved, addressed}
 use Rattle.connection_record.specs.Speaking.{tally, is_answering, asks_for}
 use Rattle.connection_record.proofs.Saying.{takes_speaks}
-use Rattle.agent_state.specs.Entries.{error_reply, query_reply}
+use Rattle.agent_state.specs.declared.parent.OpenQuery.{OpenQuery}
+use Rattle.agent_state.specs.Entries.{is_recursive, error_reply, query_reply}
 use Rattle.agent_state.specs.State.{AgentState, AgentStepped, record_at, children_at}
 use Rattle.aggregator_agent.specs.declared.agent.Agent.{Agent}
 use Rattle.aggregator_agent.specs.Asking.{Turn, Asking, passed_on, pass_each}
+use Rattle.aggregator_agent.specs.Below.{is_asked, nested_reply, Sought, seek, opened, Heard, hear_below}
 use Rattle.aggregator_agent.specs.Clock.{clock_all}
 use Rattle.aggregator_agent.specs.Setting.{Setting}
-use Rattle.aggregator_agent.specs.Steps.{sees, is_seen, children_for, request_at, with_new, opens_between, opens, request_to, accepts, answers, Passed, hear_all, hears, receives, ticks, step, after_if, after, may_take, serves}
+use Rattle.aggregator_agent.specs.Steps.{sees, is_seen, children_for, request_at, with_new, opens_between, opens, request_to, accepts, answers, Passed, hear_all, hears, opens_query, asks_below, asks_if_own, place_named, queries, receives, ticks, step, after_if, after, may_take, serves}
 use Rattle.aggregator_agent.specs.Turns.{takes, request_turn, spoken}
-use Rattle.circuit_link.specs.Children.{Child, about, header_of, IsFair}
+use Rattle.circuit_link.specs.Children.{Child, header_of, MayReach, IsFair}
 use Rattle.circuit_link.proofs.Aggregators.{request_from}
+use Rattle.circuit_link.proofs.Below.{all_asked_below, all_said_below}
 use Rattle.circuit_link.proofs.Opening.{last_here, last_there}
 use Rattle.circuit_link.proofs.Requests.{found_by}
 use Rattle.circuit_pairs.specs.Pairs.{IsPair, IsOnce, IsFresh}
@@ -37,13 +41,22 @@ use Rattle.circuit_pairs.specs.Minding.{ReservesNothing, Minds, no_child, mine, 
 use Rattle.circuit_pairs.proofs.Minding.{alike_same, alike_then, alike_pair, more_pair, minding_pair}
 use Rattle.circuit_pairs.proofs.Overseeing.{turn_asks, clock_reserves, request_children, all_hear, hear_all_reserves, path_slot}
 use Rattle.circuit_pairs.proofs.Parenting.{dec_pair, passed_may, fresh_later, each_pair}
-use Rattle.circuit_pairs.proofs.Plain.{none_reserves, addressed_asks, addressed_reserves, answer_reserves, error_reserves}
+use Rattle.circuit_pairs.proofs.Plain.{none_reserves, both_reserve, addressed_asks, addressed_reserves, answer_reserves, error_reserves}
 use Rattle.aggregator_agent.specs.Queries.{answer_to}
 use Rattle.aggregator_agent.proofs.Queried.{reply_asks_nothing}
 
 beyond : {X : Type 0} (xs : List X) (d : X) → get_or xs (length xs) d ≡ d
 beyond [] d = refl
 beyond (y ∷ ys) d = beyond ys d
+
+-- neither is what children are asked for a query a request for a reservation, nor what is answered then
+below_reserves : (child : List ℕ) (agent : Agent) (next : ℕ) (xs : List ChildConnection) → ReservesNothing child (seek agent next xs).asked
+unfolding is_reservation
+below_reserves child agent next xs m i r p = true≢false (sym r ∙ all_asked_below (λ z. is_reservation (kind_of z.body) ≡ false) agent (λ c id x. refl) next xs m i)
+
+answered_reserves : (child agent : List ℕ) (records : List Record) (m : Message) (qs : List OpenQuery) → ReservesNothing child (hear_below agent records m qs).out
+unfolding is_reservation
+answered_reserves child agent records m qs z i r p = true≢false (sym r ∙ all_said_below (λ y. is_reservation (kind_of y.body) ≡ false) agent (λ own q. refl) records m qs z i)
 
 module _ (set : Setting) (child : List ℕ) (d : Child) (fair : IsFair set.agent.name child d) (asked : List Message) where
   abbrev agent : Agent
@@ -171,24 +184,48 @@ module _ (set : Setting) (child : List ℕ) (d : Child) (fair : IsFair set.agent
       answering (Some error) r = resting (error_reply parent m error ∷ []) (error_reserves child parent m error)
       answering None r = accepting (connection_of m.body) refl r
 
+      -- a query about all that is below asks the children for no reservation
+      opening_query : (n : ℕ) (x : Sought) → ReservesNothing child x.asked → (b : Bool) → Now (opens_query b set s' n m x)
+      opening_query n x h true = resting x.asked h
+      opening_query n x h false = resting (nested_reply parent (record_at n s'.base.records) (opened m n x) ∷ []) (answer_reserves child (nested_reply parent (record_at n s'.base.records) (opened m n x)) refl)
+
+      asking_below : (n : ℕ) → Now (asks_below set s' n m)
+      unfolding asks_below
+      asking_below n =
+          let x : Sought = seek set.agent s'.base.next (children_at n s'.children) in
+          opening_query n x (below_reserves child set.agent s'.base.next (children_at n s'.children)) (list_any is_asked x.parts)
+
+      telling_below : (b : Bool) (o : Option ℕ) → Now (asks_if_own b o set s' m)
+      telling_below true (Some n) = asking_below n
+      telling_below true None = resting (error_reply parent m ErrorName.Nonexistent ∷ []) (error_reserves child parent m ErrorName.Nonexistent)
+      telling_below false o = resting (error_reply parent m ErrorName.WrongProvider ∷ []) (error_reserves child parent m ErrorName.WrongProvider)
+
+      querying : (b : Bool) → Now (queries b set s' m)
+      querying true = telling_below (bytes_eq m.header.provider parent) (place_named m s'.base.records)
+      querying false = resting (query_reply parent m (answer_to parent s' m) ∷ []) (answer_reserves child (query_reply parent m (answer_to parent s' m)) (reply_asks_nothing parent s' m))
+
       serving : (b : Bool) → Now (serves b set s' m)
-      serving true = resting (query_reply parent m (answer_to parent s' m) ∷ []) (answer_reserves child (query_reply parent m (answer_to parent s' m)) (reply_asks_nothing parent s' m))
+      serving true = querying (is_recursive m.body)
       serving false = answering (refusal parent set.stp_of s'.base.records m) refl
 
     ---- A message of a child
 
     module _ (once : IsOnce set.agent.name asked) (input : Input)
-        (said : (m : Message) → input ≡ Input.Got m → is_answering m.body ≡ true → m.header.provider ≡ child → Contains (about (header_of set.agent.name child m.header.correlation) d.said) m.body) where
+        (said : (m : Message) → input ≡ Input.Got m → is_answering m.body ≡ true → m.header.provider ≡ child → MayReach (header_of set.agent.name child m.header.correlation) d.said m.body) where
       heard_pair : (m : Message) (s' : AgentState) → input ≡ Input.Got m → s'.children ≡ s.children → s'.base.records ≡ s.base.records → Now (hears set s' m)
       unfolding hears
       heard_pair m s' got same rows =
-          more_pair (ℕ × ℕ) dec_pair parent child asked d fair (slot child p.children) p.out (hear_all_reserves child agent s'.base.now 0 m s'.base.next s'.base.records s'.children)
+          more_pair (ℕ × ℕ) dec_pair parent child asked d fair (slot child p.children) (p.out ++ below.out)
+          (both_reserve child p.out below.out (hear_all_reserves child agent s'.base.now 0 m s'.base.next s'.base.records s'.children) (answered_reserves child set.agent.name s'.base.records m s'.queries))
           (subst (λ z. Pair p.children z) (append-nil asked)
           (minding_pair (ℕ × ℕ) dec_pair parent child asked d fair once (id_of agent.number s.base.next) input (slot child s.children) (slot child p.children) [] (fresh.untaken s.base.next (omega arith)) (λ n i a e. fresh.unasked s.base.next (omega arith) n i a e) said
           (Minds.heard m got refl (λ i. subst (λ z. IsAlike (hear_slot_of m z i) (slot child p.children i)) same (all_hear child agent s'.base.now 0 m s'.base.next s'.base.records s'.children (ap length same ∙ even ∙ sym (ap length rows)) i.0 i.1))) pair))
         where
           p : Passed
           p = hear_all agent s'.base.now 0 m s'.base.next s'.base.records s'.children
+
+          below : Heard
+          below = hear_below set.agent.name s'.base.records m s'.queries
 
           hear_slot_of : Message → List (List ChildConnection) → ℕ × ℕ → ChildConnection
           hear_slot_of m z i = (hear m (slot child z i)).view
@@ -208,7 +245,7 @@ module _ (set : Setting) (child : List ℕ) (d : Child) (fair : IsFair set.agent
       ticks_pair now = plain_pair (clock_all agent now 0 s.dues s.base.waiting s.base.next s.base.records).out (clock_reserves child agent now 0 s.dues s.base.waiting s.base.next s.base.records)
 
 step_pair : (set : Setting) (child : List ℕ) (d : Child) (fair : IsFair set.agent.name child d) (asked : List Message) (s : AgentState) (input : Input) (second : ℕ) → length s.children ≡ length s.base.records → IsFresh set.agent.name child set.agent.number d s.base.next asked →
-    IsOnce set.agent.name asked → ((m : Message) → input ≡ Input.Got m → is_answering m.body ≡ true → m.header.provider ≡ child → Contains (about (header_of set.agent.name child m.header.correlation) d.said) m.body) →
+    IsOnce set.agent.name asked → ((m : Message) → input ≡ Input.Got m → is_answering m.body ≡ true → m.header.provider ≡ child → MayReach (header_of set.agent.name child m.header.correlation) d.said m.body) →
     IsPair (ℕ × ℕ) set.agent.name child (slot child s.children) asked d → IsPair (ℕ × ℕ) set.agent.name child (slot child (step input second set s).state.children) (asked ++ (step input second set s).out) d
 unfolding step
 step_pair set child d fair asked s (Input.Got m) second even fresh once said pair = receiving set child d fair asked s even fresh pair once (Input.Got m) said m (is_request m.body) (is_seen s m) refl refl
@@ -219,7 +256,7 @@ step_pair set child d fair asked s (Input.Force n) second even fresh once said p
 step_pair set child d fair asked s (Input.Ask n ask) second even fresh once said pair = plain_pair set child d fair asked s even fresh pair [] (none_reserves child)
 
 pub aggregator_pair : (set : Setting) (child : List ℕ) (d : Child) (fair : IsFair set.agent.name child d) (asked : List Message) (s : AgentState) (e : Entry) → length s.children ≡ length s.base.records → IsFresh set.agent.name child set.agent.number d s.base.next asked →
-    IsOnce set.agent.name asked → ((m : Message) → e.input ≡ Input.Got m → is_answering m.body ≡ true → m.header.provider ≡ child → Contains (about (header_of set.agent.name child m.header.correlation) d.said) m.body) →
+    IsOnce set.agent.name asked → ((m : Message) → e.input ≡ Input.Got m → is_answering m.body ≡ true → m.header.provider ≡ child → MayReach (header_of set.agent.name child m.header.correlation) d.said m.body) →
     IsPair (ℕ × ℕ) set.agent.name child (slot child s.children) asked d → IsPair (ℕ × ℕ) set.agent.name child (slot child (after set s e).state.children) (asked ++ (after set s e).out) d
 unfolding after
 aggregator_pair set child d fair asked s e even fresh once said pair = by_test (may_take s e)

@@ -1,7 +1,7 @@
 -- What a child does for a parent it was asked for, whatever entry it takes.
 use Rattle.std.proofs.Common.{ℕ, ◌≡◌, ◌<◌, ◌∙◌, ◌⊎◌, inl, inr, Bool, true, false, List, [], ◌∷◌, ◌++◌, length, Contains, Option, Some, None, option_map, ◌==◌, ◌&&◌, refl, sym, ap, subst, arith, eqb-true, true≢false, get_or-set_same, get_or-set_other, length-append}
 use Rattle.std.proofs.lemmas.Bool.{cases_eq}
-use Rattle.nsi_primitive.specs.Messages.{connection_of, has_rows, is_request}
+use Rattle.nsi_primitive.specs.Messages.{connection_of, is_request}
 use Rattle.nsi_primitive.specs.declared.entry.Input.{Input}
 use Rattle.nsi_primitive.specs.declared.message.Body.{Body}
 use Rattle.nsi_primitive.specs.declared.message.Criteria.{Criteria}
@@ -14,7 +14,6 @@ use Rattle.nsi_primitive.specs.declared.message.ReserveConfirmation.{ReserveConf
 use Rattle.nsi_primitive.specs.declared.message.ReserveRequest.{ReserveRequest}
 use Rattle.nsi_primitive.specs.declared.state.Rsm.{Rsm}
 use Rattle.nsi_primitive.specs.declared.state.Side.{Side}
-use Rattle.record_index.proofs.Members.{nothing_in}
 use Rattle.reserve_machine.specs.Table.{step as reserve_step}
 use Rattle.connection_record.specs.declared.record.Record.{Record}
 use Rattle.connection_record.specs.declared.apply.Move.{Move}
@@ -31,11 +30,11 @@ use Rattle.connection_record.proofs.Courses.{course_after}
 use Rattle.connection_record.proofs.Growing.{moves_if_later}
 use Rattle.agent_state.specs.Entries.{error_reply}
 use Rattle.agent_state.specs.State.{no_record, record_at}
-use Rattle.circuit_link.specs.Children.{Child, goes_on, about, header_of}
+use Rattle.circuit_link.specs.Children.{Child, goes_on, about, header_of, TellsNothing}
 use Rattle.circuit_link.specs.Serving.{IsByItself, TakeCourses, taken_by, IsTurn, IsAbout, Serves}
 use Rattle.circuit_link.specs.Sides.{version_of}
 use Rattle.circuit_link.proofs.Abouts.{headers_same, about_cases, addressed_in, said_under}
-use Rattle.circuit_link.proofs.Answering.{only_one, IsReplied, replied_of}
+use Rattle.circuit_link.proofs.Answering.{only_one, not_there, IsReplied, replied_of}
 use Rattle.circuit_link.proofs.Living.{is_fit, confirmed_in, unconfirmed, none_confirmed, provisions_life, provisions_rsm, provisions_pending, provisions_request, provisions_confirmed, lives_rsm, lives_pending, lives_request, lives_confirmed, reserves_life}
 use Rattle.circuit_link.proofs.Opening.{last_here, last_there}
 use Rattle.circuit_pairs.specs.Pairs.{IsAsked, IsReserveOf, IsTerminateOf, IsTold, IsAskedFor}
@@ -204,9 +203,8 @@ module _ (parent name : List ℕ) (asked : List Message) (d : Child) (was : IsAs
       confirms c f (inl i) = was.confirms c f i
       confirms c f (inr i) = absurd (none c f i)
 
-  nothing_confirms : (out : List Message) → out ≡ [] → (c : ℕ) (f : ReserveConfirmation) → Contains (about (header_of parent name c) out) (Body.ReserveConfirmed f) → ⊥
-  unfolding about
-  nothing_confirms out e c f i = nothing_in (Body.ReserveConfirmed f) (subst (λ ms. Contains (about (header_of parent name c) ms) (Body.ReserveConfirmed f)) e i)
+  nothing_confirms : (out : List Message) → TellsNothing out → (c : ℕ) (f : ReserveConfirmation) → Contains (about (header_of parent name c) out) (Body.ReserveConfirmed f) → ⊥
+  nothing_confirms out none c f i = not_there (about (header_of parent name c) out) (Body.ReserveConfirmed f) (none (header_of parent name c)) i
 
   error_confirms : (out : List Message) (m : Message) (error : ErrorName) → out ≡ error_reply name m error ∷ [] → (c : ℕ) (f : ReserveConfirmation) → Contains (about (header_of parent name c) out) (Body.ReserveConfirmed f) → ⊥
   error_confirms out m error e c f i =
@@ -216,13 +214,6 @@ module _ (parent name : List ℕ) (asked : List Message) (d : Child) (was : IsAs
     where
       other : (o : Option ℕ) (x : Exception) → Body.ReserveConfirmed f ≡ Body.Error o x → ⊥
       other o x e = cc
-
-  rows_confirm : (out : List Message) (m : Message) (b : Body) → has_rows b ≡ true → out ≡ record { header = m.header; body = b } ∷ [] → (c : ℕ) (f : ReserveConfirmation) → Contains (about (header_of parent name c) out) (Body.ReserveConfirmed f) → ⊥
-  rows_confirm out m b s e c f i =
-      let said : Message = record { header = m.header; body = b } in
-      let w = said_under (header_of parent name c) (Body.ReserveConfirmed f) out i in
-      let q : w.message ≡ said = only_one said w.message (subst (λ ms. Contains ms w.message) e w.there) in
-      true≢false (sym s ∙ sym (ap has_rows (sym w.body ∙ ap (λ (z : Message). z.body) q)))
 
   -- a row that takes a request, and then does something by itself
   module _ (side : Side) (now : ℕ) (m : Message) (mine : m.header.requester ≡ parent → Contains asked m) (to : m.header.provider ≡ name) (rows : List Record) (n : ℕ) (l : n < length rows) (records : List Record) (out : List Message) (t : IsTurn side name now m n rows records out)
@@ -335,7 +326,6 @@ module _ (parent name : List ℕ) (asked : List Message) (d : Child) (was : IsAs
       Serves name input d records seen out → IsAskedFor parent name asked (goes_on d records seen out)
   serving_asked input records seen out mine (Serves.acts e v) = subst (λ hs. IsAskedFor parent name asked (goes_on d records hs out)) (sym e) (courses_asked records out v)
   serving_asked input records seen out mine (Serves.leaves m w k r o) = subst (λ rs. IsAskedFor parent name asked (goes_on d rs seen out)) (sym r) (same_asked seen out (nothing_confirms out o))
-  serving_asked input records seen out mine (Serves.tells m b w q s r o) = subst (λ rs. IsAskedFor parent name asked (goes_on d rs seen out)) (sym r) (same_asked seen out (rows_confirm out m b s o))
   serving_asked input records seen out mine (Serves.refuses m error w v r o) = subst (λ rs. IsAskedFor parent name asked (goes_on d rs seen out)) (sym r) (same_asked seen out (error_confirms out m error o))
   serving_asked input records seen out mine (Serves.takes m n side now w a t) =
       turn_asked side now m (λ r. mine m w.got w.request r) a.provider d.records n a.within records out t a.owner (ends_here m n a) was.checks was.ended seen

@@ -14,7 +14,7 @@ use Rattle.message_retry.specs.Taken.{is_taken}
 use Rattle.child_connection.specs.declared.state.Sent.{Sent}
 use Rattle.child_connection.specs.Views.{ChildConnection, sent, is_open_of, is_kind}
 use Rattle.child_connection.specs.Asks.{asks}
-use Rattle.child_connection.specs.Hearing.{hears, hear, hear_from, push_version}
+use Rattle.child_connection.specs.Hearing.{Heard, hears, hear, hear_from, push_version}
 use Rattle.child_connection.specs.Holding.{is_reservation, settles, is_response, IsHeeded, IsAlike, Learns, Commits}
 use Rattle.child_connection.proofs.Holds.{asked_stands}
 use Rattle.child_connection.proofs.Learning.{messages_teach, messages_commit}
@@ -22,14 +22,14 @@ use Rattle.child_connection.proofs.Places.{asks_place, asks_known, hear_place}
 use Rattle.child_connection.proofs.Reservations.{request_stays, others_alike}
 use Rattle.connection_record.specs.Speaking.{is_answering, is_asking, is_noting}
 use Rattle.agent_state.specs.State.{record_at}
-use Rattle.circuit_link.specs.Children.{Child, about, header_of, side_of, IsFair}
+use Rattle.circuit_link.specs.Children.{Child, about, header_of, side_of, MayReach, IsFair}
 use Rattle.aggregator_agent.specs.Asking.{may_abort}
 use Rattle.circuit_link.specs.Sides.{version_of}
 use Rattle.circuit_link.specs.Mates.{IsSeatOf, IsMate, IsOpening}
 use Rattle.circuit_link.proofs.Abouts.{headers_same, same_bytes}
 use Rattle.circuit_link.proofs.Answering.{same_some, only_one, not_there, first_there}
-use Rattle.circuit_link.proofs.Hearing.{other_same}
-use Rattle.circuit_link.proofs.Minding.{alike_heeds, alike_mate, asks_heeds, asking_mate, hears_heeds, hearing_mate, link_asked}
+use Rattle.circuit_link.proofs.Hearing.{other_same, rows_unheard}
+use Rattle.circuit_link.proofs.Minding.{alike_heeds, alike_mate, asks_heeds, asking_mate, hears_heeds, told_mate, link_asked}
 use Rattle.circuit_pairs.proofs.Backing.{backed_still, backed_more}
 use Rattle.circuit_pairs.specs.Pairs.{IsReserveOf, IsTerminateOf, IsTold, IsAskedFor, IsAsked, IsOfReservation, IsSame, IsCommitOf, AreBacked, IsPair, IsOnce}
 use Rattle.circuit_pairs.specs.Minding.{ReservesNothing, Minds}
@@ -400,7 +400,7 @@ module _ (I : Type 0) (dec : CanTellApart I) (parent child : List ℕ) (asked : 
   answers_pair b e said xs pair =
       record {
         place = pair.place;
-        mates = λ i. hearing_mate parent child d b e (xs i) (pair.place i) said (pair.mates i);
+        mates = λ i. told_mate parent child d b e (xs i) (pair.place i) said (pair.mates i);
         apart = pair.apart;
         children = λ i. hears_child b e (xs i) ∙ pair.children i;
         heeds = λ i c h. pair.heeds i c (hears_heeds parent child d b e (xs i) (pair.place i) said (pair.mates i) c h);
@@ -447,7 +447,7 @@ module _ (I : Type 0) (dec : CanTellApart I) (parent child : List ℕ) (asked : 
 
   -- an entry of the parent
   pub minding_pair : (c : ℕ) (input : Input) (xs ys : I → ChildConnection) (more : List Message) → is_taken (header_of parent child c) d.seen ≡ false → ((m : Message) → Contains asked m → is_request m.body ≡ true → m.header.correlation ≡ c → ⊥) →
-      ((m : Message) → input ≡ Input.Got m → is_answering m.body ≡ true → m.header.provider ≡ child → Contains (about (header_of parent child m.header.correlation) d.said) m.body) →
+      ((m : Message) → input ≡ Input.Got m → is_answering m.body ≡ true → m.header.provider ≡ child → MayReach (header_of parent child m.header.correlation) d.said m.body) →
       Minds I parent child c input xs ys more → IsPair I parent child xs asked d → IsPair I parent child ys (asked ++ more) d
   minding_pair c input xs ys more new not_asked heard (Minds.rests a none) pair = resting_pair I dec parent child asked d fair xs ys more a none pair
   minding_pair c input xs ys more new not_asked heard (Minds.asked i k m o r kind hd named none a there) pair = asked_pair I dec parent child asked d fair c new not_asked xs ys more i k m o r kind hd named none a there pair
@@ -473,8 +473,14 @@ module _ (I : Type 0) (dec : CanTellApart I) (parent child : List ℕ) (asked : 
           attends i true w = alike_self (hears m.body m.header.correlation (xs i)).view
           attends i false w = absurd (cc)
 
+          by_body : MayReach (header_of parent child m.header.correlation) d.said m.body → IsPair I parent child (λ i. (hears m.body m.header.correlation (xs i)).view) asked d
+          by_body (inl said) = answers_pair m.body m.header.correlation said xs pair
+          by_body (inr rows) =
+              alike_pair I parent child asked d xs (λ i. (hears m.body m.header.correlation (xs i)).view)
+              (λ i. alike_same (xs i) (hears m.body m.header.correlation (xs i)).view (ap (λ (z : Heard). z.view) (rows_unheard m.body m.header.correlation (xs i) rows))) pair
+
           by_kind : (t : Bool) → is_answering m.body ≡ t → IsPair I parent child (λ i. (hears m.body m.header.correlation (xs i)).view) asked d
-          by_kind true w = answers_pair m.body m.header.correlation (heard m e w ((bytes_eq-Decides m.header.provider child).0 q)) xs pair
+          by_kind true w = by_body (heard m e w ((bytes_eq-Decides m.header.provider child).0 q))
           by_kind false w = alike_pair I parent child asked d xs (λ i. (hears m.body m.header.correlation (xs i)).view) (λ i. notice_alike m.body m.header.correlation (xs i) w) pair
 
       by_sender : (t : Bool) → bytes_eq m.header.provider child ≡ t → IsPair I parent child (λ i. (hear m (xs i)).view) asked d

@@ -1,8 +1,8 @@
 -- An abort of a child that has something to give back is refused only where its record doesn't live.
-use Rattle.std.proofs.Common.{ℕ, ◌≡◌, ◌∙◌, ◌⊎◌, inl, inr, Bool, true, false, List, [], ◌∷◌, ◌++◌, length, Contains, Option, Some, None, ◌==◌, refl, sym, ap, subst, arith, eqb-true, true≢false}
+use Rattle.std.proofs.Common.{ℕ, ◌≡◌, ◌∙◌, ◌⊎◌, inl, inr, Bool, true, false, List, [], ◌∷◌, ◌++◌, length, Contains, Option, Some, None, ◌==◌, refl, sym, ap, subst, arith, eqb-true}
 use Rattle.std.proofs.lemmas.Bool.{cases_eq}
 use Rattle.nsi_primitive.specs.Kinds.{kind_number, is_request_kind}
-use Rattle.nsi_primitive.specs.Messages.{kind_of, connection_of, has_rows, is_request}
+use Rattle.nsi_primitive.specs.Messages.{kind_of, connection_of, is_request}
 use Rattle.nsi_primitive.specs.declared.entry.Input.{Input}
 use Rattle.nsi_primitive.specs.declared.kind.ErrorName.{ErrorName}
 use Rattle.nsi_primitive.specs.declared.kind.Kind.{Kind}
@@ -16,7 +16,6 @@ use Rattle.nsi_primitive.specs.declared.state.Psm.{Psm}
 use Rattle.nsi_primitive.specs.declared.state.Rsm.{Rsm}
 use Rattle.nsi_primitive.specs.declared.state.Side.{Side}
 use Rattle.message_retry.specs.Taken.{is_taken}
-use Rattle.record_index.proofs.Members.{nothing_in}
 use Rattle.provision_machine.specs.Table.{step as provision_step}
 use Rattle.reserve_machine.specs.Table.{step as reserve_step}
 use Rattle.lifecycle_machine.specs.Table.{step as lifecycle_step}
@@ -47,7 +46,7 @@ use Rattle.circuit_link.specs.Mates.{IsMate}
 use Rattle.circuit_link.specs.Serving.{taken_by, IsTurn, IsRefused, Serves}
 use Rattle.circuit_link.specs.Sides.{standing_of}
 use Rattle.circuit_link.proofs.Abouts.{same_header, headers_same, about_cases, addressed_in, said_under}
-use Rattle.circuit_link.proofs.Answering.{same_some, only_one, IsReplied, replied_of, tally_there, counted_as}
+use Rattle.circuit_link.proofs.Answering.{same_some, only_one, not_there, IsReplied, replied_of, tally_there, counted_as}
 use Rattle.circuit_link.proofs.Likeness.{open_itself}
 use Rattle.circuit_link.proofs.Minding.{owes_less}
 use Rattle.circuit_link.proofs.Opening.{last_here, fresh_owed}
@@ -274,21 +273,12 @@ module _ (parent name : List ℕ) (asked : List Message) (d : Child) (fair : IsF
       let q : s.message ≡ error_reply name m error = only_one (error_reply name m error) s.message (subst (λ ms. Contains ms s.message) e s.there) in
       sym (ap (λ (z : Message). z.header) q) ∙ sym (same_header (header_of parent name c) s.message.header s.header)
 
-  rows_refuse : (m : Message) (b : Body) (out : List Message) (o : Option ℕ) (e : Exception) → has_rows b ≡ true → out ≡ record { header = m.header; body = b } ∷ [] → Contains (about (header_of parent name c) out) (Body.Error o e) → ⊥
-  rows_refuse m b out o e s r i =
-      let said : Message = record { header = m.header; body = b } in
-      let w = said_under (header_of parent name c) (Body.Error o e) out i in
-      let q : w.message ≡ said = only_one said w.message (subst (λ ms. Contains ms w.message) r w.there) in
-      true≢false (sym s ∙ sym (ap has_rows (sym w.body ∙ ap (λ (z : Message). z.body) q)))
-
   pub serving_refuses : (input : Input) (records : List Record) (seen : List Header) (out : List Message) → ((m : Message) → input ≡ Input.Got m → is_request m.body ≡ true → m.header.requester ≡ parent → Contains asked m) →
       Serves name input d records seen out → may_abort x.before ≡ true → (o : Option ℕ) (e : Exception) → Contains (about (header_of parent name c) out) (Body.Error o e) → (id : ℕ) × (x.connection ≡ Some id) × IsTold parent name asked (IsTerminateOf id)
-  unfolding about
   serving_refuses input records seen out mine (Serves.acts h v) may o e i =
       let (n, w, j) = v.only parent c (Body.Error o e) i in
       absurd (says_none (record_at n d.records) (record_at n records) (v.said n) o e (v.each n) (none_owed n w) j)
-  serving_refuses input records seen out mine (Serves.leaves m w k r q) may o e i = absurd (nothing_in (Body.Error o e) (subst (λ ms. Contains (about (header_of parent name c) ms) (Body.Error o e)) q i))
-  serving_refuses input records seen out mine (Serves.tells m b w y s r q) may o e i = absurd (rows_refuse m b out o e s q i)
+  serving_refuses input records seen out mine (Serves.leaves m w k r q) may o e i = absurd (not_there (about (header_of parent name c) out) (Body.Error o e) (q (header_of parent name c)) i)
   serving_refuses input records seen out mine (Serves.refuses m error w v r q) may o e i = refused_dead m error (λ p. mine m w.got w.request p) w.request w.untaken v may (error_there m error out (Body.Error o e) q i)
   serving_refuses input records seen out mine (Serves.takes m n side now w a t) may o e i =
       absurd

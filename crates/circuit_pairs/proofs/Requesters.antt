@@ -30,7 +30,7 @@ use Rattle.requester_agent.specs.Setting.{Setting}
 use Rattle.requester_agent.specs.Steps.{view_at, find_view, next_id, answers, refuses, asks_at, asks_new, asks_found, reserves, sends_query, asked_of, asked, view_hears, hears_if, acked, ticks, step, after_if, after, may_take}
 use Rattle.requester_agent.specs.Views.{Asked, asks_if_free, asks_if_known, asks_about, service_if, reserve_of, asks_reserve}
 use Rattle.connection_record.specs.Speaking.{is_answering}
-use Rattle.circuit_link.specs.Children.{Child, about, header_of, IsFair}
+use Rattle.circuit_link.specs.Children.{Child, header_of, MayReach, IsFair}
 use Rattle.circuit_link.proofs.Answering.{only_one}
 use Rattle.circuit_link.proofs.Opening.{last_here, last_there}
 use Rattle.circuit_pairs.specs.Pairs.{IsPair, IsOnce, IsFresh}
@@ -247,7 +247,7 @@ requester_minds set s e children = by_test (may_take s e)
 
 -- an entry of a requester keeps the pair of its views and the agent that it asks
 pub requester_pair : (set : Setting) (d : Child) (asked : List Message) (s : AgentState) (e : Entry) → IsFair set.name set.provider d → IsOnce set.name asked → IsFresh set.name set.provider set.number d s.base.next asked →
-    ((m : Message) → e.input ≡ Input.Got m → is_answering m.body ≡ true → m.header.provider ≡ set.provider → Contains (about (header_of set.name set.provider m.header.correlation) d.said) m.body) →
+    ((m : Message) → e.input ≡ Input.Got m → is_answering m.body ≡ true → m.header.provider ≡ set.provider → MayReach (header_of set.name set.provider m.header.correlation) d.said m.body) →
     IsPair ℕ set.name set.provider (view_in set.provider s.views) asked d → IsPair ℕ set.name set.provider (view_in set.provider (after set s e).state.views) (asked ++ (after set s e).out) d
 requester_pair set d asked s e fair once fresh said pair =
     minding_pair ℕ cases_eq set.name set.provider asked d fair once (id_of set.number s.base.next) e.input (view_in set.provider s.views) (view_in set.provider (after set s e).state.views) (after set s e).out (fresh.untaken s.base.next (omega arith))

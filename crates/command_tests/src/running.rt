@@ -17,6 +17,7 @@ mod plain_provider;
 mod playing;
 mod provisioning;
 mod queries;
+mod recursive;
 mod rows;
 mod summary;
 mod terminating;
@@ -106,6 +107,28 @@ fn behind_topology(alloc: Global, lines: &[u8]) -> Result<Vec<u8>, AllocError> {
 fn in_full(alloc: Global, text: &str) -> Result<String, AllocError> {
     let provider = text.replace(alloc, "P#", "urn:uuid:00000000-0000-8000-8000-00000000000")?;
     provider.replace(alloc, "R#", "urn:uuid:00000000-0001-8000-8000-00000000000")
+}
+
+/// The text with its ids in full: behind U stands the number of the agent that makes the id.
+fn with_ids(alloc: Global, text: &str) -> Result<String, AllocError> {
+    let second = text.replace(alloc, "U2#", "urn:uuid:00000000-0002-8000-8000-00000000000")?;
+    let third = second.replace(alloc, "U3#", "urn:uuid:00000000-0003-8000-8000-00000000000")?;
+    let fourth = third.replace(alloc, "U4#", "urn:uuid:00000000-0004-8000-8000-00000000000")?;
+    let fifth = fourth.replace(alloc, "U5#", "urn:uuid:00000000-0005-8000-8000-00000000000")?;
+    let first = fifth.replace(alloc, "U1#", "urn:uuid:00000000-0001-8000-8000-00000000000")?;
+    first.replace(alloc, "U0#", "urn:uuid:00000000-0000-8000-8000-00000000000")
+}
+
+/// The lines of a text that begin in one of these ways.
+fn lines_of(alloc: Global, text: &[u8], fronts: &[&[u8]]) -> Result<Vec<u8>, AllocError> {
+    let mut lines = Vec::new(alloc);
+    for line in text.split(|byte| *byte == b'\n') {
+        if fronts.iter().any(|front| line.starts_with(front)) {
+            lines.extend_from_slice(line)?;
+            lines.push(b'\n')?;
+        }
+    }
+    Ok(lines)
 }
 
 /// Whether lines behind the topology, with short ids, are answered so, and all is done.

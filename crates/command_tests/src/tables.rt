@@ -12,5 +12,6 @@ pub(crate) mod playing;
 pub(crate) mod provisioning;
 pub(crate) mod queried;
 pub(crate) mod queries;
+pub(crate) mod recursive;
 pub(crate) mod rows;
 pub(crate) mod terminating;

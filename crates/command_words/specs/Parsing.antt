@@ -1,5 +1,5 @@
 -- What the parser is asked for, and what it gives.
-use Rattle.std.specs.Prelude.{◌≡◌, List, [], Bool, true, false, codes, string_bytes, String, Option, Some, None}
+use Rattle.std.specs.Prelude.{◌≡◌, List, [], Bool, true, false, codes, drop, map, string_bytes, String, Option, Some, None, Result, IfOk}
 use Rattle.std.specs.List.{list_any}
 use Rattle.clap.specs.Faults.{fault_of}
 use Rattle.clap.specs.Matches.{found_of}
@@ -37,3 +37,7 @@ flag_text false = codes "false"
 -- a word is `--`
 abbrev pub has_end : {Z : Type 0} → List (String Z) → Bool
 has_end words = list_any (λ word. is_end (string_bytes word)) words
+
+-- the command is what a reader makes of the words behind the first one, or memory is wanting
+abbrev pub Names : {Z C E : Type 0} → (List Text → Option C) → List (String Z) → Result (Option C) E → Type 0
+Names reads words result = IfOk result (λ command. command ≡ reads (drop 1 (map string_bytes words)))

@@ -1,8 +1,8 @@
 //! The words of the command line, read by `clap`.
 
-ghost use Rattle.std.specs.Prelude.{◌≡◌, Bool, IfOk, Some, [], codes, drop, false, map, string_bytes, option_map};
+ghost use Rattle.std.specs.Prelude.{◌≡◌, Bool, IfOk, Some, [], codes, false, map, string_bytes, option_map};
 ghost use Rattle.clap.specs.Matches.{first_value, found_of, one_text};
-ghost use Rattle.command_words.specs.Parsing.{flag_text, has_end};
+ghost use Rattle.command_words.specs.Parsing.{Names, flag_text, has_end};
 ghost use Rattle.command_words.specs.Words.{check_of, command_of, events_in, generate_of, generate_options, generate_with, named, provide_of, provide_options, provide_with, run_of, run_options, run_with, with_options, workers_in};
 
 use crate::command::{Command, Load, Play};
@@ -30,7 +30,7 @@ pub fn command_of(alloc: Global, words: &[String]) -> Result<Option<Command>, Al
 /// The command of this name, with the options behind it.
 fn named(alloc: Global, name: &str, words: &[String]) -> Result<Option<Command>, AllocError>
     requires { has_end words.now ≡ false }
-    ensures { IfOk result (λ command. command ≡ named name.now (drop 1 (map string_bytes words.now))) }
+    ensures { Names (named name.now) words.now result }
 {
     if name == "provide" {
         provide_in(alloc, words)
@@ -55,7 +55,7 @@ fn has_end(words: &[String]) -> bool
 /// `provide`, with the options behind it.
 fn provide_in(alloc: Global, words: &[String]) -> Result<Option<Command>, AllocError>
     requires { has_end words.now ≡ false }
-    ensures { IfOk result (λ command. command ≡ with_options provide_options provide_of (drop 1 (map string_bytes words.now))) }
+    ensures { Names (with_options provide_options provide_of) words.now result }
 {
     let command = plain_command(alloc, "provide").arg(value(alloc, "events"))?;
     let Some(matches) = parsed(command, words)? else {
@@ -75,7 +75,7 @@ fn provide_with(matches: &ArgMatches<'_>) -> Option<Command>
 /// `run`, with the options behind it.
 fn run_in(alloc: Global, words: &[String]) -> Result<Option<Command>, AllocError>
     requires { has_end words.now ≡ false }
-    ensures { IfOk result (λ command. command ≡ with_options run_options run_of (drop 1 (map string_bytes words.now))) }
+    ensures { Names (with_options run_options run_of) words.now result }
 {
     let command = plain_command(alloc, "run")
         .arg(value(alloc, "events"))?
@@ -89,8 +89,11 @@ fn run_in(alloc: Global, words: &[String]) -> Result<Option<Command>, AllocError
 
 /// What its matches ask for.
 fn run_with(matches: &ArgMatches<'_>) -> Option<Command>
-    ensures { (is_summary : Bool) → one_text (found_of matches.now) (codes "summary") ≡ Some (flag_text is_summary)
-        → result ≡ run_with (first_value (found_of matches.now) (codes "events")) (first_value (found_of matches.now) (codes "workers")) is_summary }
+    ensures { (is_summary : Bool) →
+        one_text (found_of matches.now) (codes "summary") ≡ Some (flag_text is_summary) →
+        let events = first_value (found_of matches.now) (codes "events") in
+        let workers = first_value (found_of matches.now) (codes "workers") in
+        result ≡ run_with events workers is_summary }
 {
     let most = events_in(matches.get_str("events"))?;
     let workers = workers_in(matches.get_str("workers"))?;
@@ -109,7 +112,7 @@ fn run_with(matches: &ArgMatches<'_>) -> Option<Command>
 /// `check`, with nothing behind it.
 fn check_in(alloc: Global, words: &[String]) -> Result<Option<Command>, AllocError>
     requires { has_end words.now ≡ false }
-    ensures { IfOk result (λ command. command ≡ with_options [] check_of (drop 1 (map string_bytes words.now))) }
+    ensures { Names (with_options [] check_of) words.now result }
 {
     let Some(_) = parsed(plain_command(alloc, "check"), words)? else {
         return Ok(None);
@@ -120,7 +123,7 @@ fn check_in(alloc: Global, words: &[String]) -> Result<Option<Command>, AllocErr
 /// `generate`, with both options behind it.
 fn generate_in(alloc: Global, words: &[String]) -> Result<Option<Command>, AllocError>
     requires { has_end words.now ≡ false }
-    ensures { IfOk result (λ command. command ≡ with_options generate_options generate_of (drop 1 (map string_bytes words.now))) }
+    ensures { Names (with_options generate_options generate_of) words.now result }
 {
     let command = plain_command(alloc, "generate")
         .arg(value(alloc, "from").required(true))?
@@ -133,7 +136,9 @@ fn generate_in(alloc: Global, words: &[String]) -> Result<Option<Command>, Alloc
 
 /// What its matches ask for.
 fn generate_with(matches: &ArgMatches<'_>) -> Option<Command>
-    ensures { result ≡ generate_with (first_value (found_of matches.now) (codes "from")) (first_value (found_of matches.now) (codes "size")) }
+    ensures { let from = first_value (found_of matches.now) (codes "from") in
+        let size = first_value (found_of matches.now) (codes "size") in
+        result ≡ generate_with from size }
 {
     let from = number_of(0, u64::MAX, matches.get_str("from")?.as_bytes())?;
     let size = number_of(0, MOST_RESERVES, matches.get_str("size")?.as_bytes())?;

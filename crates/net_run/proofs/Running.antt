@@ -12,9 +12,7 @@ use Rattle.nsi_script.specs.declared.script.Act.{Act}
 use Rattle.nsi_script.specs.declared.script.Group.{Group}
 use Rattle.nsi_script.specs.declared.script.PlanLine.{PlanLine}
 use Rattle.nsi_script.specs.Fits.{IsActOf}
-use Rattle.nsi_script.specs.Scripts.{acts_of, is_recursive}
-use Rattle.nsi_primitive.specs.declared.ask.What.{What}
-use Rattle.requester_agent.specs.Steps.{is_recursive_ask}
+use Rattle.nsi_script.specs.Scripts.{acts_of}
 use Rattle.nsi_agent.specs.Homes.{home_in}
 use Rattle.agent_node.specs.Kept.{Kept}
 use Rattle.nsi_play.specs.Openings.{Plans, plans_of, opening}
@@ -36,12 +34,8 @@ use Rattle.net_run.proofs.Counting.{broken_by, some_failed, calm_faults, calm_st
 
 ---- What is asked of the script
 
--- the two crates' words for an ask for all that is below a connection
-recursive_is : (w : What) → is_recursive_ask w ≡ is_recursive w
-recursive_is w = grind arith
-
 can_one : (t : Network) (a : Act) → IsActOf t a → CanBeDone t a
-can_one t (Act.Ask agent ask) (within, requester, printable, plain) = (requester, (recursive_is ask.what ∙ plain, printable))
+can_one t (Act.Ask agent ask) (within, requester, printable) = (requester, printable)
 can_one t (Act.Force agent n) i = tt
 can_one t (Act.Restart agent) i = tt
 

@@ -1,5 +1,6 @@
 -- What an aggregator's step leaves alone: it counts nothing, and puts nothing to what waits; it notes the message that came.
-use Rattle.std.proofs.Common.{◌≡◌, inl, inr, ℕ, Bool, true, false, Option, Some, None, refl}
+use Rattle.std.proofs.Common.{◌≡◌, inl, inr, ℕ, Bool, true, false, Option, Some, None, refl, bytes_eq}
+use Rattle.std.specs.List.{list_any}
 use Rattle.nsi_primitive.specs.Messages.{is_request, connection_of, is_query}
 use Rattle.nsi_primitive.specs.declared.entry.Input.{Input}
 use Rattle.nsi_primitive.specs.declared.kind.ErrorName.{ErrorName}
@@ -8,10 +9,11 @@ use Rattle.nsi_primitive.specs.declared.message.Message.{Message}
 use Rattle.nsi_primitive.specs.declared.message.ReserveRequest.{ReserveRequest}
 use Rattle.message_retry.specs.Retry.{saw, saw_if}
 use Rattle.connection_record.specs.Refusal.{refusal, place_of, points_of}
-use Rattle.agent_state.specs.Entries.{retry_of}
-use Rattle.agent_state.specs.State.{State, AgentState}
+use Rattle.agent_state.specs.Entries.{retry_of, is_recursive}
+use Rattle.agent_state.specs.State.{State, AgentState, children_at}
 use Rattle.aggregator_agent.specs.Setting.{Setting}
-use Rattle.aggregator_agent.specs.Steps.{step, receives, serves, answers, accepts, opens, opens_between, request_to, request_at, hears, ticks, sees, is_seen}
+use Rattle.aggregator_agent.specs.Below.{Sought, is_asked, seek}
+use Rattle.aggregator_agent.specs.Steps.{step, receives, opens_query, asks_below, asks_if_own, place_named, queries, serves, answers, accepts, opens, opens_between, request_to, request_at, hears, ticks, sees, is_seen}
 use Rattle.nsi_agent.proofs.ProviderKeeps.{IsStep, IsQuiet, IsSameSeen, HasSeen}
 
 saw_waiting : (is_request : Bool) (m : Message) (s : AgentState) → (saw_if is_request m (retry_of s.base)).waiting ≡ s.base.waiting
@@ -45,8 +47,24 @@ unfolding answers
 answers_quiet (Some error) setting s m = record { taken = refl; waiting = refl; now = refl }
 answers_quiet None setting s m = accepts_quiet (connection_of m.body) setting s m
 
+sought_quiet : (waits : Bool) (setting : Setting) (s : AgentState) (n : ℕ) (m : Message) (x : Sought) → IsQuiet s.base (opens_query waits setting s n m x).state.base
+sought_quiet true setting s n m x = record { taken = refl; waiting = refl; now = refl }
+sought_quiet false setting s n m x = record { taken = refl; waiting = refl; now = refl }
+
+own_quiet : (is_own : Bool) (o : Option ℕ) (setting : Setting) (s : AgentState) (m : Message) → IsQuiet s.base (asks_if_own is_own o setting s m).state.base
+unfolding asks_below
+own_quiet true (Some n) setting s m =
+    let x = seek setting.agent s.base.next (children_at n s.children) in
+    sought_quiet (list_any is_asked x.parts) setting s n m x
+own_quiet true None setting s m = record { taken = refl; waiting = refl; now = refl }
+own_quiet false o setting s m = record { taken = refl; waiting = refl; now = refl }
+
+queries_quiet : (is_recursive : Bool) (setting : Setting) (s : AgentState) (m : Message) → IsQuiet s.base (queries is_recursive setting s m).state.base
+queries_quiet true setting s m = own_quiet (bytes_eq m.header.provider setting.agent.name) (place_named m s.base.records) setting s m
+queries_quiet false setting s m = record { taken = refl; waiting = refl; now = refl }
+
 serves_quiet : (is_query : Bool) (setting : Setting) (s : AgentState) (m : Message) → IsQuiet s.base (serves is_query setting s m).state.base
-serves_quiet true setting s m = record { taken = refl; waiting = refl; now = refl }
+serves_quiet true setting s m = queries_quiet (is_recursive m.body) setting s m
 serves_quiet false setting s m = answers_quiet (refusal setting.agent.name setting.stp_of s.base.records m) setting s m
 
 then_quiet : (a b c : State) → IsQuiet a b → IsQuiet b c → IsQuiet a c
@@ -96,8 +114,24 @@ unfolding answers
 answers_seen (Some error) setting s m = record { seen = refl; heard = refl }
 answers_seen None setting s m = accepts_seen (connection_of m.body) setting s m
 
+sought_seen : (waits : Bool) (setting : Setting) (s : AgentState) (n : ℕ) (m : Message) (x : Sought) → IsSameSeen s.base (opens_query waits setting s n m x).state.base
+sought_seen true setting s n m x = record { seen = refl; heard = refl }
+sought_seen false setting s n m x = record { seen = refl; heard = refl }
+
+own_seen : (is_own : Bool) (o : Option ℕ) (setting : Setting) (s : AgentState) (m : Message) → IsSameSeen s.base (asks_if_own is_own o setting s m).state.base
+unfolding asks_below
+own_seen true (Some n) setting s m =
+    let x = seek setting.agent s.base.next (children_at n s.children) in
+    sought_seen (list_any is_asked x.parts) setting s n m x
+own_seen true None setting s m = record { seen = refl; heard = refl }
+own_seen false o setting s m = record { seen = refl; heard = refl }
+
+queries_seen : (is_recursive : Bool) (setting : Setting) (s : AgentState) (m : Message) → IsSameSeen s.base (queries is_recursive setting s m).state.base
+queries_seen true setting s m = own_seen (bytes_eq m.header.provider setting.agent.name) (place_named m s.base.records) setting s m
+queries_seen false setting s m = record { seen = refl; heard = refl }
+
 serves_seen : (is_query : Bool) (setting : Setting) (s : AgentState) (m : Message) → IsSameSeen s.base (serves is_query setting s m).state.base
-serves_seen true setting s m = record { seen = refl; heard = refl }
+serves_seen true setting s m = queries_seen (is_recursive m.body) setting s m
 serves_seen false setting s m = answers_seen (refusal setting.agent.name setting.stp_of s.base.records m) setting s m
 
 received_saw : (asks is_old : Bool) (setting : Setting) (s : AgentState) (m : Message) → HasSeen (Input.Got m) s.base (receives asks is_old setting s m).state.base

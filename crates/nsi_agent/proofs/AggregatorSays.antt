@@ -36,30 +36,25 @@ use Rattle.child_connection.specs.Asks.{request_about, to_child}
 use Rattle.child_connection.specs.Hearing.{hear}
 use Rattle.agent_state.specs.declared.parent.Due.{Due}
 use Rattle.agent_state.specs.declared.parent.Leg.{Leg}
-use Rattle.agent_state.specs.Entries.{error_reply, query_reply}
-use Rattle.agent_state.specs.State.{AgentState, AgentStepped, stays, no_record, record_at, children_at}
+use Rattle.agent_state.specs.declared.parent.OpenQuery.{OpenQuery}
+use Rattle.agent_state.specs.Entries.{error_reply, query_reply, is_recursive}
+use Rattle.agent_state.specs.State.{AgentState, AgentStepped, stays, sends, no_record, record_at, children_at}
 use Rattle.aggregator_agent.specs.declared.agent.Agent.{Agent}
 use Rattle.aggregator_agent.specs.Asking.{Turn, Asked, Asking, begin, replies_by, notices_by, notices_under, asks_by, ask_one, asked_view, each, if_free, if_apart, request_if, may_abort, reserve_if, passed_on, pass_one, pass_each, view_of, views_of, with_path}
 use Rattle.aggregator_agent.specs.Settling.{reservation_due, is_quiet, provision_due, settles_reservation, settles_provision, is_there, closes_unless, settles, settle}
 use Rattle.aggregator_agent.specs.Turns.{joined_of, tell_joined, pass_on, takes, turn_by_request, request_turn, loses, breaks, late_terminate, hear_one, hear_each, hold_end_by, force_by, hold_ends, force_ends, heard_by, turn_by_answer, answer_turn, spoken}
 use Rattle.aggregator_agent.specs.Clock.{Told, tells_late, tell_one, tell_all, is_late_of, ends, clocked, clock_then, clock_all}
 use Rattle.aggregator_agent.specs.Setting.{Setting}
-use Rattle.aggregator_agent.specs.Steps.{step, receives, answers, accepts, opens, opens_between, with_new, request_to, request_at, children_for, hears, hear_all, pass_then, ticks, sees, is_seen, serves}
+use Rattle.aggregator_agent.specs.Steps.{step, receives, answers, accepts, opens, opens_between, with_new, request_to, request_at, children_for, hears, hear_all, pass_then, ticks, sees, is_seen, opens_query, asks_below, asks_if_own, place_named, queries, serves}
 use Rattle.provider_agent.proofs.EachSays.{EachReply, both_said, closes_each}
 use Rattle.nsi_agent.proofs.ProviderSays.{AsksNothing, reserves_if_answers, provisions_if_answers, lives_if_answers, lives_answers, moves_if_answers, IsHeaded, IsAnswer, IsOwed, addressed_headed, both_answer, addressed_answers, CameFor}
 use Rattle.nsi_agent.proofs.RequesterSays.{AreLaws, about_asks}
+use Rattle.nsi_agent.proofs.Below.{IsChild, IsRequestTo, IsOpen, sought_asked, below_heard}
 use Rattle.aggregator_agent.specs.Queries.{answer_to}
+use Rattle.aggregator_agent.specs.Below.{Sought, is_asked, seek, opened, nested_reply, hear_below}
 use Rattle.agent_state.proofs.Querying.{reply_header}
 use Rattle.aggregator_agent.proofs.Queried.{reply_asks_nothing}
 use Rattle.nsi_primitive.specs.declared.message.Header.{Header}
-
--- a view of a child that is asked
-abbrev pub IsChild : (List ℕ → Type 0) → ChildConnection → Type 0
-IsChild to x = to x.child
-
--- a request in a name, to a child
-abbrev pub IsRequestTo : List ℕ → (List ℕ → Type 0) → Message → Type 0
-IsRequestTo name to m = (is_request m.body ≡ true) × (m.header.requester ≡ name) × to m.header.provider
 
 abbrev pub IsMine : List ℕ → (List ℕ → Type 0) → (List ℕ → Type 0) → Message → Type 0
 IsMine name to owed m = IsAnswer name owed m ⊎ IsRequestTo name to m
@@ -263,9 +258,12 @@ module _ (laws : AreLaws) (to : List ℕ → Type 0) where
 ---- What is said
 
 module _ (name : List ℕ) (to owed : List ℕ → Type 0) where
+  answers_mine : (ms : List Message) → All (IsAnswer name owed) ms → All (IsMine name to owed) ms
+  answers_mine ms all = All-weaker (IsAnswer name owed) (IsMine name to owed) (λ m a. inl a) ms all
+
   replies_mine : (owner : List ℕ) (replies : List Reply) → owed owner → EachReply AsksNothing replies → All (IsMine name to owed) (addressed name owner replies)
   replies_mine owner replies p q =
-      All-weaker (IsAnswer name owed) (IsMine name to owed) (λ m a. inl a) (addressed name owner replies)
+      answers_mine (addressed name owner replies)
       (both_answer name owed (addressed name owner replies) (addressed_answers name owner replies q) (addressed_headed name owed owner replies p))
 
   requests_mine : (ms : List Message) → All (IsRequestTo name to) ms → All (IsMine name to owed) ms
@@ -362,8 +360,18 @@ module _ (laws : AreLaws) (to owed : List ℕ → Type 0) where
 
 ---- One entry
 
-abbrev pub IsSaying : Setting → (List ℕ → Type 0) → (List ℕ → Type 0) → AgentStepped → Type 0
-IsSaying setting to owed x = IsSaid setting.agent.name to owed x.state.base.records x.state.children x.out
+-- whose the records are, of whom the views, and under which headers the queries wait
+pub record AreHeld (name : List ℕ) (to owed : List ℕ → Type 0) (rs : List Record) (xss : List (List ChildConnection)) (qs : List OpenQuery) : Type 0 where
+  pub owners : All (IsOwed owed) rs
+  pub children : All (λ xs. All (IsChild to) xs) xss
+  pub queries : All (IsOpen name owed) qs
+
+abbrev pub IsHeld : List ℕ → (List ℕ → Type 0) → (List ℕ → Type 0) → AgentState → Type 0
+IsHeld name to owed s = AreHeld name to owed s.base.records s.children s.queries
+
+pub record IsSaying (setting : Setting) (to owed : List ℕ → Type 0) (x : AgentStepped) : Type 0 where
+  pub held : IsHeld setting.agent.name to owed x.state
+  pub says : All (IsMine setting.agent.name to owed) x.out
 
 views_at : (to : List ℕ → Type 0) (n : ℕ) (xss : List (List ChildConnection)) → All (λ xs. All (IsChild to) xs) xss → All (IsChild to) (children_at n xss)
 views_at to n [] views = All-nil (IsChild to)
@@ -377,71 +385,134 @@ path_views to (Body.Reserve q) (x ∷ xs) legs p all = all
 path_views to _ xs legs p all = all
 
 module _ (laws : AreLaws) (setting : Setting) (to owed : List ℕ → Type 0) (ways : (source dest : ℕ) → All (λ leg. to leg.child) (setting.route source dest)) where
-  stays_saying : (s : AgentState) → All (IsOwed owed) s.base.records → All (λ xs. All (IsChild to) xs) s.children → IsSaying setting to owed (stays s)
-  stays_saying s all views = record { owners = all; children = views; says = All-nil (IsMine setting.agent.name to owed) }
+  abbrev Holds : AgentState → Type 0
+  Holds s = IsHeld setting.agent.name to owed s
 
-  at_saying : (s : AgentState) (n : ℕ) (m : Message) → n < length s.base.records → All (IsOwed owed) s.base.records → All (λ xs. All (IsChild to) xs) s.children → IsSaying setting to owed (request_at setting s n m)
+  abbrev Says : AgentStepped → Type 0
+  Says x = IsSaying setting to owed x
+
+  abbrev Mine : Message → Type 0
+  Mine m = IsMine setting.agent.name to owed m
+
+  stays_saying : (s : AgentState) → Holds s → Says (stays s)
+  stays_saying s held = record { held = held; says = All-nil Mine }
+
+  -- one answer, under the header of what came
+  one_saying : (s : AgentState) (m : Message) → Holds s → Mine m → Says (sends s (m ∷ []))
+  one_saying s m held mine = record { held = held; says = All-cons Mine m [] mine (All-nil Mine) }
+
+  at_saying : (s : AgentState) (n : ℕ) (m : Message) → n < length s.base.records → Holds s → Says (request_at setting s n m)
   unfolding request_at
-  at_saying s n m lt all views =
+  at_saying s n m lt held =
       let own = record_at n s.base.records in
       let xs = children_for setting s n m in
       let t = request_turn setting.agent s.base.now m own xs s.base.next in
-      let mine : owed own.owner = All-get_or (IsOwed owed) s.base.records n no_record lt all in
-      let turned = request_turned laws to setting.agent own.owner s.base.now m own xs s.base.next refl (path_views to m.body (children_at n s.children) (setting.route own.source own.dest) (ways own.source own.dest) (views_at to n s.children views)) in
+      let mine : owed own.owner = All-get_or (IsOwed owed) s.base.records n no_record lt held.owners in
+      let turned = request_turned laws to setting.agent own.owner s.base.now m own xs s.base.next refl (path_views to m.body (children_at n s.children) (setting.route own.source own.dest) (ways own.source own.dest) (views_at to n s.children held.children)) in
       record {
-        owners = All-set (IsOwed owed) s.base.records n t.own (subst owed (sym turned.mine) mine) all;
-        children = All-set (λ ys. All (IsChild to) ys) s.children n t.children turned.children views;
+        held =
+            record {
+              owners = All-set (IsOwed owed) s.base.records n t.own (subst owed (sym turned.mine) mine) held.owners;
+              children = All-set (λ ys. All (IsChild to) ys) s.children n t.children turned.children held.children;
+              queries = held.queries;
+            };
         says = spoken_mine setting.agent to owed own.owner t mine turned;
       }
 
   more_within : (s : AgentState) (m : Message) (q : ReserveRequest) (points : ℕ × ℕ) → length s.base.records < length (with_new setting s m q points).base.records
   more_within s m q points = grind (arith, length_push)
 
-  between_saying : (o : Option (ℕ × ℕ)) (s : AgentState) (m : Message) (q : ReserveRequest) → All (IsOwed owed) s.base.records → All (λ xs. All (IsChild to) xs) s.children → owed m.header.requester → IsSaying setting to owed (opens_between o setting s m q)
-  between_saying None s m q all views came = stays_saying s all views
-  between_saying (Some points) s m q all views came =
+  between_saying : (o : Option (ℕ × ℕ)) (s : AgentState) (m : Message) (q : ReserveRequest) → Holds s → owed m.header.requester → Says (opens_between o setting s m q)
+  between_saying None s m q held came = stays_saying s held
+  between_saying (Some points) s m q held came =
       at_saying (with_new setting s m q points) (length s.base.records) m (more_within s m q points)
-      (All-append (IsOwed owed) s.base.records _ all (All-cons (IsOwed owed) _ [] came (All-nil (IsOwed owed))))
-      (All-append (λ ys. All (IsChild to) ys) s.children ([] ∷ []) views (All-cons (λ ys. All (IsChild to) ys) [] [] (All-nil (IsChild to)) (All-nil (λ ys. All (IsChild to) ys))))
+      (record {
+        owners = All-append (IsOwed owed) s.base.records _ held.owners (All-cons (IsOwed owed) _ [] came (All-nil (IsOwed owed)));
+        children =
+            All-append (λ ys. All (IsChild to) ys) s.children ([] ∷ []) held.children (All-cons (λ ys. All (IsChild to) ys) [] [] (All-nil (IsChild to)) (All-nil (λ ys. All (IsChild to) ys)));
+        queries = held.queries;
+      })
 
-  opens_saying : (body : Body) (s : AgentState) (m : Message) → All (IsOwed owed) s.base.records → All (λ xs. All (IsChild to) xs) s.children → owed m.header.requester → IsSaying setting to owed (opens body setting s m)
-  opens_saying (Body.Reserve q) s m all views came = between_saying (points_of setting.stp_of q) s m q all views came
-  opens_saying _ s m all views came = stays_saying s all views
+  opens_saying : (body : Body) (s : AgentState) (m : Message) → Holds s → owed m.header.requester → Says (opens body setting s m)
+  opens_saying (Body.Reserve q) s m held came = between_saying (points_of setting.stp_of q) s m q held came
+  opens_saying _ s m held came = stays_saying s held
 
-  to_saying : (o : Option ℕ) (s : AgentState) (m : Message) (id : ℕ) → place_of id m.header.requester s.base.records ≡ o → All (IsOwed owed) s.base.records → All (λ xs. All (IsChild to) xs) s.children → IsSaying setting to owed (request_to o setting s m)
-  to_saying None s m id e all views = stays_saying s all views
-  to_saying (Some n) s m id e all views = at_saying s n m (position-Some (λ r. eqb id r.id && bytes_eq m.header.requester r.owner) s.base.records n no_record e).0 all views
+  to_saying : (o : Option ℕ) (s : AgentState) (m : Message) (id : ℕ) → place_of id m.header.requester s.base.records ≡ o → Holds s → Says (request_to o setting s m)
+  to_saying None s m id e held = stays_saying s held
+  to_saying (Some n) s m id e held = at_saying s n m (position-Some (λ r. eqb id r.id && bytes_eq m.header.requester r.owner) s.base.records n no_record e).0 held
 
-  accepts_saying : (o : Option ℕ) (s : AgentState) (m : Message) → All (IsOwed owed) s.base.records → All (λ xs. All (IsChild to) xs) s.children → owed m.header.requester → IsSaying setting to owed (accepts o setting s m)
-  accepts_saying None s m all views came = opens_saying m.body s m all views came
-  accepts_saying (Some id) s m all views came = to_saying (place_of id m.header.requester s.base.records) s m id refl all views
+  accepts_saying : (o : Option ℕ) (s : AgentState) (m : Message) → Holds s → owed m.header.requester → Says (accepts o setting s m)
+  accepts_saying None s m held came = opens_saying m.body s m held came
+  accepts_saying (Some id) s m held came = to_saying (place_of id m.header.requester s.base.records) s m id refl held
 
-  answers_saying : (o : Option ErrorName) (s : AgentState) (m : Message) → All (IsOwed owed) s.base.records → All (λ xs. All (IsChild to) xs) s.children → IsHeaded setting.agent.name owed m → IsSaying setting to owed (answers o setting s m)
+  answers_saying : (o : Option ErrorName) (s : AgentState) (m : Message) → Holds s → IsHeaded setting.agent.name owed m → Says (answers o setting s m)
   unfolding answers
-  answers_saying (Some error) s m all views came =
-      record { owners = all; children = views; says = All-cons (IsMine setting.agent.name to owed) (error_reply setting.agent.name m error) [] (inl (refl, came)) (All-nil (IsMine setting.agent.name to owed)) }
-  answers_saying None s m all views came = accepts_saying (connection_of m.body) s m all views came.1
+  answers_saying (Some error) s m held came = one_saying s (error_reply setting.agent.name m error) held (inl (refl, came))
+  answers_saying None s m held came = accepts_saying (connection_of m.body) s m held came.1
 
-  serves_saying : (is_query : Bool) (s : AgentState) (m : Message) → All (IsOwed owed) s.base.records → All (λ xs. All (IsChild to) xs) s.children → IsHeaded setting.agent.name owed m → IsSaying setting to owed (serves is_query setting s m)
-  serves_saying true s m all views came =
+  sought_saying : (waits : Bool) (s : AgentState) (n : ℕ) (m : Message) (x : Sought) → Holds s → IsHeaded setting.agent.name owed m → All (IsRequestTo setting.agent.name to) x.asked → Says (opens_query waits setting s n m x)
+  sought_saying true s n m x held came asked =
+      let name = setting.agent.name in
+      record {
+        held =
+            record {
+              owners = held.owners;
+              children = held.children;
+              queries = All-append (IsOpen name owed) s.queries (opened m n x ∷ []) held.queries (All-cons (IsOpen name owed) (opened m n x) [] came (All-nil (IsOpen name owed)));
+            };
+        says = requests_mine name to owed x.asked asked;
+      }
+  sought_saying false s n m x held came asked = one_saying s (nested_reply setting.agent.name (record_at n s.base.records) (opened m n x)) held (inl (refl, came))
+
+  below_saying : (s : AgentState) (n : ℕ) (m : Message) → Holds s → IsHeaded setting.agent.name owed m → Says (asks_below setting s n m)
+  unfolding asks_below
+  below_saying s n m held came =
+      let x = seek setting.agent s.base.next (children_at n s.children) in
+      sought_saying (list_any is_asked x.parts) s n m x held came (sought_asked to setting.agent s.base.next (children_at n s.children) (views_at to n s.children held.children))
+
+  own_saying : (is_own : Bool) (o : Option ℕ) (s : AgentState) (m : Message) → Holds s → IsHeaded setting.agent.name owed m → Says (asks_if_own is_own o setting s m)
+  own_saying true (Some n) s m held came = below_saying s n m held came
+  own_saying true None s m held came = one_saying s (error_reply setting.agent.name m ErrorName.Nonexistent) held (inl (refl, came))
+  own_saying false o s m held came = one_saying s (error_reply setting.agent.name m ErrorName.WrongProvider) held (inl (refl, came))
+
+  queries_saying : (is_recursive : Bool) (s : AgentState) (m : Message) → Holds s → IsHeaded setting.agent.name owed m → Says (queries is_recursive setting s m)
+  queries_saying true s m held came = own_saying (bytes_eq m.header.provider setting.agent.name) (place_named m s.base.records) s m held came
+  queries_saying false s m held came =
       let reply = query_reply setting.agent.name m (answer_to setting.agent.name s m) in
       let headed = subst (λ (h : Header). (h.provider ≡ setting.agent.name) × owed h.requester) (sym (reply_header setting.agent.name m (answer_to setting.agent.name s m))) came in
-      record { owners = all; children = views; says = All-cons (IsMine setting.agent.name to owed) reply [] (inl (reply_asks_nothing setting.agent.name s m, headed)) (All-nil (IsMine setting.agent.name to owed)) }
-  serves_saying false s m all views came = answers_saying (refusal setting.agent.name setting.stp_of s.base.records m) s m all views came
+      one_saying s reply held (inl (reply_asks_nothing setting.agent.name s m, headed))
 
-  received_saying : (asks is_old : Bool) (s : AgentState) (m : Message) → is_request m.body ≡ asks → All (IsOwed owed) s.base.records → All (λ xs. All (IsChild to) xs) s.children → (is_request m.body ≡ true → IsHeaded setting.agent.name owed m)
-      → IsSaying setting to owed (receives asks is_old setting s m)
-  unfolding receives hears
-  received_saying true false s m e all views came = serves_saying (is_query m.body) (sees m s) m all views (came e)
-  received_saying false false s m e all views came = heard_said laws to owed setting.agent s.base.now 0 m s.base.next s.base.records s.children all views
-  received_saying true true s m e all views came = stays_saying s all views
-  received_saying false true s m e all views came = stays_saying s all views
+  serves_saying : (is_query : Bool) (s : AgentState) (m : Message) → Holds s → IsHeaded setting.agent.name owed m → Says (serves is_query setting s m)
+  serves_saying true s m held came = queries_saying (is_recursive m.body) s m held came
+  serves_saying false s m held came = answers_saying (refusal setting.agent.name setting.stp_of s.base.records m) s m held came
 
-  pub step_saying : (input : Input) (second : ℕ) (s : AgentState) → All (IsOwed owed) s.base.records → All (λ xs. All (IsChild to) xs) s.children → CameFor setting.agent.name owed input → IsSaying setting to owed (step input second setting s)
+  hears_saying : (s : AgentState) (m : Message) → Holds s → Says (hears setting s m)
+  unfolding hears
+  hears_saying s m held =
+      let name = setting.agent.name in
+      let passed = hear_all setting.agent s.base.now 0 m s.base.next s.base.records s.children in
+      let h = hear_below name s.base.records m s.queries in
+      let all = heard_said laws to owed setting.agent s.base.now 0 m s.base.next s.base.records s.children held.owners held.children in
+      let below = below_heard name owed s.base.records m s.queries held.queries in
+      record {
+        held = record { owners = all.owners; children = all.children; queries = below.queries };
+        says = All-append Mine passed.out h.out all.says (answers_mine name to owed h.out below.says);
+      }
+
+  received_saying : (asks is_old : Bool) (s : AgentState) (m : Message) → is_request m.body ≡ asks → Holds s → (is_request m.body ≡ true → IsHeaded setting.agent.name owed m) → Says (receives asks is_old setting s m)
+  unfolding receives
+  received_saying true false s m e held came = serves_saying (is_query m.body) (sees m s) m held (came e)
+  received_saying false false s m e held came = hears_saying (sees m s) m held
+  received_saying true true s m e held came = stays_saying s held
+  received_saying false true s m e held came = stays_saying s held
+
+  pub step_saying : (input : Input) (second : ℕ) (s : AgentState) → Holds s → CameFor setting.agent.name owed input → Says (step input second setting s)
   unfolding step ticks
-  step_saying (Input.Got m) second s all views came = received_saying (is_request m.body) (is_seen s m) s m refl all views came
-  step_saying Input.Tick second s all views came = clocked_said setting.agent to owed second 0 s.dues s.base.waiting s.base.next s.base.records s.children all views
-  step_saying (Input.Acked i) second s all views came = record { owners = all; children = views; says = All-nil (IsMine setting.agent.name to owed) }
-  step_saying (Input.Work n machine) second s all views came = stays_saying s all views
-  step_saying (Input.Force n) second s all views came = stays_saying s all views
-  step_saying (Input.Ask n a) second s all views came = stays_saying s all views
+  step_saying (Input.Got m) second s held came = received_saying (is_request m.body) (is_seen s m) s m refl held came
+  step_saying Input.Tick second s held came =
+      let all = clocked_said setting.agent to owed second 0 s.dues s.base.waiting s.base.next s.base.records s.children held.owners held.children in
+      record { held = record { owners = all.owners; children = all.children; queries = held.queries }; says = all.says }
+  step_saying (Input.Acked i) second s held came = record { held = held; says = All-nil Mine }
+  step_saying (Input.Work n machine) second s held came = stays_saying s held
+  step_saying (Input.Force n) second s held came = stays_saying s held
+  step_saying (Input.Ask n a) second s held came = stays_saying s held

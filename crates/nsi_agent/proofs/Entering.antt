@@ -34,7 +34,7 @@ last_part a b c h = (and_parts b c (and_parts a (b && c) h).1).1
 pub on_time_entry : (role : Role) (s : AgentState) (e : Entry) → may_take_as role s e ≡ true → is_on_time e.input e.second s.base.now ≡ true
 on_time_entry (provides setting stp_of) s e may = last_part _ _ (is_on_time e.input e.second s.base.now) may
 on_time_entry (aggregates setting) s e may = last_part _ _ (is_on_time e.input e.second s.base.now) may
-on_time_entry (requests setting) s e may = last_part _ _ (is_on_time e.input e.second s.base.now) may
+on_time_entry (requests setting) s e may = (and_parts _ (is_on_time e.input e.second s.base.now) may).1
 
 clock_is : (input : Input) (second now : ℕ) → is_on_time input second now ≡ true → clock_after input second now ≡ second
 clock_is Input.Tick second now h = refl
@@ -53,15 +53,15 @@ pub entered : (role : Role) (s : AgentState) (e : Entry) → may_take_as role s 
 unfolding after_as
 entered (provides setting stp_of) s e may =
     let x = counts (provider_step_of e.input e.second setting stp_of s.base) in
-    let q = stepped s.base (provider_step_of e.input e.second setting stp_of s.base).state e.input e.second x.out (last_part _ _ (is_on_time e.input e.second s.base.now) may) (provider_step e.input e.second setting stp_of s.base) in
+    let q = stepped s.base (provider_step_of e.input e.second setting stp_of s.base).state e.input e.second x.out (on_time_entry (provides setting stp_of) s e may) (provider_step e.input e.second setting stp_of s.base) in
     subst (λ (y : Stepped). IsEntered s e (with_base s y)) (sym (provider_takes setting stp_of s.base e may)) (record { taken = q.0; waiting = q.1; now = q.2 })
 entered (aggregates setting) s e may =
     let x = counts_agent (aggregator_step_of e.input e.second setting s) in
-    let q = stepped s.base (aggregator_step_of e.input e.second setting s).state.base e.input e.second x.out (last_part _ _ (is_on_time e.input e.second s.base.now) may) (aggregator_step e.input e.second setting s) in
+    let q = stepped s.base (aggregator_step_of e.input e.second setting s).state.base e.input e.second x.out (on_time_entry (aggregates setting) s e may) (aggregator_step e.input e.second setting s) in
     subst (λ (y : AgentStepped). IsEntered s e y) (sym (aggregator_takes setting s e may)) (record { taken = q.0; waiting = q.1; now = q.2 })
 entered (requests setting) s e may =
     let x = counts_agent (requester_step_of e.input e.second setting s) in
-    let q = stepped s.base (requester_step_of e.input e.second setting s).state.base e.input e.second x.out (last_part _ _ (is_on_time e.input e.second s.base.now) may) (requester_step e.input e.second setting s) in
+    let q = stepped s.base (requester_step_of e.input e.second setting s).state.base e.input e.second x.out (on_time_entry (requests setting) s e may) (requester_step e.input e.second setting s) in
     subst (λ (y : AgentStepped). IsEntered s e y) (sym (requester_takes setting s e may)) (record { taken = q.0; waiting = q.1; now = q.2 })
 
 ---- What is true of each state stays true

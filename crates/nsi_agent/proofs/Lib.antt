@@ -10,6 +10,7 @@ pub mod Sameness
 pub mod SeenGot
 pub mod ProviderSays
 pub mod RequesterSays
+pub mod Below
 pub mod AggregatorSays
 pub mod OwnMessages
 pub mod DrawnOnce

@@ -18,7 +18,8 @@ use Rattle.nsi_agent.specs.Told.{goes_on, name_in, drawer_of, AsksFor, HasAsked,
 use Rattle.nsi_agent.specs.Laws.{WhatIsSaidIsItsOwn, IsNamedAsDeclared}
 use Rattle.nsi_agent.proofs.ProviderSays.{IsAnswer, IsOwed, CameFor, step_saying as provider_says}
 use Rattle.nsi_agent.proofs.RequesterSays.{AreLaws, IsWish, IsOf, step_saying as requester_says}
-use Rattle.nsi_agent.proofs.AggregatorSays.{IsChild, IsRequestTo, IsMine, step_saying as aggregator_says}
+use Rattle.nsi_agent.proofs.Below.{IsChild, IsRequestTo, IsOpen}
+use Rattle.nsi_agent.proofs.AggregatorSays.{IsMine, IsHeld, step_saying as aggregator_says}
 use Rattle.nsi_agent.proofs.Staying.{left_out_by}
 
 ---- A message
@@ -35,10 +36,10 @@ mine_said name to owed m (inr a) = request_said name to owed m a
 
 ---- One entry
 
--- whose the records are, and of whom the views
+-- whose the records are, of whom the views, and under which headers queries wait
 abbrev IsPlaced : (owed : List ℕ → Type 0) → Role → AgentState → Type 0
 IsPlaced owed (provides setting stp_of) s = All (IsOwed owed) s.base.records
-IsPlaced owed (aggregates setting) s = All (IsOwed owed) s.base.records × All (λ xs. All (IsChild (Asks (aggregates setting))) xs) s.children
+IsPlaced owed (aggregates setting) s = IsHeld setting.agent.name (Asks (aggregates setting)) owed s
 IsPlaced owed (requests setting) s = All (IsOf setting.provider) s.views
 
 record IsOwn (owed : List ℕ → Type 0) (role : Role) (x : AgentStepped) : Type 0 where
@@ -59,10 +60,10 @@ taken_own laws owed (provides setting stp_of) s e may placed came =
     (record { placed = x.owners; said = All-weaker (IsAnswer setting.name owed) (IsSaid setting.name to owed) (answer_said setting.name to owed) _ x.says })
 taken_own laws owed (aggregates setting) s e may placed came =
     let to = Asks (aggregates setting) in
-    let x = aggregator_says laws setting to owed (own_ways setting) e.input e.second s placed.0 placed.1 came in
+    let x = aggregator_says laws setting to owed (own_ways setting) e.input e.second s placed came in
     let name = setting.agent.name in
     subst (λ (y : AgentStepped). IsOwn owed (aggregates setting) y) (sym (aggregator_takes setting s e may))
-    (record { placed = (x.owners, x.children); said = All-weaker (IsMine name to owed) (IsSaid name to owed) (mine_said name to owed) _ x.says })
+    (record { placed = x.held; said = All-weaker (IsMine name to owed) (IsSaid name to owed) (mine_said name to owed) _ x.says })
 taken_own laws owed (requests setting) s e may placed came =
     let to = Asks (requests setting) in
     let x = requester_says laws setting s placed e.input e.second in
@@ -90,7 +91,8 @@ own_from laws owed h (e ∷ es) s placed came =
 
 blank_placed : (owed : List ℕ → Type 0) (role : Role) → IsPlaced owed role blank_agent
 blank_placed owed (provides setting stp_of) = All-nil (IsOwed owed)
-blank_placed owed (aggregates setting) = (All-nil (IsOwed owed), All-nil (λ xs. All (IsChild (Asks (aggregates setting))) xs))
+blank_placed owed (aggregates setting) =
+    record { owners = All-nil (IsOwed owed); children = All-nil (λ xs. All (IsChild (Asks (aggregates setting))) xs); queries = All-nil (IsOpen setting.agent.name owed) }
 blank_placed owed (requests setting) = All-nil (IsOf setting.provider)
 
 came_by : (name : List ℕ) (es : List Entry) (e : Entry) → Contains es e → (input : Input) → e.input ≡ input → IsFor name input → CameFor name (HasAsked es) input

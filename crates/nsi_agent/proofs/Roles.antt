@@ -1,5 +1,5 @@
 -- What the topology says to an agent is what the agent itself knows.
-use Rattle.std.proofs.Common.{◌≡◌, ◌∙◌, ◌+◌, ◌&&◌, ℕ, Bool, true, not, List, Ok, Err, refl, sym, ap, subst, OnOk, OnErr, IfOk}
+use Rattle.std.proofs.Common.{◌≡◌, ◌∙◌, ◌+◌, ℕ, Bool, true, not, List, Ok, Err, refl, sym, ap, subst, OnOk, OnErr, IfOk}
 use Rattle.std.specs.List.{All}
 use Rattle.nsi_primitive.specs.Printable.{IsPrintable}
 use Rattle.nsi_primitive.specs.declared.entry.Entry.{Entry}
@@ -14,7 +14,7 @@ use Rattle.aggregator_agent.specs.declared.agent.Agent.{Agent as AggregatorAgent
 use Rattle.requester_agent.specs.Setting.{Setting as RequesterSetting}
 use Rattle.nsi_agent.specs.declared.kind.Kind.{Kind}
 use Rattle.nsi_agent.specs.Homes.{Role, provides, aggregates, requests, Routes, AreRoutes, role_in, home_in}
-use Rattle.nsi_agent.specs.Steps.{after, after_as, may_take, may_take_as, takes_kind, is_seen, is_new}
+use Rattle.nsi_agent.specs.Steps.{after, after_as, may_take, may_take_as, is_seen, is_new}
 use Rattle.nsi_agent.specs.Kinds.{IsAt, IsAgent, IsFit, Answer, IsStepped, IsSteppedBySome, alone, may_take_by, number_in, role_by, state_in, with_state}
 use Rattle.nsi_agent.specs.Standing.{Standing, IsAfterBySome}
 use Rattle.nsi_agent.proofs.Entering.{entered, fit_entered}
@@ -153,6 +153,6 @@ module _ (t : Network) (a : ℕ) (k : Kind) (stands : IsAgent t a k) (routes : R
   pub by_home : (P : Role → Type 0) → P (role_by t (routes a) k) → P (home_in t routes a).role
   by_home P p = subst P (sym (home_role t a k stands.is_at routes)) p
 
-  pub new_home : (m : Message) (r : Bool) → r ≡ (takes_kind (role_by t (routes a) k) m.body && not (is_seen (role_by t (routes a) k) (state_in k) m)) → r ≡ is_new (home_in t routes a) (state_in k) m
+  pub new_home : (m : Message) (r : Bool) → r ≡ not (is_seen (role_by t (routes a) k) (state_in k) m) → r ≡ is_new (home_in t routes a) (state_in k) m
   unfolding is_new
-  new_home m r e = by_home (λ (role : Role). r ≡ (takes_kind role m.body && not (is_seen role (state_in k) m))) e
+  new_home m r e = by_home (λ (role : Role). r ≡ not (is_seen role (state_in k) m)) e

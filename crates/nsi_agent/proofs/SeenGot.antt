@@ -1,5 +1,5 @@
 -- What was seen was got.
-use Rattle.std.proofs.Common.{◌≡◌, ◌⊎◌, inl, inr, ◌∙◌, ◌&&◌, Bool, true, false, not, List, [], ◌∷◌, refl, sym, ap, subst, arith}
+use Rattle.std.proofs.Common.{◌≡◌, ◌⊎◌, inl, inr, ◌∙◌, Bool, true, false, not, List, [], ◌∷◌, refl, sym, ap, subst, arith}
 use Rattle.std.proofs.lemmas.Bool.{and_parts}
 use Rattle.std.proofs.lemmas.List.Elements.{Contains-get_or, Contains-append_right}
 use Rattle.nsi_primitive.specs.Messages.{is_request}
@@ -14,7 +14,7 @@ use Rattle.provider_agent.proofs.Counting.{taken_is as provider_takes}
 use Rattle.aggregator_agent.proofs.Entries.{after_is as aggregator_takes}
 use Rattle.requester_agent.proofs.Entries.{after_is as requester_takes}
 use Rattle.nsi_agent.specs.Homes.{Role, provides, aggregates, requests, Home}
-use Rattle.nsi_agent.specs.Steps.{after, after_as, may_take_as, takes_kind, is_seen, is_new}
+use Rattle.nsi_agent.specs.Steps.{after, after_as, may_take_as, is_seen, is_new}
 use Rattle.nsi_agent.specs.Told.{goes_on, told, Gets, WasGot}
 use Rattle.nsi_agent.specs.Laws.{SeenWasGot}
 use Rattle.nsi_agent.proofs.ProviderKeeps.{HasSeen, provider_saw}
@@ -101,15 +101,11 @@ none_old false m e = absurd (cc)
 
 pub seen_was_got : SeenWasGot
 unfolding is_new
-seen_was_got h es m takes old = by (seen_from h m es blank_agent (seen_old h.role (told h es).state m seen))
+seen_was_got h es m old = by (seen_from h m es blank_agent (seen_old h.role (told h es).state m (is_not (is_seen h.role (told h es).state m) old)))
   where
-    is_not : (a b : Bool) → a ≡ true → (a && not b) ≡ false → b ≡ true
-    is_not true true e f = refl
-    is_not true false e f = absurd (cc)
-    is_not false b e f = absurd (cc)
-
-    seen : is_seen h.role (told h es).state m ≡ true
-    seen = is_not (takes_kind h.role m.body) (is_seen h.role (told h es).state m) takes old
+    is_not : (b : Bool) → not b ≡ false → b ≡ true
+    is_not true e = refl
+    is_not false e = absurd (cc)
 
     by : (is_old_at m blank_agent.base ≡ true) ⊎ WasGot m es → WasGot m es
     by (inl a) = absurd (none_old (is_request m.body) m a)

@@ -26,7 +26,7 @@ use Rattle.nsi_agent.specs.Steps.{after_as}
 
 -- a provider is no parent
 abbrev pub alone : State → AgentState
-alone s = record { base = s; children = []; dues = []; views = [] }
+alone s = record { base = s; children = []; dues = []; queries = []; views = [] }
 
 abbrev pub state_in : Kind → AgentState
 state_in (Kind.Provider p) = alone p.state

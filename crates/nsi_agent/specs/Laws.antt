@@ -18,7 +18,7 @@ use Rattle.aggregator_agent.specs.Good.{IsGood as IsGoodAggregator}
 use Rattle.aggregator_agent.specs.Laws.{AreDrawn}
 use Rattle.requester_agent.specs.Good.{IsGood as IsGoodRequester}
 use Rattle.nsi_agent.specs.Homes.{Role, provides, aggregates, requests, Home, Routes, AreRoutes, home_in}
-use Rattle.nsi_agent.specs.Steps.{after, may_take_as, takes_kind, is_new, work_of, works_left}
+use Rattle.nsi_agent.specs.Steps.{after, may_take_as, is_new, work_of, works_left}
 use Rattle.nsi_agent.specs.Told.{behind, goes_on, told, WasGot, name_in, drawer_of, HasAsked, Asks, IsSaid, IsForIn}
 
 ---- What waits, and the clock
@@ -88,10 +88,9 @@ ClocksRise = (h : Home) (s : AgentState) (e : Entry) → s.base.now ≤ (after h
 abbrev pub WaitingWasCaused : Type 0
 WaitingWasCaused = (h : Home) (es : List Entry) → All (Contains (told h es).out) (told h es).state.base.waiting
 
--- a message of a kind that the agent takes and that isn't new was got
+-- a message that isn't new was got
 abbrev pub SeenWasGot : Type 0
-SeenWasGot =
-    (h : Home) (es : List Entry) (m : Message) → takes_kind h.role m.body ≡ true → is_new h (told h es).state m ≡ false → WasGot m es
+SeenWasGot = (h : Home) (es : List Entry) (m : Message) → is_new h (told h es).state m ≡ false → WasGot m es
 
 -- Where what comes is for the agent, each message that it sends is its own and goes along a link: a request to one whom it asks,
 -- all else to one of whom it has got a request.

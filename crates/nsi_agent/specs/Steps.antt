@@ -1,13 +1,12 @@
 -- One entry at an agent of any kind.
-use Rattle.std.specs.Prelude.{ℕ, Bool, true, not, ◌&&◌, Option, Some, None}
+use Rattle.std.specs.Prelude.{ℕ, Bool, not, Option, Some, None}
 use Rattle.nsi_primitive.specs.declared.entry.Entry.{Entry}
-use Rattle.nsi_primitive.specs.declared.message.Body.{Body}
 use Rattle.nsi_primitive.specs.declared.message.Identity.{Identity}
 use Rattle.nsi_primitive.specs.declared.message.Message.{Message}
 use Rattle.nsi_primitive.specs.declared.state.Machine.{Machine}
 use Rattle.stp_topology.specs.declared.network.AgentKind.{AgentKind}
 use Rattle.message_retry.specs.Retry.{is_old, is_waiting}
-use Rattle.agent_state.specs.Entries.{retry_of, is_recursive}
+use Rattle.agent_state.specs.Entries.{retry_of}
 use Rattle.agent_state.specs.State.{AgentState, AgentStepped, Stepped}
 use Rattle.provider_agent.specs.Good.{works_among}
 use Rattle.provider_agent.specs.Steps.{after as provider_after, may_take as provider_may, is_seen as provider_saw, waiting_work}
@@ -45,14 +44,9 @@ abbrev pub is_seen : Role → AgentState → Message → Bool
 is_seen (provides setting stp_of) s m = provider_saw s.base m
 is_seen _ s m = is_old m (retry_of s.base)
 
--- an aggregator takes no queryRecursive yet
-abbrev pub takes_kind : Role → Body → Bool
-takes_kind (aggregates setting) body = not (is_recursive body)
-takes_kind _ body = true
-
--- whether a message makes an entry: it comes for the first time, and is of a kind that the agent takes
+-- whether a message makes an entry: it comes for the first time
 unfoldable pub is_new : Home → AgentState → Message → Bool
-is_new h s m = takes_kind h.role m.body && not (is_seen h.role s m)
+is_new h s m = not (is_seen h.role s m)
 
 -- whether a message of this identity waits for its acknowledgement
 unfoldable pub waits : Identity → AgentState → Bool

@@ -1,6 +1,6 @@
 //! What an agent of each kind keeps.
 
-ghost use Rattle.std.specs.Prelude.{◌≡◌, ◌<◌, ◌&&◌, ℕ, length, not, true, IfOk, OnOk, OnErr};
+ghost use Rattle.std.specs.Prelude.{◌≡◌, ◌<◌, ℕ, length, not, true, IfOk, OnOk, OnErr};
 ghost use Rattle.std.specs.Prelude.{List as Sequence};
 ghost use Rattle.std.specs.List.{All};
 ghost use Rattle.std.specs.Map.Iter.{ShowsInOrder, deref};
@@ -11,13 +11,13 @@ ghost use Rattle.stp_topology.specs.declared.network.Network.{Network};
 ghost use Rattle.agent_state.specs.declared.parent.Leg.{Leg as LegValue};
 ghost use Rattle.agent_state.specs.State.{blank_agent};
 ghost use Rattle.aggregator_agent.specs.Setting.{IsRoute};
-ghost use Rattle.nsi_agent.specs.Steps.{after_as, is_seen, takes_kind, work_of};
+ghost use Rattle.nsi_agent.specs.Steps.{after_as, is_seen, work_of};
 ghost use Rattle.nsi_agent.specs.Laws.{IsGood};
 ghost use Rattle.nsi_agent.specs.Kinds.{IsAt, IsStepped, IsSteppedBySome, may_take_by, number_in, role_by, state_in};
 
 use aggregator_agent::Aggregator;
 use nsi_base::{AgentNo, RecordNo, Second};
-use nsi_primitive::{AskAnswer, Body, Entry, Identity, Machine, Message};
+use nsi_primitive::{AskAnswer, Entry, Identity, Machine, Message};
 use provider_agent::Provider;
 use requester_agent::Requester;
 use std::alloc::{AllocError, Global};
@@ -105,17 +105,6 @@ impl Kind {
         }
     }
 
-    /// Whether it takes messages of that kind: an aggregator takes no queryRecursive yet.
-    pub fn takes(&self, message: &Message) -> bool
-        ensures { (route : ℕ → ℕ → Sequence LegValue) (t : Network) →
-            result ≡ takes_kind (role_by t route self.now) message.now.body }
-    {
-        match self {
-            Kind::Aggregator(_) => !matches!(message.body, Body::QueryRecursive { .. }),
-            _ => true,
-        }
-    }
-
     /// Whether a message was taken before.
     pub fn seen(&self, message: &Message) -> bool
         ensures { (route : ℕ → ℕ → Sequence LegValue) (t : Network) →
@@ -132,10 +121,9 @@ impl Kind {
     pub fn is_new(&self, message: &Message) -> bool
         ensures { (route : ℕ → ℕ → Sequence LegValue) (t : Network) →
             let role = role_by t route self.now in
-            result ≡ (takes_kind role message.now.body
-            && not (is_seen role (state_in self.now) message.now)) }
+            result ≡ not (is_seen role (state_in self.now) message.now) }
     {
-        self.takes(message) && !self.seen(message)
+        !self.seen(message)
     }
 
     /// Whether a message of the identity waits for its acknowledgement.

@@ -3,13 +3,12 @@ use Rattle.std.proofs.Common.{◌≡◌, ◌<◌, ℕ, ◌+◌, List, [], ◌∷
 use Rattle.stp_topology.specs.declared.network.Network.{Network}
 use Rattle.nsi_primitive.specs.declared.ask.Ask.{Ask}
 use Rattle.nsi_script.specs.declared.fault.ScriptFault.{ScriptFault}
-use Rattle.nsi_script.specs.declared.fault.ScriptFault.TheVariants as faults
 use Rattle.nsi_script.specs.declared.form.Sort.TheVariants.{OneRequester}
 use Rattle.nsi_script.specs.declared.script.Act.{Act}
 use Rattle.nsi_script.specs.declared.script.Group.{Group}
 use Rattle.nsi_script.specs.declared.script.Script.{Script}
 use Rattle.nsi_script.specs.Faults.{demand}
-use Rattle.nsi_script.specs.Lines.{is_served, form_of, known_agent, put_ask, ask_of}
+use Rattle.nsi_script.specs.Lines.{known_agent, put_ask, ask_of}
 use Rattle.nsi_script.specs.Scripts.{asks_of, is_ask, is_reserved, reserves, with_act}
 use Rattle.nsi_script.specs.Words.{name_form, ask_form}
 use Rattle.nsi_script.proofs.ActLemmas.{reserved_push, asks_push}
@@ -45,9 +44,9 @@ asks_plain old new act l h is =
     let more : asks_of new ≡ asks_of old + cond (is_ask act) 1 0 = ap asks_of is ∙ asks_push old act l in
     omega (arith, none, more)
 
--- an ask whose words, agent and form are right
-pub ask_line : (t : Network) (s : Script) (requester : List ℕ) (words : List (List ℕ)) (name : List ℕ) (ask : Ask) (agent : ℕ) (served : Bool)
-    → name_form requester ≡ Ok name → ask_form words ≡ Ok ask → demand (is_served (form_of ask.what)) faults.Unbuilt ≡ Ok served
+-- an ask whose words and agent are right
+pub ask_line : (t : Network) (s : Script) (requester : List ℕ) (words : List (List ℕ)) (name : List ℕ) (ask : Ask) (agent : ℕ)
+    → name_form requester ≡ Ok name → ask_form words ≡ Ok ask
     → known_agent t OneRequester name ≡ Ok agent → ask_of t s requester words ≡ put_ask s agent ask
 unfolding ask_of
-ask_line t s requester words name ask agent served n a d k = rw n (rw a (rw d (rw k refl)))
+ask_line t s requester words name ask agent n a k = rw n (rw a (rw k refl))

@@ -81,11 +81,8 @@ words = (refl, refl, refl, refl, refl, refl, refl, refl, refl, refl, refl, refl,
 unbuilt :
     (script_of pair 6 (codes "stop p9 1 torn") ≡ Err (6, Unbuilt))
     × (script_of pair 6 (codes "restart p9") ≡ Err (6, Unbuilt))
-    × (script_of pair 6 (codes "ask r9 recursive c1") ≡ Err (6, Unbuilt))
-    × (script_of pair 6 (codes "ask r1 recursive c1") ≡ Err (6, Unbuilt))
-    × (script_of pair 6 (codes "ask r1 recursive") ≡ Err (6, Word))
 unfolding lines_to value_from number_of words_of kind_name kind_named first_named labelled_in summary_in numbers_in version_in reserve_in plain_named ask_by_verb known_agent add_at put_act put_ask ask_of add_force add_restart add_plan add_stop by_verb of_line read_lines
-unbuilt = (refl, refl, refl, refl, refl)
+unbuilt = (refl, refl)
 
 -- an ask under the label c1
 abbrev about : What → Act
@@ -94,7 +91,7 @@ about what = Act.Ask 1 (record { label = Some (codes "c1"); what = what })
 -- queries: only a summary may be of all connections, and a range has both ends
 queries :
     (script_of pair 6 (codes "at 0\nask r1 summary") ≡ Ok (record nothing { groups = record { at = 0; acts = Act.Ask 1 (record { label = None; what = What.Summary }) ∷ [] } ∷ [] }))
-    × (script_of pair 6 (codes "at 0\nask r1 reserve c1 A B 600 100 200\nask r1 summary c1\nask r1 notifications c1\nask r1 results c1 1 2")
+    × (script_of pair 6 (codes "at 0\nask r1 reserve c1 A B 600 100 200\nask r1 summary c1\nask r1 notifications c1\nask r1 results c1 1 2\nask r1 recursive c1")
     ≡ Ok (record nothing {
       groups =
           record {
@@ -104,18 +101,24 @@ queries :
                 ∷ (about What.Summary
                 ∷ (about (What.Notifications None)
                 ∷ (about (What.Results (Some (record { from = 1; to = 2 })))
-                ∷ [])));
+                ∷ (about What.Recursive
+                ∷ []))));
           }
           ∷ [];
     }))
     × (script_of pair 6 (codes "ask r1 results c1 1") ≡ Err (6, Word))
     × (script_of pair 6 (codes "ask r1 results") ≡ Err (6, Word))
+    × (script_of pair 6 (codes "ask r1 recursive") ≡ Err (6, Word))
+    × (script_of pair 6 (codes "ask r1 recursive c1 1") ≡ Err (6, Word))
+    × (script_of pair 6 (codes "ask r9 recursive c1") ≡ Err (6, Agent))
+    × (script_of pair 6 (codes "ask r1 recursive c1") ≡ Err (6, Time))
+    × (script_of pair 6 (codes "at 0\nask r1 recursive c1") ≡ Err (7, Label))
     × (script_of pair 6 (codes "ask r9 summary") ≡ Err (6, Agent))
     × (script_of pair 6 (codes "ask p1 results c1") ≡ Err (6, Agent))
     × (script_of pair 6 (codes "ask r1 summary") ≡ Err (6, Time))
     × (script_of pair 6 (codes "at 0\nask r1 summary c1") ≡ Err (7, Label))
 unfolding lines_to value_from number_of words_of kind_name kind_named first_named labelled_in summary_in numbers_in version_in reserve_in plain_named ask_by_verb known_agent add_at put_act put_ask ask_of add_force add_restart add_plan add_stop by_verb of_line read_lines
-queries = (refl, refl, refl, refl, refl, refl, refl, refl)
+queries = (refl, refl, refl, refl, refl, refl, refl, refl, refl, refl, refl, refl, refl)
 
 -- the agent first, then the time, then the label
 agents_and_times :

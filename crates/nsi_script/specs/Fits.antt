@@ -1,5 +1,5 @@
 -- Scripts that can be run over a topology.
-use Rattle.std.specs.Prelude.{◌≡◌, ℕ, ◌<◌, ◌≤◌, false, List, [], ◌∷◌, IsTrue, Some, length}
+use Rattle.std.specs.Prelude.{◌≡◌, ℕ, ◌<◌, ◌≤◌, List, [], ◌∷◌, IsTrue, Some, length}
 use Rattle.std.specs.List.{All}
 use Rattle.nsi_primitive.specs.Printable.{IsPrintableAsk}
 use Rattle.stp_topology.specs.declared.network.Network.{Network}
@@ -13,7 +13,7 @@ use Rattle.nsi_script.specs.declared.script.PlanLine.{PlanLine}
 use Rattle.nsi_script.specs.declared.script.Script.{Script}
 use Rattle.nsi_script.specs.declared.script.StopLine.{StopLine}
 use Rattle.nsi_script.specs.Lines.{greatest_asks, is_linked}
-use Rattle.nsi_script.specs.Scripts.{acts_of, asks_of, is_recursive, seconds_of}
+use Rattle.nsi_script.specs.Scripts.{acts_of, asks_of, seconds_of}
 
 -- the agent is a requester
 abbrev pub IsRequester : Network → ℕ → Type 0
@@ -25,9 +25,9 @@ IsOfSort t sorts.OneRequester a = IsRequester t a
 IsOfSort t sorts.OneProvider a = IsProvider t a
 IsOfSort t sorts.Any a = Unit {0}
 
--- an act of an agent of its sort; an ask can be printed, and doesn't ask for all that is below
+-- an act of an agent of its sort; an ask can be printed
 abbrev pub IsActOf : Network → Act → Type 0
-IsActOf t (Act.Ask agent ask) = (agent < length t.agents) × IsRequester t agent × IsPrintableAsk ask × (is_recursive ask.what ≡ false)
+IsActOf t (Act.Ask agent ask) = (agent < length t.agents) × IsRequester t agent × IsPrintableAsk ask
 IsActOf t (Act.Force agent number) = (agent < length t.agents) × IsProvider t agent
 IsActOf t (Act.Restart agent) = agent < length t.agents
 

@@ -4,7 +4,6 @@ use Rattle.std.specs.List.{list_any}
 use Rattle.std.specs.Str.{bytes_eq}
 use Rattle.nsi_base.specs.Range.{greatest_second, greatest_record}
 use Rattle.nsi_primitive.specs.declared.ask.Ask.{Ask}
-use Rattle.nsi_primitive.specs.declared.ask.What.{What}
 use Rattle.agent_link.specs.declared.plan.How.{How}
 use Rattle.agent_link.specs.declared.plan.How.TheVariants.{Lose, Repeat}
 use Rattle.agent_link.specs.declared.plan.LinkFault.{LinkFault}
@@ -26,16 +25,15 @@ use Rattle.nsi_script.specs.declared.script.Script.{Script}
 use Rattle.nsi_script.specs.declared.script.StopLine.{StopLine}
 use Rattle.nsi_script.specs.Faults.{◌>>=◌, value_or, demand}
 use Rattle.nsi_script.specs.Plans.{is_planned, is_stopped}
-use Rattle.nsi_script.specs.Scripts.{is_reserve, is_recursive, is_reserved, asks_of, last_second, group_at, with_act}
+use Rattle.nsi_script.specs.Scripts.{is_reserve, is_reserved, asks_of, last_second, group_at, with_act}
 use Rattle.nsi_script.specs.Words.{name_form, number_form, ask_form, parcel_form, image_form}
 
 -- asks of a script, at most
 abbrev pub greatest_asks : ℕ
 greatest_asks = 100000
 
--- which lines are served; the others have the fault `Unbuilt`
+-- which lines of plans, stops and restarts are served; the others have the fault `Unbuilt`
 abbrev pub is_served : Form → Bool
-is_served forms.Request = true
 is_served forms.Plan = true
 is_served form = false
 
@@ -106,14 +104,10 @@ put_ask s agent ask = do
   few ← accepted s agent ask
   Ok (record s { groups = with_act s.groups (Act.Ask agent ask) })
 
-abbrev pub form_of : What → Form
-form_of what = if is_recursive what then forms.Recursive else forms.Request
-
 unfoldable pub ask_of : Network → Script → List ℕ → List (List ℕ) → Result Script ScriptFault
 ask_of t s requester words = do
   name ← name_form requester
   ask ← ask_form words
-  served ← demand (is_served (form_of ask.what)) faults.Unbuilt
   agent ← known_agent t sorts.OneRequester name
   put_ask s agent ask
 

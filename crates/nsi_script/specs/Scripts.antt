@@ -28,11 +28,6 @@ abbrev pub is_reserve : What → Bool
 is_reserve (What.Reserve r) = true
 is_reserve what = false
 
--- an ask for all that is below a connection
-abbrev pub is_recursive : What → Bool
-is_recursive What.Recursive = true
-is_recursive what = false
-
 abbrev pub has_label : List ℕ → Option (List ℕ) → Bool
 has_label label None = false
 has_label label (Some own) = bytes_eq label own

@@ -12,7 +12,7 @@ ghost use Rattle.nsi_script.specs.Text.{is_skipped, of_line};
 ghost use Rattle.nsi_script.specs.declared.script.Act.{Act as Acts};
 
 use crate::fault::{LineRefusal, ScriptFault, demand};
-use crate::form::{Form, Sort, form_of, is_linked, is_served, known_agent};
+use crate::form::{Form, Sort, is_linked, is_served, known_agent};
 use crate::labels::Labels;
 use crate::plans::{PlanLines, StopLines};
 use crate::script::{Act, Group, PlanLine, Script, StopLine};
@@ -225,7 +225,6 @@ impl Draft {
     {
         let requester = name(requester)?;
         let ask = ask(alloc, words)?;
-        demand(is_served(form_of(&ask.what)), ScriptFault::Unbuilt)?;
         let agent = known_agent(topology, Sort::OneRequester, requester)?;
         self.put_ask(alloc, agent, ask)
     }

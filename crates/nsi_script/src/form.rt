@@ -5,20 +5,17 @@ ghost use Rattle.std.specs.List.{list_any};
 ghost use Rattle.stp_topology.specs.Network.{agent_of, kind_of};
 ghost use Rattle.nsi_script.specs.Faults.{Gives};
 ghost use Rattle.nsi_script.specs.Fits.{IsOfSort};
-ghost use Rattle.nsi_script.specs.Lines.{is_served, is_of, known_agent, is_requester_of, is_asking, is_linked, form_of};
+ghost use Rattle.nsi_script.specs.Lines.{is_served, is_of, known_agent, is_requester_of, is_asking, is_linked};
 
 use crate::fault::{LineRefusal, ScriptFault};
 use nsi_base::AgentNo;
-use nsi_primitive::What;
 use stp_topology::{AgentKind, Topology};
 
-/// What a line wants to be done.
+/// The forms of lines that aren't all served yet.
 #[derive(Clone, Copy, Debug, PartialEq, Eq)]
 pub enum Form {
     Plan,
     Stop,
-    Request,
-    Recursive,
     Restart,
 }
 
@@ -34,16 +31,7 @@ pub enum Sort {
 pub fn is_served(form: Form) -> bool
     ensures { result ≡ is_served form }
 {
-    matches!(form, Form::Request | Form::Plan)
-}
-
-pub fn form_of(what: &What) -> Form
-    ensures { result ≡ form_of what.now }
-{
-    match what {
-        What::Recursive => Form::Recursive,
-        _ => Form::Request,
-    }
+    matches!(form, Form::Plan)
 }
 
 fn is_of(sort: Sort, kind: AgentKind) -> bool

@@ -73,7 +73,7 @@ fn have_faults(alloc: Global, topology: &Topology, rows: &[(&str, u32, ScriptFau
     true
 }
 
-const ONE_FAULT: [(&str, u32, ScriptFault); 17] = [
+const ONE_FAULT: [(&str, u32, ScriptFault); 21] = [
     ("at 5\nat 4\n", 7, ScriptFault::Time),
     ("ask r1 commit c1", 6, ScriptFault::Time),
     ("force p1 0", 6, ScriptFault::Time),
@@ -99,7 +99,11 @@ const ONE_FAULT: [(&str, u32, ScriptFault); 17] = [
     ("repeat p1 r9 ack 1", 6, ScriptFault::Agent),
     ("stop p1 21 torn", 6, ScriptFault::Unbuilt),
     ("at 0\nrestart p1", 7, ScriptFault::Unbuilt),
-    ("at 0\nask r1 recursive c1", 7, ScriptFault::Unbuilt),
+    ("at 0\nask r1 recursive", 7, ScriptFault::Word),
+    ("at 0\nask r1 recursive c1 1", 7, ScriptFault::Word),
+    ("at 0\nask p1 recursive c1", 7, ScriptFault::Agent),
+    ("ask r1 recursive c1", 6, ScriptFault::Time),
+    ("at 0\nask r1 recursive c1", 7, ScriptFault::Label),
     ("at 0\nask p1 commit c1", 7, ScriptFault::Agent),
     ("at 0\nask r1 commit c1", 7, ScriptFault::Label),
     ("at 0\nask r1 summary c1", 7, ScriptFault::Label),
@@ -110,7 +114,7 @@ const TWO_FAULTS: [(&str, u32, ScriptFault); 8] = [
     ("stop p9 0 old", 6, ScriptFault::Word),
     ("ask r9 reserve c1 A A 1 0 1", 6, ScriptFault::Word),
     ("restart p9", 6, ScriptFault::Unbuilt),
-    ("ask p1 recursive c1", 6, ScriptFault::Unbuilt),
+    ("ask p1 recursive c1", 6, ScriptFault::Agent),
     ("force r1 0", 6, ScriptFault::Agent),
     ("ask r9 commit c1", 6, ScriptFault::Agent),
     ("ask r1 abort c1\nask r9 abort", 6, ScriptFault::Time),

@@ -2,7 +2,7 @@
 use Rattle.std.proofs.Common.{ℕ, ◌≡◌, List, Some}
 use Rattle.nsi_agent.specs.Told.{name_in}
 use Rattle.nsi_agent.specs.Laws.{WhatIsSaidIsItsOwn, RequestsAreDrawnOnce}
-use Rattle.nsi_world.specs.Agents.{CausedIsPrintable, NoneIsRecursive}
+use Rattle.nsi_world.specs.Agents.{CausedIsPrintable}
 use Rattle.nsi_world.specs.Worlds.{Homes}
 
 -- the laws of the agents
@@ -10,7 +10,6 @@ pub record AreLaws : Type 0 where
   pub own : WhatIsSaidIsItsOwn
   pub once : RequestsAreDrawnOnce
   pub printable : CausedIsPrintable
-  pub plain : NoneIsRecursive
 
 -- names lead to numbers and back, and each agent speaks under its own
 pub record Given (homes : Homes) : Type 0 where

@@ -16,9 +16,5 @@ mod Asking
 mod PlayAsks
 pub mod Resting
 mod RunLaws
-mod PlainRequests
-mod PlainRequester
-mod PlainAggregator
-mod Plain
 mod Rows
 mod Sending

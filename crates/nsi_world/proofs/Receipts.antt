@@ -1,22 +1,18 @@
 -- A message that came was taken, now or before: what is acknowledged is that very message.
-use Rattle.std.proofs.Common.{ℕ, ◌≡◌, ◌≢◌, Bool, true, false, cond, not, List, [], ◌∷◌, Some, ◌⊎◌, inl, inr, refl, sym, ap, ◌∙◌, subst, arith}
+use Rattle.std.proofs.Common.{ℕ, ◌≡◌, ◌≢◌, Bool, true, false, cond, List, [], ◌∷◌, Some, ◌⊎◌, inl, inr, refl, sym, ap, ◌∙◌, subst, arith}
 use Rattle.std.specs.List.{All, Contains}
 use Rattle.std.proofs.lemmas.List.Elements.{All-weaker, All-take, All-contains, Contains-append_cases, Contains-push_cases}
 use Rattle.nsi_primitive.specs.Messages.{identity, sender, is_request}
 use Rattle.nsi_primitive.specs.Printable.{IsPrintable, IsPrintableEntry}
 use Rattle.nsi_primitive.specs.declared.entry.Entry.{Entry}
 use Rattle.nsi_primitive.specs.declared.entry.Input.{Input}
-use Rattle.nsi_primitive.specs.declared.message.Body.{Body}
 use Rattle.nsi_primitive.specs.declared.message.Header.{Header}
 use Rattle.nsi_primitive.specs.declared.message.Message.{Message}
-use Rattle.agent_state.specs.Entries.{is_recursive}
-use Rattle.nsi_agent.specs.Homes.{Role, provides, aggregates, requests}
-use Rattle.nsi_agent.specs.Steps.{takes_kind}
+use Rattle.nsi_agent.specs.Homes.{Role}
 use Rattle.nsi_agent.specs.Told.{name_in, IsSame, IsSameTo, Gets, WasGot, Asks, HasAsked, IsSaidAs, IsSaid, IsFor, IsForIn}
 use Rattle.nsi_agent.specs.Laws.{AreApart}
 use Rattle.nsi_world.specs.Worlds.{Homes, IsAgent, World, synced_part, said, IsSaidBy, IsSent, IsTo, IsTaken}
 use Rattle.nsi_world.specs.Heard.{WasSent, IsHeard, IsFair}
-use Rattle.nsi_world.specs.Agents.{IsPlain}
 use Rattle.nsi_world.proofs.Given.{Given}
 
 ---- Who said it
@@ -55,14 +51,6 @@ said_name homes given w fair a m h =
 
 pub said_printable : (homes : Homes) → Given homes → (w : World) → IsFair homes w → (a : ℕ) (m : Message) → IsSaidBy homes w a m → IsPrintable m
 said_printable homes given w fair a m h = All-contains IsPrintable (said homes w a) m (given.laws.printable (homes a) (synced_part w a) (synced_printable homes w a fair)) h.1
-
-takes_plain : (role : Role) (body : Body) → is_recursive body ≡ false → takes_kind role body ≡ true
-takes_plain (requests setting) body e = refl
-takes_plain (provides setting stp_of) body e = refl
-takes_plain (aggregates setting) body e = ap not e
-
-pub said_taken : (homes : Homes) → Given homes → (w : World) → IsFair homes w → (a : ℕ) (role : Role) (m : Message) → IsSaidBy homes w a m → takes_kind role m.body ≡ true
-said_taken homes given w fair a role m h = takes_plain role m.body (All-contains IsPlain (said homes w a) m (given.laws.plain (homes a) (synced_part w a) (synced_for homes given w a fair)) h.1)
 
 some_same : (a b : ℕ) → Some a ≡ Some b → a ≡ b
 some_same a b e = cc

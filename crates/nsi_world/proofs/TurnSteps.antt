@@ -24,7 +24,7 @@ use Rattle.nsi_world.proofs.Given.{Given}
 use Rattle.nsi_world.proofs.Later.{said_later, taken_later}
 use Rattle.nsi_world.proofs.DoorSteps.{doors_queue, doors_clear, doors_push, IsComing, doors_lying, lying_later}
 use Rattle.nsi_world.proofs.Steps.{goes_none, goes_twice, goes_enters, goes_doors, goes_syncs}
-use Rattle.nsi_world.proofs.Receipts.{said_printable, said_taken, IsReceived, seen_received}
+use Rattle.nsi_world.proofs.Receipts.{said_printable, IsReceived, seen_received}
 
 ---- What came
 
@@ -51,7 +51,7 @@ got_now homes given clock w v from a true m s is new h fair q r f js =
 got_now homes given clock w v from a false m s is new h fair q r f js =
     let state : (told (homes a) (w.journal a)).state ≡ s.state = subst (λ k. (told (homes k) (w.journal k)).state ≡ s.state) is h.state in
     let old : is_new (homes a) (told (homes a) (w.journal a)).state m ≡ false = ap (λ (z : AgentState). is_new (homes a) z m) state ∙ new in
-    let x = seen_received homes given w fair from a m q (seen_was_got (homes a) (w.journal a) m (said_taken homes given w fair from (homes a).role m q) old) in
+    let x = seen_received homes given w fair from a m q (seen_was_got (homes a) (w.journal a) m old) in
     (x.0, x.1, taken_later homes w v w.journal v.journal from a x.0 f.grows f.enters x.2)
 
 pub goes_takes : (homes : Homes) → Given homes → (clock : ℕ) (w : World) (a from : ℕ) (p : Parcel) (s : Seat) → s.number ≡ a → Stands homes clock w s → IsFair homes w → MayGo homes w (synced_part w) from a p

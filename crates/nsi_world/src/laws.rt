@@ -1,17 +1,16 @@
 //! The laws of runs. Each function is its contract.
 
 ghost use Rattle.nsi_agent.specs.Laws.{WhatIsSaidIsItsOwn, RequestsAreDrawnOnce};
-ghost use Rattle.nsi_world.specs.Agents.{CausedIsPrintable, NoneIsRecursive};
+ghost use Rattle.nsi_world.specs.Agents.{CausedIsPrintable};
 ghost use Rattle.nsi_world.specs.Laws.{HeardWasSent, SentStaysSent, RequestsAreOne, TurnRuns, RoundRuns, PlayRuns, PlayIsRun, PlayStands, PlayRests, AsksWhole};
 
 use nsi_agent::laws::{every_message, every_request, every_state};
 
-/// What an agent says is its own and can be written; no two of its requests have one correlationId, and it asks no queryRecursive yet.
+/// What an agent says is its own and can be written, and no two of its requests have one correlationId.
 pub fn agents()
     ensures own { WhatIsSaidIsItsOwn }
     ensures once { RequestsAreDrawnOnce }
     ensures printable { CausedIsPrintable }
-    ensures plain { NoneIsRecursive }
 {
     every_message();
     every_request();

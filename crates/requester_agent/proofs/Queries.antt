@@ -1,14 +1,12 @@
 -- What is true of queries of each kind is true of the one that is asked.
-use Rattle.std.proofs.Common.{ℕ, ◌≡◌, true≢false, false, Option, Some, None, refl}
+use Rattle.std.proofs.Common.{ℕ, Option, Some, None}
 use Rattle.std.specs.Prelude.{IfSome}
 use Rattle.std.specs.Option.{option_and_then}
 use Rattle.nsi_primitive.specs.declared.ask.What.{What}
 use Rattle.nsi_primitive.specs.declared.message.Body.{Body}
 use Rattle.nsi_primitive.specs.declared.message.NumberRange.{NumberRange}
 use Rattle.agent_state.specs.declared.parent.View.{View}
-use Rattle.agent_state.specs.Entries.{is_recursive}
 use Rattle.requester_agent.specs.Queries.{query_about, connection_known, query_for}
-use Rattle.requester_agent.specs.Steps.{is_recursive_ask}
 
 pub record AreAll (P : Body → Type 0) : Type 0 where
   pub summary : (connection : Option ℕ) → P (Body.QuerySummary connection)
@@ -31,15 +29,3 @@ module _ (P : Body → Type 0) where
 
   pub query_is : AreAll P → (what : What) (found : Option (ℕ × View)) → IfSome (query_for what found) P
   query_is are what found = known_is what (about_is are what) (connection_known found)
-
-about_plain : (what : What) → is_recursive_ask what ≡ false → (id : ℕ) → IfSome (query_about what id) (λ body. is_recursive body ≡ false)
-unfolding query_about
-about_plain What.Summary e id = refl
-about_plain (What.Notifications numbers) e id = refl
-about_plain (What.Results numbers) e id = refl
-about_plain What.Recursive e id = absurd (true≢false e)
-about_plain _ e id = tt
-
--- only where all that is below is asked for, the query asks for it
-pub query_plain : (what : What) (found : Option (ℕ × View)) → is_recursive_ask what ≡ false → IfSome (query_for what found) (λ body. is_recursive body ≡ false)
-query_plain what found e = known_is (λ body. is_recursive body ≡ false) what (about_plain what e) (connection_known found)

@@ -12,7 +12,7 @@ abbrev pub base_at : Core → State
 base_at d = record { records = []; seen = d.retry.seen; heard = d.retry.heard; waiting = d.retry.waiting; next = d.next; now = d.now; taken = d.taken }
 
 abbrev pub state_at : Core → AgentState
-state_at d = record { base = base_at d; children = []; dues = []; views = d.views }
+state_at d = record { base = base_at d; children = []; dues = []; queries = []; views = d.views }
 
 abbrev pub standing_at : Core → Standing
 standing_at d = record { setting = setting_at d; state = state_at d }

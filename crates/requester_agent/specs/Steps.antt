@@ -1,5 +1,5 @@
 -- One entry at a requester.
-use Rattle.std.specs.Prelude.{ℕ, ◌+◌, ◌&&◌, nat_lt, not, Bool, true, false, List, [], ◌∷◌, ◌++◌, length, map, slice_get, slice_set, position, Option, Some, None}
+use Rattle.std.specs.Prelude.{ℕ, ◌+◌, ◌&&◌, nat_lt, Bool, true, false, List, [], ◌∷◌, ◌++◌, length, map, slice_get, slice_set, position, Option, Some, None}
 use Rattle.std.specs.Option.{option_map, option_and_then}
 use Rattle.std.specs.Str.{bytes_eq}
 use Rattle.nsi_primitive.specs.Ids.{id_of}
@@ -111,18 +111,8 @@ ticks second s = stays (record s { base = record s.base { now = second } })
 
 ---- One entry
 
--- what asks for all that is below a connection
-abbrev pub is_recursive_ask : What → Bool
-is_recursive_ask What.Recursive = true
-is_recursive_ask _ = false
-
--- it asks no queryRecursive yet
-abbrev pub is_for_requester : Input → Bool
-is_for_requester (Input.Ask number ask) = not (is_recursive_ask ask.what)
-is_for_requester _ = true
-
 abbrev pub may_take : AgentState → Entry → Bool
-may_take s e = nat_lt s.base.taken most_entries && (is_for_requester e.input && is_on_time e.input e.second s.base.now)
+may_take s e = nat_lt s.base.taken most_entries && is_on_time e.input e.second s.base.now
 
 -- it has no work, and nothing to end by force
 unfoldable pub step : Input → ℕ → Setting → AgentState → AgentStepped

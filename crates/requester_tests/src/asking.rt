@@ -8,7 +8,6 @@ mod wishes;
 ghost use Rattle.std.specs.Prelude.{◌≡◌, ◌<◌, true};
 ghost use Rattle.nsi_primitive.specs.Printable.{IsPrintableInput};
 ghost use Rattle.agent_state.specs.Entries.{is_on_time};
-ghost use Rattle.requester_agent.specs.Steps.{is_for_requester};
 
 use child_connection::Phase;
 use nsi_base::{RecordNo, Second};
@@ -84,7 +83,6 @@ fn take(
     input: Input,
 ) -> Result<Caused, AllocError>
     requires few { requester.old.state.base.taken < 4194304 }
-    requires for_requester { is_for_requester input ≡ true }
     requires on_time { is_on_time input second requester.old.state.base.now ≡ true }
     requires printable { IsPrintableInput input }
 {

@@ -26,7 +26,6 @@ use Rattle.agent_node.specs.Seat.{Seat}
 use Rattle.nsi_play.specs.Openings.{Plans, opening}
 use Rattle.nsi_play.specs.Rounds.{Net, Homes, is_quiet_in, all_quiet}
 use Rattle.nsi_play.specs.Play.{Played, plays}
-use Rattle.nsi_world.specs.Agents.{NoneIsRecursive}
 use Rattle.nsi_world.specs.Worlds.{World, empty, IsTo, said}
 use Rattle.nsi_world.specs.Runs.{world_after}
 use Rattle.nsi_world.specs.Laws.{PlayRests}
@@ -210,9 +209,9 @@ settled_in t routes given law plans past net w r quiet is =
           subst (AllBut (losses (ParcelKind.Message kind) (plans a b) + losses ParcelKind.Ack (plans b a)) (IsOver homes w a b kind)) (sym (said_is t routes past w a is la)) (over_but t routes given law plans past w is a b kind lb (left a b la lb));
     }
 
-pub play_settles : WhatIsSaidIsItsOwn → NoneIsRecursive → NothingIsSaidTwice → PlayRests → PlaySettles
-play_settles own plain once rests t routes plans groups events last sound formed routed rise may p =
-    let given : Given t routes = record { own = own; plain = plain; sound = sound; formed = formed; routed = routed } in
+pub play_settles : WhatIsSaidIsItsOwn → NothingIsSaidTwice → PlayRests → PlaySettles
+play_settles own once rests t routes plans groups events last sound formed routed rise may p =
+    let given : Given t routes = record { own = own; sound = sound; formed = formed; routed = routed } in
     let homes : Homes = home_in t routes in
     let e : Ends t routes plans [] (plays p.0 groups 0 homes (opening t plans)) = plays_end t routes given [] p.0 groups 0 (opening t plans) (opening_rests t routes plans) (opening_quiet t routes plans) (ap (λ (z : Played). z.is_over) p.1) in
     let end = subst (Ends t routes plans []) p.1 e in
@@ -241,6 +240,6 @@ each_done t homes plans w nothing h a lt k d within =
     let both = none_but (losses kind (plans a to.0) + losses ParcelKind.Ack (plans to.0 a)) (IsOver homes w a to.0 (kind_of m.body)) (said homes w a) none (h.acknowledged a to.0 (kind_of m.body) lt to.1) k d within (to.2, refl) in
     (to.0, to.1, to.2, both.0, both.1)
 
-pub play_leaves_none : WhatIsSaidIsItsOwn → NoneIsRecursive → NothingIsSaidTwice → PlayRests → PlayLeavesNone
-play_leaves_none own plain once rests t routes plans groups events last none sound formed routed rise may p a lt =
-    each_done t (home_in t routes) plans (world_after empty events) none (play_settles own plain once rests t routes plans groups events last sound formed routed rise may p) a lt
+pub play_leaves_none : WhatIsSaidIsItsOwn → NothingIsSaidTwice → PlayRests → PlayLeavesNone
+play_leaves_none own once rests t routes plans groups events last none sound formed routed rise may p a lt =
+    each_done t (home_in t routes) plans (world_after empty events) none (play_settles own once rests t routes plans groups events last sound formed routed rise may p) a lt

@@ -14,21 +14,18 @@ use Rattle.stp_topology.specs.Network.{kind_of, name_of, agent_of, children_of}
 use Rattle.stp_topology.specs.Sound.{IsSound, TakesRequests}
 use Rattle.stp_topology.specs.declared.network.AgentKind.{AgentKind}
 use Rattle.stp_topology.specs.declared.network.Network.{Network}
-use Rattle.agent_state.specs.Entries.{is_recursive}
 use Rattle.nsi_agent.specs.Homes.{Home, Routes, AreRoutes, home_in}
 use Rattle.nsi_agent.specs.Told.{told, name_in, AsksFor, HasAsked, Asks, IsSaidAs, IsSaid, IsFor, IsForIn}
 use Rattle.nsi_agent.specs.Laws.{WhatIsSaidIsItsOwn, IsAskedBy}
 use Rattle.nsi_agent.proofs.OwnMessages.{is_named_as_declared}
 use Rattle.nsi_agent.proofs.LeastWays.{asks_go_along_links}
 use Rattle.agent_node.specs.Openings.{is_provider_of, asks, are_linked, agents, others_of}
-use Rattle.nsi_world.specs.Agents.{IsPlain, NoneIsRecursive}
 use Rattle.nsi_world.proofs.Names.{home_name}
 use Rattle.settled_play.proofs.Finding.{none_there, first_there, later_there, first_or_later}
 
 -- what is given: the laws of what agents say, and a topology that a text gives
 pub record Given (t : Network) (routes : Routes) : Type 0 where
   pub own : WhatIsSaidIsItsOwn
-  pub plain : NoneIsRecursive
   pub sound : IsSound t
   pub formed : IsWellFormed t
   pub routed : AreRoutes t routes
@@ -119,9 +116,9 @@ asked_linked t a b (inr c) = or_left (asks t a b) (asks t b a) (or_right (is_pro
 
 ---- What goes along a link
 
--- what may go from one agent to another: a message for the other one, a request in the one's name, and no query
+-- what may go from one agent to another: a message for the other one, and a request in the one's name
 abbrev pub Goes : Network → (from to : ℕ) → Parcel → Type 0
-Goes t from to (Parcel.Message m) = (agent_of t (addressee (identity m)) ≡ Some to) × (addressee (identity m) ≡ name_of t to) × (is_request m.body ≡ true → m.header.requester ≡ name_of t from) × (is_recursive m.body ≡ false)
+Goes t from to (Parcel.Message m) = (agent_of t (addressee (identity m)) ≡ Some to) × (addressee (identity m) ≡ name_of t to) × (is_request m.body ≡ true → m.header.requester ≡ name_of t from)
 Goes t from to (Parcel.Ack i) = Unit {0}
 
 -- what an agent has taken is for it, and a request comes from one to whom it has a link
@@ -164,8 +161,7 @@ said_goes t routes given a es m lt heard c =
     let name : List ℕ = name_in h.role in
     let own_es : All (IsForIn name) es = λ k d within. for_it t routes a (get_or es k d).input (heard k d within) in
     let is_own : IsSaid name (Asks h.role) (HasAsked es) m = All-contains (IsSaid name (Asks h.role) (HasAsked es)) (told h es).out m (given.own h es own_es) c in
-    let plain : is_recursive m.body ≡ false = All-contains IsPlain (told h es).out m (given.plain h es own_es) c in
-    by (is_request m.body) refl is_own plain
+    by (is_request m.body) refl is_own
   where
     request_to : (m : Message) → is_request m.body ≡ true → addressee (identity m) ≡ m.header.provider
     request_to m e = ap (λ b. cond b m.header.provider m.header.requester) e
@@ -173,22 +169,22 @@ said_goes t routes given a es m lt heard c =
     answer_to : (m : Message) → is_request m.body ≡ false → addressee (identity m) ≡ m.header.requester
     answer_to m e = ap (λ b. cond b m.header.provider m.header.requester) e
 
-    by : (b : Bool) → is_request m.body ≡ b → IsSaidAs b (name_in (home_in t routes a).role) (Asks (home_in t routes a).role) (HasAsked es) m → is_recursive m.body ≡ false → Way t a m
-    by true e k plain =
+    by : (b : Bool) → is_request m.body ≡ b → IsSaidAs b (name_in (home_in t routes a).role) (Asks (home_in t routes a).role) (HasAsked es) m → Way t a m
+    by true e k =
         let x = asks_go_along_links t routes a m.header.provider given.routed k.1 in
         let near : x.0 < length t.agents = asked_within t routes given a x.0 lt x.1 in
         record {
           to = x.0;
           link = linked_there t a x.0 near (asked_linked t a x.0 x.1);
-          goes = (ap (agent_of t) (request_to m e ∙ sym x.2) ∙ given.formed.agents x.0 near, request_to m e ∙ sym x.2, (λ q. k.0 ∙ own_name t routes a), plain);
+          goes = (ap (agent_of t) (request_to m e ∙ sym x.2) ∙ given.formed.agents x.0 near, request_to m e ∙ sym x.2, (λ q. k.0 ∙ own_name t routes a));
         }
-    by false e k plain =
+    by false e k =
         let w = k.1 in
         let x = asked_from t a m.header.requester w.0.input (All-contains (IsLinked t a) es w.0 heard w.1) w.2 in
         record {
           to = x.0;
           link = x.1;
-          goes = (ap (agent_of t) (answer_to m e ∙ x.2) ∙ given.formed.agents x.0 (others_within t a x.0 x.1), answer_to m e ∙ x.2, (λ q. absurd (never (is_request m.body) e q)), plain);
+          goes = (ap (agent_of t) (answer_to m e ∙ x.2) ∙ given.formed.agents x.0 (others_within t a x.0 x.1), answer_to m e ∙ x.2, (λ q. absurd (never (is_request m.body) e q)));
         }
       where
         never : (b : Bool) → b ≡ false → b ≡ true → ⊥

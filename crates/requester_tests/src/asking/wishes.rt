@@ -1,13 +1,13 @@
 //! What r1's user asks, and what p1 says to r1 of the connection that it made first.
 
-ghost use Rattle.std.specs.Prelude.{◌≡◌, false, IfOk};
+ghost use Rattle.std.specs.Prelude.{IfOk};
 ghost use Rattle.nsi_primitive.specs.Printable.{IsPrintableAsk, IsPrintableBody, ArePointsApart, needs_label};
-ghost use Rattle.requester_agent.specs.Steps.{is_recursive_ask};
 
-use nsi_base::{AgentNo, HoldTime, Mbps, Name, Second, Version};
+use nsi_base::{AgentNo, HoldTime, List, Mbps, Name, Second, Version};
 use nsi_primitive::{
-    Ask, Body, Cause, Directionality, ErrorName, Exception, Header, HoldTimeout, Id, Message,
-    NumbersAsked, PlaneNotice, ReserveAsk, ReserveConfirmation, What, id_of,
+    Ask, Body, Cause, Directionality, ErrorName, Exception, Header, HoldTimeout, Id, Lsm, Message,
+    NumbersAsked, PlaneNotice, Psm, RecursiveRow, ReserveAsk, ReserveConfirmation, Rsm, What,
+    id_of,
 };
 use std::alloc::Global;
 use std::test::Fail;
@@ -23,6 +23,7 @@ pub(super) enum Wish {
     Summary,
     Notifications(Option<NumbersAsked>),
     Results(Option<NumbersAsked>),
+    Recursive,
 }
 
 #[derive(Clone, Copy)]
@@ -33,6 +34,7 @@ pub(super) enum Said {
     Refused,
     TimedOut,
     Active,
+    Rows,
     Terminate,
 }
 
@@ -52,7 +54,6 @@ fn mbps() -> Result<Mbps, Fail> {
 
 fn reserve(alloc: Global) -> Result<What, Fail>
     ensures apart { IfOk result ArePointsApart }
-    ensures served { IfOk result (λ what. is_recursive_ask what ≡ false) }
 {
     let source = Name::of(alloc, b"A")?;
     let dest = Name::of(alloc, b"B")?;
@@ -71,7 +72,6 @@ fn reserve(alloc: Global) -> Result<What, Fail>
 
 fn what_of(alloc: Global, wish: Wish) -> Result<What, Fail>
     ensures apart { IfOk result ArePointsApart }
-    ensures served { IfOk result (λ what. is_recursive_ask what ≡ false) }
 {
     match wish {
         Wish::Reserve => reserve(alloc),
@@ -83,12 +83,12 @@ fn what_of(alloc: Global, wish: Wish) -> Result<What, Fail>
         Wish::Summary => Ok(What::Summary),
         Wish::Notifications(numbers) => Ok(What::Notifications(numbers)),
         Wish::Results(numbers) => Ok(What::Results(numbers)),
+        Wish::Recursive => Ok(What::Recursive),
     }
 }
 
 pub(super) fn ask_of(alloc: Global, label: &str, wish: Wish) -> Result<Ask, Fail>
     ensures printable { IfOk result IsPrintableAsk }
-    ensures served { IfOk result (λ ask. is_recursive_ask ask.what ≡ false) }
 {
     let label = Name::of(alloc, label.as_bytes())?;
     let what = what_of(alloc, wish)?;
@@ -100,7 +100,6 @@ pub(super) fn ask_of(alloc: Global, label: &str, wish: Wish) -> Result<Ask, Fail
 
 pub(super) fn summary_of_all() -> Ask
     ensures printable { IsPrintableAsk result }
-    ensures served { is_recursive_ask result.what ≡ false }
 {
     Ask {
         label: None,
@@ -164,6 +163,27 @@ fn active() -> Result<Body, Fail>
     }))
 }
 
+/// The connection alone, with nothing below it.
+fn rows(alloc: Global) -> Result<Body, Fail>
+    ensures { IfOk result IsPrintableBody }
+{
+    let mut reservations = List::new(alloc);
+    reservations.push(RecursiveRow {
+        connection: id(0, 1)?,
+        depth: 0,
+        lifecycle: Lsm::Created,
+        provider: Name::of(alloc, b"p1")?,
+        provision: Psm::Released,
+        reservation: Rsm::ReserveHeld,
+        version: None,
+    })?;
+    Ok(Body::QueryRecursiveConfirmed {
+        connection: id(0, 1)?,
+        more: false,
+        reservations,
+    })
+}
+
 fn body_of(alloc: Global, said: Said) -> Result<Body, Fail>
     ensures { IfOk result IsPrintableBody }
 {
@@ -175,6 +195,7 @@ fn body_of(alloc: Global, said: Said) -> Result<Body, Fail>
         Said::Refused => refused(alloc),
         Said::TimedOut => timed_out(alloc),
         Said::Active => active(),
+        Said::Rows => rows(alloc),
         Said::Terminate => Ok(Body::Terminate { connection }),
     }
 }

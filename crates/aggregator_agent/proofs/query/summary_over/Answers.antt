@@ -1,6 +1,6 @@
 use Rattle.std.proofs.Common.{List, ◌∙◌, [], ◌∷◌, ◌++◌, ap, sym, map, take}
 use Rattle.std.proofs.lemmas.List.{map-append}
-use Rattle.nsi_query.specs.Summary.{Shown, summary}
+use Rattle.nsi_query.specs.Summary.{summary}
 use Rattle.nsi_query.proofs.Behind.{next_of}
 use Rattle.aggregator_agent.specs.declared.connection.Connection.{Connection}
 use Rattle.aggregator_agent.specs.Bonds.{bond, bonds, shown_of}

@@ -1,5 +1,4 @@
 use Rattle.nsi_world.proofs.Printing.{caused_is_printable}
-use Rattle.nsi_world.proofs.Plain.{none_is_recursive}
 use Rattle.nsi_world.proofs.laws.agents.Goals as goal
 
 pub returns-clause-own : goal.returns-clause-own
@@ -11,6 +10,3 @@ returns-clause-once c = c.every_request.ensures.apart
 pub returns-clause-printable : goal.returns-clause-printable
 returns-clause-printable c =
     caused_is_printable (record { aggregator = c.every_entry.ensures.printable; requester = c.every_entry-2.ensures.printable; blank = c.every_state.ensures.blank; good = c.every_state.ensures.good })
-
-pub returns-clause-plain : goal.returns-clause-plain
-returns-clause-plain c = none_is_recursive c.every_message.ensures.own

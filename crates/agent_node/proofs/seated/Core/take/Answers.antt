@@ -2,6 +2,7 @@ use Rattle.std.proofs.Common.{rules, ◌≡◌, ◌∙◌, ap, sym, subst, [], S
 use Rattle.std.proofs.lemmas.Result.{err_from_is_err_and}
 use Rattle.nsi_primitive.specs.declared.entry.Input.{Input}
 use Rattle.nsi_primitive.specs.declared.message.Parcel.{Parcel}
+use Rattle.stp_topology.specs.Network.{kind_of}
 use Rattle.nsi_agent.specs.Homes.{home_in}
 use Rattle.nsi_agent.specs.Steps.{is_new, waits}
 use Rattle.agent_node.specs.Seat.{enters_if, queues}
@@ -16,8 +17,7 @@ use Rattle.agent_node.proofs.seated.Core.take.Goals as goal
 pub enter_if-requires-clause-kind : goal.enter_if-requires-clause-kind
 enter_if-requires-clause-kind c = λ h.
     let a = c.args.self.now in
-    let new : c.is_new-is_new.result ≡ is_new (home_in a.network (λ x y z. []) a.seat.number) a.seat.state c.in-Message.message = search rules in
-    got_for a.network (λ x y z. []) a.seat.number a.seat.state c.in-Message.message (sym new ∙ h)
+    got_for (kind_of a.network a.seat.number) c.in-Message.message
 
 pub returns-in_err-enter_if-in-Message : goal.returns-in_err-enter_if-in-Message
 returns-in_err-enter_if-in-Message c =

@@ -38,8 +38,8 @@ returns-clause-step c =
     record {
       all = λ t route.
           record {
-            state = ticked_state (setting_of t d.agent route) c.args.now late bs c.clock.new.self d.outbox p d.next c.in_ok-said.said.next d.now d.taken is all.bonds all.waits told all.next;
-            said = all.out ∙ sym (ticked_out (setting_of t d.agent route) c.args.now late bs d.outbox d.next d.now d.taken is);
+            state = ticked_state (setting_of t d.agent route) c.args.now late bs c.clock.new.self d.outbox p d.queries.items d.next c.in_ok-said.said.next d.now d.taken is all.bonds all.waits told all.next;
+            said = all.out ∙ sym (ticked_out (setting_of t d.agent route) c.args.now late bs d.outbox d.queries.items d.next d.now d.taken is);
           };
       agent = refl;
       err = tt;

@@ -16,7 +16,7 @@ invariant_of-self c =
     let e = c.args.entering.now in
     let xs = c.self.inside.items.items in (
       c.hear_all.ensures.found,
-      heard_settled e.agent.now e.second e.message.now c.args.next (bonds xs) (bonds c.hear_all.new.connections.items) c.args.outbox.now c.hear_all.new.outbox c.hear_all.result c.self.invariant.1 c.hear_all.ensures.done c.hear_all.ensures.back,
+      heard_settled e.agent.now e.second e.message.now c.args.begun.next (bonds xs) (bonds c.hear_all.new.connections.items) c.args.outbox.now c.hear_all.new.outbox _ c.hear_all.result c.self.invariant.1 c.hear_all.ensures.done c.hear_all.ensures.back,
     )
 
 pub returns-clause-done : goal.returns-clause-done
