@@ -14,6 +14,7 @@ main() {
         1:--help) exec cat -- "$root/docs/help.txt" ;;
         1:--version) show_version ;;
         1:--build) build ;;
+        1:--test) test_all ;;
         *) run "$@" ;;
     esac
 }
@@ -120,6 +121,37 @@ show_waits() {
         case $line in 'rt: '*waiting\ for*) printf '%s\n' "$line" >&2 ;; esac
         printf '%s\n' "$line"
     done
+}
+
+# Every proof and test, and then rows and random inputs over the program that `rt ci` left. The last line adds up theirs.
+test_all() {
+    local passed=0 failed=0
+    require_rt unproved
+    make_room
+    step rt ci
+    step tools/try-rows
+    step tools/differential-test --seeds 6
+    step tools/differential-run --seeds 1..200 --keep "${TMPDIR:-/tmp}"
+    step tools/differential-run --seeds 1..80 --all --keep "${TMPDIR:-/tmp}"
+    echo "$passed passed, $failed failed"
+    [ "$failed" -eq 0 ]
+}
+
+# A step whose status or last line tells of nothing that passed has failed once itself.
+step() {
+    local status counts
+    (cd -- "$root" && exec "$@") </dev/null | tee -- "$room/step"
+    status=${PIPESTATUS[0]}
+    if [[ $(tail -n 1 -- "$room/step") =~ ^([0-9]+)\ passed,\ ([0-9]+)\ failed$ ]]; then
+        counts=("${BASH_REMATCH[@]:1}")
+    else
+        say "$1 ended without its count"
+        counts=(0 0)
+        status=1
+    fi
+    [ "$status" -eq 0 ] || [ "${counts[1]}" -ne 0 ] || counts[1]=1
+    passed=$((passed + counts[0]))
+    failed=$((failed + counts[1]))
 }
 
 show_version() {
