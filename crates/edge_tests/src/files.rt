@@ -1,77 +1,18 @@
-//! What the calls of std come to, by tables; a disk over a file that answers little at a time; and files of a folder.
+//! A disk over a file that answers little at a time, and files of a folder.
 
 ghost use Rattle.std.specs.Prelude.{◌≤◌, ◌+◌, IfOk};
 
 mod folders;
 
-use crate::{
-    CallOutcome, FileDisk, PieceOutcome, call_outcome, fetch_outcome, file_name, length_outcome,
-    lock_outcome, piece_outcome,
-};
-use nsi_base::Name;
-use nsi_disk::{Disk, DiskError, ShelfError};
+use file_shelf::FileDisk;
+use nsi_disk::{Disk, DiskError};
 use std::cell::Cell;
-use std::fs::{Metadata, OpenFile, TryLockError};
+use std::fs::{Metadata, OpenFile};
 use std::io::{self, ErrorKind};
 use std::os::unix::fs::FileExt;
-use std::test::Fail;
 
 fn error(kind: ErrorKind) -> io::Error {
     io::Error::from(kind)
-}
-
-#[test]
-fn pieces_go_on_until_they_are_whole(rt: HostRuntime) {
-    let rows = [
-        (3, Ok(3), PieceOutcome::Whole),
-        (3, Ok(2), PieceOutcome::Left(1)),
-        (3, Ok(0), PieceOutcome::Failed),
-        (0, Ok(0), PieceOutcome::Whole),
-        (3, Err(ErrorKind::Interrupted), PieceOutcome::Left(3)),
-        (3, Err(ErrorKind::StorageFull), PieceOutcome::Failed),
-        (0, Err(ErrorKind::Other), PieceOutcome::Failed),
-    ];
-    for (left, given, want) in rows {
-        let came = piece_outcome(left, given.map_err(error));
-        assert!(rt; came == want, "{left}");
-    }
-}
-
-#[test]
-fn each_error_is_a_fault(rt: HostRuntime) {
-    assert!(rt; call_outcome(Ok(())) == CallOutcome::Done);
-    assert!(rt; call_outcome::<()>(Err(error(ErrorKind::Other))) == CallOutcome::Failed);
-    assert!(rt; length_outcome(Ok(Metadata::of_file(5))) == (CallOutcome::Done, 5));
-    assert!(rt; length_outcome(Err(error(ErrorKind::Other))) == (CallOutcome::Failed, 0));
-    assert!(rt; fetch_outcome(Ok(5u8)) == Ok(5));
-    assert!(rt; fetch_outcome::<u8>(Err(error(ErrorKind::NotFound))) == Err(ShelfError::Failed));
-}
-
-#[test]
-fn a_file_of_another_is_refused(rt: HostRuntime) {
-    let other = TryLockError::Error(error(ErrorKind::Other));
-    let none = TryLockError::Error(error(ErrorKind::Unsupported));
-    assert!(rt; lock_outcome(Ok(())) == Ok(()));
-    assert!(rt; lock_outcome(Err(TryLockError::WouldBlock)) == Err(ShelfError::Failed));
-    assert!(rt; lock_outcome(Err(other)) == Err(ShelfError::Failed));
-    assert!(rt; lock_outcome(Err(none)) == Ok(()));
-}
-
-#[test]
-fn names_become_file_names(rt: HostRuntime) -> Result<(), Fail> {
-    let rows: [(&[u8], &str); 5] = [
-        (b"aZ09-_", "aZ09-_.journal"),
-        (b".", "%2E.journal"),
-        (b"../a", "%2E%2E%2Fa.journal"),
-        (b"urn:ogf:a.net", "urn%3Aogf%3Aa%2Enet.journal"),
-        (b"a%2F~", "a%252F%7E.journal"),
-    ];
-    for (name, want) in rows {
-        let name = Name::of(rt.alloc(), name)?;
-        let text = file_name(rt.alloc(), &name)?;
-        assert!(rt; text.as_str() == want, "{want}");
-    }
-    Ok(())
 }
 
 /// A file of eight bytes that moves two bytes a call. The second call is interrupted, and no call goes past the end. Its first
@@ -148,21 +89,16 @@ impl OpenFile for SlowFile {
 }
 
 #[test]
-fn a_write_goes_on_with_the_rest(rt: HostRuntime) {
+fn a_piece_goes_on_with_the_rest(rt: HostRuntime) {
     let mut disk = FileDisk::new(SlowFile::of(*b"abcdefgh"));
     let mut buffer = [0u8; 8];
     assert!(rt; disk.write_at(1, b"VWXYZ") == Ok(()));
     assert!(rt; disk.read_at(0, &mut buffer) == Ok(()));
     assert_eq!(rt; buffer, *b"aVWXYZgh");
-    assert_eq!(rt; disk.faults(), 0);
-}
-
-#[test]
-fn a_read_goes_on_with_the_rest(rt: HostRuntime) {
     let mut disk = FileDisk::new(SlowFile::of(*b"abcdefgh"));
-    let mut buffer = [0u8; 5];
-    assert!(rt; disk.read_at(3, &mut buffer) == Ok(()));
-    assert_eq!(rt; buffer, *b"defgh");
+    let mut rest = [0u8; 5];
+    assert!(rt; disk.read_at(3, &mut rest) == Ok(()));
+    assert_eq!(rt; rest, *b"defgh");
     assert_eq!(rt; disk.faults(), 0);
 }
 
