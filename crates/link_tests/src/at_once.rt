@@ -3,8 +3,7 @@
 ghost use Rattle.std.specs.Prelude.{◌≡◌, IfSome};
 ghost use Rattle.nsi_primitive.specs.Printable.{IsPrintableParcel};
 
-use super::let_go;
-use agent_link::{Incoming, Outgoing, link, meet};
+use agent_link::{Incoming, Outgoing, PushFault, Pushed, link, meet};
 use nsi_base::{AgentNo, List, Name};
 use nsi_primitive::{Id, Identity, Kind, Parcel, id_of};
 use std::alloc::{AllocError, Global};
@@ -37,6 +36,10 @@ fn correlation(number: u32) -> Id {
         Some(agent) => id_of(agent, u64::from(number)),
         None => Id::nil(),
     }
+}
+
+fn let_go(pushed: Result<Pushed, PushFault>) {
+    drop(pushed);
 }
 
 /// Lets one more through.

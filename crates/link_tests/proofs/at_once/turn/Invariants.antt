@@ -1,5 +1,5 @@
 use Rattle.std.proofs.Common.{◌≡◌}
-use Rattle.link_tests.proofs.ends.at_once.turn.Given as goal
+use Rattle.link_tests.proofs.at_once.turn.Given as goal
 
 abbrev pub invariant-loop-k : goal.invariant-loop-k
 invariant-loop-k l = record {
