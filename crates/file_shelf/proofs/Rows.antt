@@ -11,7 +11,9 @@ pub record NameRows : Type 0 where
   pub dots : file_name (46 ∷ 46 ∷ []) ≡ 37 ∷ 50 ∷ 69 ∷ 37 ∷ 50 ∷ 69 ∷ suffix
   -- `a/%`
   pub slash : file_name (97 ∷ 47 ∷ 37 ∷ []) ≡ 97 ∷ 37 ∷ 50 ∷ 70 ∷ 37 ∷ 50 ∷ 53 ∷ suffix
+  -- `:~`
+  pub others : file_name (58 ∷ 126 ∷ []) ≡ 37 ∷ 51 ∷ 65 ∷ 37 ∷ 55 ∷ 69 ∷ suffix
 
 pub name_rows : NameRows
 unfolding percent_encode percent_encode_byte should_percent_encode
-name_rows = record { kept = refl; dots = refl; slash = refl }
+name_rows = record { kept = refl; dots = refl; slash = refl; others = refl }

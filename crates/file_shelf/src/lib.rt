@@ -15,6 +15,3 @@ pub use outcome::{
     piece_outcome,
 };
 pub use shelf::FileShelf;
-
-#[cfg(test)]
-mod tests;

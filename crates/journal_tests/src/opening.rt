@@ -1,4 +1,4 @@
-//! Journals over the disk in memory: byte by byte, cut off at each call, and of each wrong form.
+//! Journals over the disk in memory: byte by byte, and cut off at each call.
 
 ghost use Rattle.std.specs.Prelude.{◌≡◌, ◌<◌, false, length, All, IfOk};
 ghost use Rattle.nsi_primitive.specs.Printable.{IsPrintableEntry};
@@ -135,14 +135,6 @@ fn batches_are_written_byte_by_byte(rt: HostRuntime) -> Result<(), Fail> {
     Ok(())
 }
 
-#[test]
-fn batches_are_read_again(rt: HostRuntime) -> Result<(), Fail> {
-    let disk = disk_of(rt.alloc(), &TWO_BATCHES, &[], &[])?;
-    let is_right = leaves(rt.alloc(), disk, 3)?;
-    assert!(rt; is_right);
-    Ok(())
-}
-
 /// How many ticks are left where each call in turn fails.
 const LEFT_BY_FAULTS: [usize; 12] = [0, 0, 0, 0, 0, 0, 0, 1, 1, 1, 1, 3];
 
@@ -195,136 +187,36 @@ fn each_call_stops_with_each_image(rt: HostRuntime) -> Result<(), Fail> {
     Ok(())
 }
 
-/// Bytes that are no journal, and the place of the gate where that is seen.
-const WRONG: [(&[u8], u64); 11] = [
-    // the length goes to the end, and no gate stands behind it
-    (b"\x01\0\0\0\0\0\0\0\x0b\x01\x04\0\0\0\0\0\0\0\x07\0", 0),
-    (b"\x01\0\0\0\0\0\0\0\x0a\x01\x04\0\0\0\0\0\0\0\x07", 0),
-    // the length goes past the end
-    (b"\x01\xff\xff\xff\xff\xff\xff\xff\xff\0", 0),
-    (b"\x01\x0a\0\0\0\0\0\0\0\x01\x04\0\0\0\0\0\0\0\x07\0", 0),
-    // the length itself is cut off
-    (
-        b"\x01\0\0\0\0\0\0\0\x0a\x01\x04\0\0\0\0\0\0\0\x07\x01\0\0",
-        19,
-    ),
-    // behind the entry of the second batch stands one byte more
-    (
-        b"\x01\0\0\0\0\0\0\0\x0a\x01\x04\0\0\0\0\0\0\0\x07\x01\0\0\0\0\0\0\0\x0b\x01\x04\0\0\0\0\0\0\0\x08\0\0",
-        19,
-    ),
-    // its entry has an unknown tag
-    (
-        b"\x01\0\0\0\0\0\0\0\x0a\x01\x04\0\0\0\0\0\0\0\x07\x01\0\0\0\0\0\0\0\x0a\x01\x07\0\0\0\0\0\0\0\x08\0",
-        19,
-    ),
-    // a payload without entries, of another form, and without bytes
-    (b"\x01\0\0\0\0\0\0\0\x01\x01\0", 0),
-    (b"\x01\0\0\0\0\0\0\0\x0a\x02\x04\0\0\0\0\0\0\0\x07\0", 0),
-    (b"\x01\0\0\0\0\0\0\0\0\0", 0),
-    // a message whose line is no message
-    (
-        b"\x01\0\0\0\0\0\0\0\x14\x01\x02\0\0\0\0\0\0\0\x07\0\0\0\0\0\0\0\x02{}\0",
-        0,
-    ),
-];
-
-/// Whether these bytes are refused with this place, and stay as they are.
-fn is_refused(alloc: Global, bytes: &[u8], place: u64) -> Result<bool, AllocError> {
-    match DiskJournal::start(alloc, disk_of(alloc, bytes, &[], &[])?) {
+/// Whether a start fails with this cause, and the next one reads all the ticks.
+fn is_not_begun(
+    alloc: Global,
+    failing: &[u64],
+    stops: &[Stop],
+    cause: StartCause,
+) -> Result<bool, AllocError> {
+    match DiskJournal::start(alloc, disk_of(alloc, &TWO_BATCHES, failing, stops)?) {
         Ok(_) => Ok(false),
         Err(fault) => {
-            let StartFault { cause, disk } = fault;
-            let stays = disk.into_bytes().as_slice() == bytes;
-            Ok(cause == StartCause::NotAJournal { place } && stays)
+            let StartFault { cause: came, disk } = fault;
+            let is_left = leaves(alloc, disk, 3)?;
+            Ok(came == cause && is_left)
         }
     }
 }
 
+/// A start syncs, and asks for the length and for the bytes.
 #[test]
-fn bytes_that_are_no_journal_are_refused_with_their_place(rt: HostRuntime) -> Result<(), Fail> {
-    for (bytes, place) in WRONG {
-        let is_right = is_refused(rt.alloc(), bytes, place)?;
-        assert!(rt; is_right, "{bytes:?}");
+fn each_call_of_a_start_fails_and_stops(rt: HostRuntime) -> Result<(), Fail> {
+    for call in 1..=3u64 {
+        let image = Image::Torn;
+        let fails = is_not_begun(rt.alloc(), &[call], &[], StartCause::DiskFault)?;
+        let stops = is_not_begun(
+            rt.alloc(),
+            &[],
+            &[Stop { call, image }],
+            StartCause::Stopped,
+        )?;
+        assert!(rt; fails && stops, "{call} {fails} {stops}");
     }
-    Ok(())
-}
-
-#[test]
-fn what_is_behind_a_closed_gate_is_nothing(rt: HostRuntime) -> Result<(), Fail> {
-    for gate in [0u8, 2, 165] {
-        let mut bytes = TWO_BATCHES;
-        bytes[19] = gate;
-        let disk = disk_of(rt.alloc(), &bytes, &[], &[])?;
-        let is_right = leaves(rt.alloc(), disk, 1)?;
-        assert!(rt; is_right, "{gate}");
-    }
-    Ok(())
-}
-
-/// Whether a file of so many bytes 1 is an empty journal, whose first byte is a closed gate then.
-fn is_empty_journal(alloc: Global, bytes: &[u8]) -> Result<bool, AllocError> {
-    match DiskJournal::start(alloc, disk_of(alloc, bytes, &[], &[])?) {
-        Ok((journal, entries)) => {
-            let left = journal.into_disk().into_bytes();
-            Ok(entries.is_empty() && left.first() == Some(&0))
-        }
-        Err(_) => Ok(false),
-    }
-}
-
-#[test]
-fn a_file_of_less_than_nine_bytes_is_an_empty_journal(rt: HostRuntime) -> Result<(), Fail> {
-    let ones: [&[u8]; 9] = [
-        b"",
-        b"\x01",
-        b"\x01\x01",
-        b"\x01\x01\x01",
-        b"\x01\x01\x01\x01",
-        b"\x01\x01\x01\x01\x01",
-        b"\x01\x01\x01\x01\x01\x01",
-        b"\x01\x01\x01\x01\x01\x01\x01",
-        b"\x01\x01\x01\x01\x01\x01\x01\x01",
-    ];
-    for bytes in ones {
-        let is_right = is_empty_journal(rt.alloc(), bytes)?;
-        assert!(rt; is_right, "{bytes:?}");
-    }
-    let closed = is_empty_journal(rt.alloc(), b"\0\x01\x01\x01\x01\x01\x01\x01\x01")?;
-    let open = is_refused(rt.alloc(), b"\x01\0\0\0\0\0\0\0\0", 0)?;
-    assert!(rt; closed && open);
-    Ok(())
-}
-
-/// Whether a batch that was forgotten is gone, and another one is kept in its place.
-fn forgets(alloc: Global, disk: MemoryDisk, gone: &[Entry], kept: &[Entry]) -> Result<bool, Fail>
-    requires runs { (⟦<MemoryDisk as Disk>⟧.meter disk).stopped ≡ false }
-    requires first { (0 < length gone.now) × All IsPrintableEntry gone.now }
-    requires second { (0 < length kept.now) × All IsPrintableEntry kept.now }
-{
-    let Ok(journal) = DiskJournal::fresh(disk) else {
-        return Ok(false);
-    };
-    let mut journal = journal;
-    let Ok(()) = journal.append(alloc, gone) else {
-        return Ok(false);
-    };
-    journal.forget();
-    let Ok(()) = keep(alloc, &mut journal, kept) else {
-        return Ok(false);
-    };
-    let is_left = leaves(alloc, journal.into_disk(), 1)?;
-    Ok(is_left)
-}
-
-#[test]
-fn a_forgotten_batch_is_gone(rt: HostRuntime) -> Result<(), Fail> {
-    let seven = Second::new(7).ok_or("a second")?;
-    let eight = Second::new(8).ok_or("a second")?;
-    let gone = [tick(eight), tick(eight)];
-    let kept = [tick(seven)];
-    let disk = disk_of(rt.alloc(), &[], &[], &[])?;
-    let is_right = forgets(rt.alloc(), disk, &gone, &kept)?;
-    assert!(rt; is_right);
     Ok(())
 }

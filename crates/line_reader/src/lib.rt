@@ -7,6 +7,3 @@ mod whole;
 
 pub use reader::{LineReader, Next, ReadError};
 pub use whole::read_whole;
-
-#[cfg(test)]
-mod tests;

@@ -1,5 +1,5 @@
-//! Tests alone: both ends of a link, one after the other and at once.
+//! Tests alone: both ends of links, used at once.
 #![tactic(auto)]
 
 #[cfg(test)]
-mod ends;
+mod at_once;
