@@ -5,5 +5,3 @@ pub mod table;
 
 pub use table::{LsmEvent, step};
 
-#[cfg(test)]
-mod tests;

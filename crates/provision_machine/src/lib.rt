@@ -5,5 +5,3 @@ pub mod table;
 
 pub use table::{PsmEvent, step};
 
-#[cfg(test)]
-mod tests;
