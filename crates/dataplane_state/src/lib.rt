@@ -5,5 +5,3 @@ pub mod plane;
 
 pub use plane::{announces, joined, status};
 
-#[cfg(test)]
-mod tests;
