@@ -16,5 +16,3 @@ pub use load::make_load;
 pub use script::{Act, Group, PlanLine, Script, StopLine};
 pub use text::read_script;
 
-#[cfg(test)]
-mod tests;
