@@ -7,5 +7,3 @@ pub mod places;
 pub use deadlines::{Deadline, Deadlines};
 pub use places::Places;
 
-#[cfg(test)]
-mod tests;
