@@ -4,4 +4,3 @@
 pub mod plane;
 
 pub use plane::{announces, joined, status};
-
