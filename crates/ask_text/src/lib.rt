@@ -7,6 +7,3 @@ pub mod reading;
 
 pub use printing::print_ask;
 pub use reading::{AskTextFault, ask_in, read_ask};
-
-#[cfg(test)]
-mod tests;

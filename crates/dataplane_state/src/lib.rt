@@ -4,6 +4,3 @@
 pub mod plane;
 
 pub use plane::{announces, joined, status};
-
-#[cfg(test)]
-mod tests;

@@ -4,6 +4,3 @@
 mod lines;
 
 pub use lines::{as_line, disk_fault_text, journal_fault, script_fault, topology_fault};
-
-#[cfg(test)]
-mod tests;

@@ -10,9 +10,6 @@ use std::collections::BTreeSet;
 use std::collections::btree_set::Range;
 use std::marker::Model;
 
-#[cfg(test)]
-mod tests;
-
 /// A place at which an id may stand. Its order is that of the ids, and then that of the places.
 #[derive(Clone, Copy, Debug, PartialEq, Eq, PartialOrd, Ord)]
 pub struct IdPlace {

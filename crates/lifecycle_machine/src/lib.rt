@@ -4,6 +4,3 @@
 pub mod table;
 
 pub use table::{LsmEvent, step};
-
-#[cfg(test)]
-mod tests;

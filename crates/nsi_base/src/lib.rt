@@ -18,6 +18,3 @@ pub use list::List;
 pub use number::{AgentNo, HoldTime, Mbps, RecordNo, Second, StpNo, Version};
 pub use text::{Name, NameFault, Text, TextFault, copy_name, copy_text, is_name};
 pub use words::Blanks;
-
-#[cfg(test)]
-mod tests;

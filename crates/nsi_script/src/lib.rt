@@ -15,6 +15,3 @@ pub use fault::{LineRefusal, ScriptFault, ScriptRefusal};
 pub use load::make_load;
 pub use script::{Act, Group, PlanLine, Script, StopLine};
 pub use text::read_script;
-
-#[cfg(test)]
-mod tests;

@@ -4,6 +4,3 @@
 pub mod table;
 
 pub use table::{PsmEvent, step};
-
-#[cfg(test)]
-mod tests;

@@ -6,6 +6,3 @@ pub mod places;
 
 pub use deadlines::{Deadline, Deadlines};
 pub use places::Places;
-
-#[cfg(test)]
-mod tests;

@@ -4,6 +4,3 @@
 pub mod table;
 
 pub use table::{RsmEvent, step};
-
-#[cfg(test)]
-mod tests;

@@ -1,5 +1,0 @@
-//! Tests alone: paths over small networks.
-#![tactic(auto)]
-
-#[cfg(test)]
-mod finding;

@@ -1,5 +1,0 @@
-//! Tests alone: which rows the answers to queries have.
-#![tactic(auto)]
-
-#[cfg(test)]
-mod rows;

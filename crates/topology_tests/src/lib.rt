@@ -1,5 +1,0 @@
-//! Tests alone: topologies that are taken and refused, line by line.
-#![tactic(auto)]
-
-#[cfg(test)]
-mod lines;
