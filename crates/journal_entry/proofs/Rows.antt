@@ -101,6 +101,27 @@ no_tag : entry_of (7 ∷ 0 ∷ 0 ∷ 0 ∷ 0 ∷ 0 ∷ 0 ∷ 0 ∷ 7 ∷ []) ≡
 unfolding entry_at input_at bounded_at number_at
 no_tag = refl
 
+-- nothing, a second of seven bytes, and work without its machine
+cut_short :
+    (entry_of [] ≡ None)
+    × (entry_of (4 ∷ 0 ∷ 0 ∷ 0 ∷ 0 ∷ 0 ∷ 0 ∷ 0 ∷ []) ≡ None)
+    × (entry_of (3 ∷ 0 ∷ 0 ∷ 0 ∷ 0 ∷ 0 ∷ 0 ∷ 0 ∷ 7 ∷ 0 ∷ 0 ∷ 0 ∷ 5 ∷ []) ≡ None)
+unfolding entry_at input_at work_at machine_at bounded_at number_at
+cut_short = (refl, refl, refl)
+
+-- the tag before the first one, work on a record behind the last one, and an ask whose length passes every text
+out_of_range :
+    (entry_of (0 ∷ 0 ∷ 0 ∷ 0 ∷ 0 ∷ 0 ∷ 0 ∷ 0 ∷ 7 ∷ []) ≡ None)
+    × (entry_of (3 ∷ 0 ∷ 0 ∷ 0 ∷ 0 ∷ 0 ∷ 0 ∷ 0 ∷ 7 ∷ 0 ∷ 64 ∷ 0 ∷ 0 ∷ 0 ∷ []) ≡ None)
+    × (entry_of (1 ∷ 0 ∷ 0 ∷ 0 ∷ 0 ∷ 0 ∷ 0 ∷ 0 ∷ 7 ∷ 0 ∷ 0 ∷ 0 ∷ 2 ∷ 255 ∷ 255 ∷ 255 ∷ 255 ∷ 255 ∷ 255 ∷ 255 ∷ 255 ∷ codes "commit c1") ≡ None)
+unfolding entry_at input_at work_at ask_at text_at bounded_at number_at
+out_of_range = (refl, refl, refl)
+
+-- the last second, and a byte behind it
+last_tick : entry_of (4 ∷ 0 ∷ 0 ∷ 0 ∷ 58 ∷ 254 ∷ 19 ∷ 13 ∷ 255 ∷ 0 ∷ []) ≡ Some (record { second = 253370764799; input = Input.Tick }, 9)
+unfolding entry_at input_at bounded_at number_at
+last_tick = refl
+
 -- a text of ten bytes, of which nine are there
 short_text : text_at (0 ∷ 0 ∷ 0 ∷ 0 ∷ 0 ∷ 0 ∷ 0 ∷ 10 ∷ codes "commit c1") ≡ None
 unfolding text_at number_at
@@ -125,6 +146,22 @@ none = refl
 other_form : payload_of (2 ∷ tick_7) ≡ None
 unfolding payload_of
 other_form = refl
+
+-- nothing, a form before the first one, no form, a byte less, and an unknown tag behind an entry
+other_payloads :
+    (payload_of [] ≡ None)
+    × (payload_of (0 ∷ tick_7) ≡ None)
+    × (payload_of tick_7 ≡ None)
+    × (payload_of (1 ∷ 4 ∷ 0 ∷ 0 ∷ 0 ∷ 0 ∷ 0 ∷ 0 ∷ 0 ∷ []) ≡ None)
+    × (payload_of (1 ∷ (tick_7 ++ 7 ∷ 0 ∷ 0 ∷ 0 ∷ 0 ∷ 0 ∷ 0 ∷ 0 ∷ 7 ∷ [])) ≡ None)
+unfolding payload_of entries_in entry_at input_at bounded_at number_at
+other_payloads = (refl, refl, refl, refl, refl)
+
+-- a tick, work on the end of a connection, and a forced end
+three_inputs : payload_of (1 ∷ (tick_7 ++ 3 ∷ 0 ∷ 0 ∷ 0 ∷ 0 ∷ 0 ∷ 0 ∷ 0 ∷ 7 ∷ 0 ∷ 0 ∷ 0 ∷ 5 ∷ 2 ∷ 5 ∷ 0 ∷ 0 ∷ 0 ∷ 0 ∷ 0 ∷ 0 ∷ 0 ∷ 7 ∷ 0 ∷ 0 ∷ 0 ∷ 5 ∷ []))
+    ≡ Some (record { second = 7; input = Input.Tick } ∷ (record { second = 7; input = Input.Work 5 Machine.Lifecycle } ∷ (record { second = 7; input = Input.Force 5 } ∷ [])))
+unfolding payload_of entries_in entry_at input_at work_at machine_at force_at bounded_at number_at
+three_inputs = refl
 
 one_byte_more : payload_of (1 ∷ (tick_7 ++ 0 ∷ [])) ≡ None
 unfolding payload_of entries_in entry_at input_at bounded_at number_at

@@ -1,5 +1,0 @@
-//! Tests alone: entries of a journal as bytes.
-#![tactic(auto)]
-
-#[cfg(test)]
-mod texts;
