@@ -316,6 +316,8 @@ pub record AreRefused : Type 0 where
   so_is_a_release : says two (provisioned ++ got 0 (r 4 (Body.Release own)) ∷ got 0 (with_1 8 (refused of_1 (codes "p1") (plain ErrorName.Gone))) ∷ got 0 (with_2 9 (Body.ReleaseConfirmed of_2)) ∷ []) ≡ r 4 (refused own (codes "a1") (Cause.Child (codes "p1") ErrorName.Gone)) ∷ []
   a_terminate_that_a_child_refuses_waits : says two (committed ++ got 0 (r 3 (Body.Terminate own)) ∷ got 0 (with_1 6 (refused of_1 (codes "p1") (plain ErrorName.Nonexistent))) ∷ got 0 (with_2 7 (Body.TerminateConfirmed of_2)) ∷ []) ≡ []
   an_abort_while_children_are_asked_is_refused : says two (reserved ++ got 0 (r 2 (Body.ReserveAbort own)) ∷ []) ≡ r 2 (refused own (codes "a1") (plain ErrorName.InvalidTransition)) ∷ []
+  so_is_a_commit_before_all_hold : says two (reserved ++ holds_1 ∷ got 0 (r 2 (Body.ReserveCommit own)) ∷ []) ≡ r 2 (refused own (codes "a1") (plain ErrorName.InvalidTransition)) ∷ []
+  a_terminate_of_another_requester_finds_nothing : says two (reserved ++ got 0 (between (codes "r2") (codes "a1") (id_of 5 1) (Body.Terminate own)) ∷ []) ≡ between (codes "r2") (codes "a1") (id_of 5 1) (refused own (codes "a1") (plain ErrorName.Nonexistent)) ∷ []
 
 are_refused : AreRefused
 unfolding said after step receives saw is_old is_heard with_heard is_taken with_taken answers refusal unnamed_refusal modification_refusal has_row is_in_place connection_of row_of provision_row_of lifecycle_row_of request_at request_turn turn_by_request takes pass_on passed_on request_if may_abort reserve_if each asked_view next_behind with_path views_of asks request_about reserve_for open_request is_kind hears hear_all pass_then answer_turn turn_by_answer heard_by is_timed_out is_ended hold_ends hold_end_by force_ends force_by child_hears settle settles settles_reservation settles_provision closes_unless is_held checked reservation_verdict reservation_due provision_verdict provision_due moves requested reserves provisions lives closes reservation_closing provision_closing event_of provision_event lifecycle_event is_live is_terminating tell_joined next_after tells_plane announces joined spoken kind_number due_for is_late tells_late tell_one tell_all ends clocked clock_then clock_all ticks without stands part_of tells_first
@@ -327,6 +329,8 @@ are_refused = record {
   so_is_a_release = refl;
   a_terminate_that_a_child_refuses_waits = refl;
   an_abort_while_children_are_asked_is_refused = refl;
+  so_is_a_commit_before_all_hold = refl;
+  a_terminate_of_another_requester_finds_nothing = refl;
 }
 
 pub record AreNoticed : Type 0 where
@@ -433,6 +437,7 @@ pub record AreNested : Type 0 where
   the_rows_stand_in_the_order_of_the_segments : says two (asks_all ++ tells_2 ∷ tells_1 ∷ []) ≡ r 2 (all_of own false (own_held ∷ row_1 1 ∷ row_2 1 ∷ [])) ∷ []
   what_a_child_left_out_is_missing : says two (asks_all ++ tells_1 ∷ got 0 (with_2 5 (all_of of_2 true (row_2 0 ∷ []))) ∷ []) ≡ r 2 (all_of own true (own_held ∷ row_1 1 ∷ row_2 1 ∷ [])) ∷ []
   an_error_has_no_rows : says two (asks_all ++ tells_1 ∷ got 0 (with_2 5 (refused of_2 (codes "p2") (plain ErrorName.Nonexistent))) ∷ []) ≡ r 2 (all_of own true (own_held ∷ row_1 1 ∷ [])) ∷ []
+  a_child_that_refused_its_reserve_has_none : says two (reserved ++ holds_1 ∷ got 0 (with_2 3 (Body.Error None (record { nsa = codes "p2"; cause = plain ErrorName.Schedule }))) ∷ got 0 (r 2 (below_of own)) ∷ tells_1 ∷ []) ≡ r 2 (all_of own true (row own 0 (codes "a1") Rsm.ReserveFailed ∷ row_1 1 ∷ [])) ∷ []
   a_child_that_was_not_known_has_none : says two (reserved ++ holds_2 ∷ got 0 (r 2 (below_of own)) ∷ holds_1 ∷ got 0 (with_2 4 (all_of of_2 false (row_2 0 ∷ []))) ∷ []) ≡ r 2 (all_of own true (own_held ∷ row_2 1 ∷ [])) ∷ []
   an_answer_is_taken_once : says two (asks_all ++ tells_1 ∷ tells_2 ∷ tells_2 ∷ []) ≡ []
   another_answer_says_nothing : says two (asks_all ++ tells_1 ∷ tells_2 ∷ got 0 (between (codes "a1") (codes "p9") (id_of 3 5) (all_of of_2 false [])) ∷ []) ≡ []
@@ -454,6 +459,7 @@ are_nested = record {
   the_rows_stand_in_the_order_of_the_segments = refl;
   what_a_child_left_out_is_missing = refl;
   an_error_has_no_rows = refl;
+  a_child_that_refused_its_reserve_has_none = refl;
   a_child_that_was_not_known_has_none = refl;
   an_answer_is_taken_once = refl;
   another_answer_says_nothing = refl;

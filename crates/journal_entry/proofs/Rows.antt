@@ -195,3 +195,35 @@ long_batch = refl
 empty_batch : recovers batch_of (1 ∷ 0 ∷ 0 ∷ 0 ∷ 0 ∷ 0 ∷ 0 ∷ 0 ∷ 1 ∷ 1 ∷ 0 ∷ []) ≡ Err 0
 unfolding payload_of entries_in
 empty_batch = refl
+
+-- nine bytes with an open gate have no batch
+nine_bytes : recovers batch_of (1 ∷ 0 ∷ 0 ∷ 0 ∷ 0 ∷ 0 ∷ 0 ∷ 0 ∷ 0 ∷ []) ≡ Err 0
+nine_bytes = refl
+
+-- a payload without bytes
+no_bytes : recovers batch_of (1 ∷ 0 ∷ 0 ∷ 0 ∷ 0 ∷ 0 ∷ 0 ∷ 0 ∷ 0 ∷ 0 ∷ []) ≡ Err 0
+unfolding payload_of
+no_bytes = refl
+
+-- the greatest length
+past_the_end : recovers batch_of (1 ∷ 255 ∷ 255 ∷ 255 ∷ 255 ∷ 255 ∷ 255 ∷ 255 ∷ 255 ∷ 0 ∷ []) ≡ Err 0
+past_the_end = refl
+
+-- the length itself is cut off
+cut_length : recovers batch_of (batch ++ 1 ∷ 0 ∷ 0 ∷ []) ≡ Err 19
+unfolding payload_of entries_in entry_at input_at bounded_at number_at
+cut_length = refl
+
+-- behind the entry of the second batch stands one byte more
+longer_batch : recovers batch_of (batch ++ 1 ∷ 0 ∷ 0 ∷ 0 ∷ 0 ∷ 0 ∷ 0 ∷ 0 ∷ 11 ∷ 1 ∷ (tick_7 ++ 0 ∷ 0 ∷ [])) ≡ Err 19
+unfolding payload_of entries_in entry_at input_at bounded_at number_at
+longer_batch = refl
+
+-- a gate of another byte is closed
+other_gate : recovers batch_of (batch ++ 165 ∷ 1 ∷ []) ≡ Ok ticks
+unfolding payload_of entries_in entry_at input_at bounded_at number_at
+other_gate = refl
+
+two_batches : recovers batch_of (batch ++ batch ++ 0 ∷ []) ≡ Ok (ticks ++ ticks)
+unfolding payload_of entries_in entry_at input_at bounded_at number_at
+two_batches = refl

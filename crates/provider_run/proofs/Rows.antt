@@ -3,7 +3,8 @@ use Rattle.std.proofs.Common.{◌≡◌, ℕ, Bool, true, false, List, [], ◌�
 use Rattle.std.specs.Prelude.{codes}
 use Rattle.nsi_base.specs.declared.flow.Flow.{Flow}
 use Rattle.nsi_primitive.specs.Ids.{id_of}
-use Rattle.nsi_primitive.specs.Messages.{connection_of}
+use Rattle.nsi_primitive.specs.Kinds.{kind_number}
+use Rattle.nsi_primitive.specs.Messages.{connection_of, identity}
 use Rattle.nsi_primitive.specs.declared.kind.Directionality.{Directionality}
 use Rattle.nsi_primitive.specs.declared.kind.ErrorName.{ErrorName}
 use Rattle.nsi_primitive.specs.declared.message.Body.{Body}
@@ -18,8 +19,10 @@ use Rattle.provision_machine.specs.Table.{step as provision_row_of}
 use Rattle.lifecycle_machine.specs.Table.{step as lifecycle_row_of}
 use Rattle.dataplane_state.specs.Plane.{status, announces}
 use Rattle.message_retry.specs.Taken.{is_taken, with_taken}
+use Rattle.message_retry.specs.Retry.{without}
 use Rattle.capacity_calendar.specs.Lack.{lack_at, first_from, first_lack_by}
 use Rattle.capacity_calendar.specs.Plan.{places}
+use Rattle.connection_record.specs.declared.record.Record.{Record}
 use Rattle.connection_record.specs.Demand.{demand, load}
 use Rattle.connection_record.specs.Lives.{provision_event, lifecycle_event, provisions, lives}
 use Rattle.connection_record.specs.Moves.{event_of, reserves, hold_end, is_live, is_working, worked}
@@ -293,4 +296,76 @@ are_ended = record {
   what_is_open_is_answered_first = refl;
   work_that_no_longer_waits_does_nothing = refl;
   two_machines_may_wait = refl;
+}
+
+---- Entries that no line makes
+
+abbrev reserving : Input
+reserving = Input.Got (m 1 (first 600 100 200))
+
+abbrev terminating : Input
+terminating = Input.Got (m 2 terminate)
+
+abbrev work : Machine → Input
+work machine = Input.Work 0 machine
+
+abbrev acknowledged : Message → Input
+acknowledged message = Input.Acked (identity message)
+
+-- the records and all that was said
+abbrev standing : List Input → List Record × List Message
+standing inputs = ((at_first inputs).state.records, (at_first inputs).out)
+
+-- what waits for its acknowledgement
+abbrev waiting : List Input → List Message
+waiting inputs = (at_first inputs).state.waiting
+
+pub record AreIdle : Type 0 where
+  provisions_work_while_a_reserve_is_checked : standing (reserving ∷ work Machine.Provision ∷ []) ≡ standing (reserving ∷ [])
+  the_ends_work_while_a_reserve_is_checked : standing (reserving ∷ work Machine.Lifecycle ∷ []) ≡ standing (reserving ∷ [])
+  work_of_a_number_that_no_record_has : standing (reserving ∷ Input.Work 1 Machine.Reserve ∷ []) ≡ standing (reserving ∷ [])
+  reserves_work_while_a_hold_waits : standing (reserving ∷ work Machine.Reserve ∷ work Machine.Reserve ∷ []) ≡ standing (reserving ∷ work Machine.Reserve ∷ [])
+  reserves_work_while_the_end_waits : standing (reserving ∷ terminating ∷ work Machine.Reserve ∷ []) ≡ standing (reserving ∷ terminating ∷ [])
+  the_ends_work_once_more : standing (reserving ∷ terminating ∷ work Machine.Lifecycle ∷ work Machine.Lifecycle ∷ []) ≡ standing (reserving ∷ terminating ∷ work Machine.Lifecycle ∷ [])
+  reserves_work_while_a_provision_waits : (after_all setting stp_of committed (now_at committed (Input.Got (m 3 provision)) ∷ now_at committed (work Machine.Reserve) ∷ [])).out ≡ []
+  a_forced_end_while_the_end_waits : standing (reserving ∷ terminating ∷ Input.Force 0 ∷ []) ≡ standing (reserving ∷ terminating ∷ [])
+  a_forced_end_of_a_number_that_no_record_has : standing (reserving ∷ Input.Force 1 ∷ []) ≡ standing (reserving ∷ [])
+  an_acknowledgement : standing (reserving ∷ acknowledged (responds 1 1) ∷ []) ≡ standing (reserving ∷ [])
+
+are_idle : AreIdle
+unfolding after_all after step receives works forces ticks ticks_all works_of lacking first_machine waits work_of worked provided is_provisioning is_terminating moves reserves provisions lives closes reservation_closing provision_closing requested record_ticks hold_end tells tells_plane status announces is_live is_working demand is_in_place has_row row_of provision_row_of lifecycle_row_of unnamed_refusal modification_refusal refusal is_taken with_taken lack_at first_from first_lack_by places connection_of event_of provision_event lifecycle_event
+are_idle = record {
+  provisions_work_while_a_reserve_is_checked = refl;
+  the_ends_work_while_a_reserve_is_checked = refl;
+  work_of_a_number_that_no_record_has = refl;
+  reserves_work_while_a_hold_waits = refl;
+  reserves_work_while_the_end_waits = refl;
+  the_ends_work_once_more = refl;
+  reserves_work_while_a_provision_waits = refl;
+  a_forced_end_while_the_end_waits = refl;
+  a_forced_end_of_a_number_that_no_record_has = refl;
+  an_acknowledgement = refl;
+}
+
+pub record AreWaiting : Type 0 where
+  what_was_said_waits : waiting (reserving ∷ work Machine.Reserve ∷ []) ≡ responds 1 1 ∷ confirms 1 1 0 600 100 200 ∷ []
+  until_it_is_acknowledged : waiting (reserving ∷ work Machine.Reserve ∷ acknowledged (responds 1 1) ∷ []) ≡ confirms 1 1 0 600 100 200 ∷ []
+  in_either_order : waiting (reserving ∷ work Machine.Reserve ∷ acknowledged (confirms 1 1 0 600 100 200) ∷ []) ≡ responds 1 1 ∷ []
+  twice_is_as_once : waiting (reserving ∷ work Machine.Reserve ∷ acknowledged (responds 1 1) ∷ acknowledged (responds 1 1) ∷ []) ≡ confirms 1 1 0 600 100 200 ∷ []
+  another_kind_goes_on_waiting : waiting (reserving ∷ acknowledged (confirms 1 1 0 600 100 200) ∷ []) ≡ responds 1 1 ∷ []
+  so_where_the_request_itself_is_acknowledged : waiting (reserving ∷ acknowledged (m 1 (first 600 100 200)) ∷ []) ≡ responds 1 1 ∷ []
+  what_a_tick_says_waits_behind_both : (tick (at_first (reserving ∷ work Machine.Reserve ∷ [])).state 60).state.waiting ≡ responds 1 1 ∷ confirms 1 1 0 600 100 200 ∷ times_out 60 ∷ []
+  a_request_that_comes_again_says_nothing : waiting (reserving ∷ reserving ∷ []) ≡ responds 1 1 ∷ []
+
+are_waiting : AreWaiting
+unfolding after_all after step receives works forces ticks ticks_all works_of lacking first_machine waits work_of worked provided is_provisioning is_terminating moves reserves provisions lives closes reservation_closing provision_closing requested record_ticks hold_end tells tells_plane status announces is_live is_working demand is_in_place has_row row_of provision_row_of lifecycle_row_of unnamed_refusal modification_refusal refusal is_taken with_taken lack_at first_from first_lack_by places connection_of event_of provision_event lifecycle_event without kind_number
+are_waiting = record {
+  what_was_said_waits = refl;
+  until_it_is_acknowledged = refl;
+  in_either_order = refl;
+  twice_is_as_once = refl;
+  another_kind_goes_on_waiting = refl;
+  so_where_the_request_itself_is_acknowledged = refl;
+  what_a_tick_says_waits_behind_both = refl;
+  a_request_that_comes_again_says_nothing = refl;
 }

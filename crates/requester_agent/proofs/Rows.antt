@@ -1,5 +1,5 @@
 -- The stories of two requesters, computed: what they ask, what they are answered, and what their views come to.
-use Rattle.std.proofs.Common.{◌≡◌, ℕ, List, [], ◌∷◌, Option, Some, None, refl, map}
+use Rattle.std.proofs.Common.{◌≡◌, ℕ, Bool, true, false, List, [], ◌∷◌, Option, Some, None, refl, map}
 use Rattle.std.specs.Prelude.{codes}
 use Rattle.nsi_primitive.specs.Ids.{id_of}
 use Rattle.nsi_primitive.specs.Kinds.{kind_number}
@@ -11,6 +11,9 @@ use Rattle.nsi_primitive.specs.declared.entry.Input.{Input}
 use Rattle.nsi_primitive.specs.declared.kind.Directionality.{Directionality}
 use Rattle.nsi_primitive.specs.declared.message.Body.{Body}
 use Rattle.nsi_primitive.specs.declared.message.Message.{Message}
+use Rattle.nsi_primitive.specs.declared.state.Lsm.{Lsm}
+use Rattle.nsi_primitive.specs.declared.state.Psm.{Psm}
+use Rattle.nsi_primitive.specs.declared.state.Rsm.{Rsm}
 use Rattle.message_retry.specs.Taken.{is_taken, with_taken}
 use Rattle.message_retry.specs.Retry.{is_old, saw, is_heard, with_heard, without}
 use Rattle.child_connection.specs.declared.state.Phase.{Phase}
@@ -109,6 +112,28 @@ confirmed version =
       symmetric = None;
       version = version;
     })
+
+-- the hold has ended
+abbrev timed_out : Body
+timed_out =
+    Body.ReserveTimeout (record { connection = connection; notification = 1; originating_connection = connection; originating_nsa = codes "p1"; time = 0; value = 60 })
+
+-- traffic flows
+abbrev active : Body
+active = Body.DataPlaneStateChange (record { active = true; connection = connection; notification = 1; time = 0; version = 0; consistent = true })
+
+-- the connection alone, with nothing below it
+abbrev nested : Body
+nested =
+    Body.QueryRecursiveConfirmed connection false (record {
+      connection = connection;
+      depth = 0;
+      lifecycle = Lsm.Created;
+      provider = codes "p1";
+      provision = Psm.Released;
+      reservation = Rsm.ReserveHeld;
+      version = None;
+    } ∷ [])
 
 ---- What it comes to
 
@@ -248,12 +273,22 @@ are_refused =
 
 ---- What else is taken
 
+-- two labels are reserved
+abbrev both : List Entry
+both = tick 0 ∷ ask 0 0 (codes "c1") between ∷ ask 0 1 (codes "c2") between ∷ []
+
+abbrev are_active : AgentState → List Bool
+are_active s = map {B = Bool} (λ v. v.child.plane.active) s.views
+
 pub record AreElse : Type 0 where
   pub request_is_counted : (all r1 (tick 0 ∷ got 0 1 reserve ∷ [])).base.seen ≡ (m 1 reserve).header ∷ []
   pub request_causes_nothing : sent_after r1 held (got 0 7 (Body.Terminate connection)) ≡ []
   pub request_is_heard_by_none : (all r1 (tick 0 ∷ ask 0 0 (codes "c1") between ∷ got 0 1 (confirmed 0) ∷ got 0 7 (Body.Terminate connection) ∷ [])).views ≡ held_view ∷ []
   pub forced_end_changes_no_view : (after r1 (all r1 held) (record { second = 0; input = Input.Force 0 })).state.views ≡ held_view ∷ []
   pub late_entry_changes_nothing : after_all r1 (all r1 held) (tick 9 ∷ got 8 1 response ∷ []) ≡ after_all r1 (all r1 held) (tick 9 ∷ [])
+  pub confirmation_behind_the_end_of_its_hold : phases (after_all r1 (all r1 held) (got 0 1 timed_out ∷ got 0 1 (confirmed 0) ∷ [])) ≡ Phase.TimedOut ∷ []
+  pub answer_is_heard_by_its_own_view : phases (after_all r1 (all r1 both) (got 0 2 (confirmed 0) ∷ [])) ≡ Phase.Reserving ∷ Phase.Held ∷ []
+  pub notice_is_heard_by_the_view_of_its_connection : are_active (after_all r1 (all r1 both) (got 0 2 response ∷ got 0 40 active ∷ [])) ≡ false ∷ true ∷ []
 
 pub are_else : AreElse
 unfolding kind_number is_taken with_taken is_old saw is_heard with_heard without is_kind open_request asks request_about reserve_for hears asks_if_free asks_if_known find_view answers asks_at asks_new query_about asks_found reserves sends_query asked_of asked hears_if acked ticks step after
@@ -264,6 +299,9 @@ are_else =
       request_is_heard_by_none = refl;
       forced_end_changes_no_view = refl;
       late_entry_changes_nothing = refl;
+      confirmation_behind_the_end_of_its_hold = refl;
+      answer_is_heard_by_its_own_view = refl;
+      notice_is_heard_by_the_view_of_its_connection = refl;
     }
 
 ---- Queries
@@ -293,6 +331,10 @@ pub record AreQueries : Type 0 where
   pub refused_query_sends_nothing : sent_after r1 first (query (What.Notifications None)) ≡ []
   pub refused_query_draws_no_id : (after r1 (all r1 first) (query (What.Notifications None))).state.base.next ≡ 2
   pub only_a_summary_is_of_all : answer_after r1 held (ask_all numbers) ≡ Some AskAnswer.NoId
+  pub all_that_is_below : sent_after r1 held (query What.Recursive) ≡ m 2 (Body.QueryRecursive connection) ∷ []
+  pub its_rows_change_no_view : (after_all r1 (all r1 held) (query What.Recursive ∷ got 0 2 nested ∷ [])).views ≡ held_view ∷ []
+  pub below_an_unknown_id : answer_after r1 first (query What.Recursive) ≡ Some AskAnswer.NoId
+  pub below_an_unknown_label : answer_after r1 held (ask 0 1 (codes "c2") What.Recursive) ≡ Some AskAnswer.NoId
 
 pub are_queries : AreQueries
 unfolding kind_number is_taken with_taken is_old saw is_heard with_heard without is_kind open_request asks request_about reserve_for hears asks_if_free asks_if_known find_view answers asks_at asks_new query_about asks_found reserves sends_query asked_of asked hears_if acked ticks step after
@@ -312,4 +354,8 @@ are_queries =
       refused_query_sends_nothing = refl;
       refused_query_draws_no_id = refl;
       only_a_summary_is_of_all = refl;
+      all_that_is_below = refl;
+      its_rows_change_no_view = refl;
+      below_an_unknown_id = refl;
+      below_an_unknown_label = refl;
     }
