@@ -1,6 +1,6 @@
 #!/usr/bin/env bash
 # Runs the program with these words: as it was built or, where no build is of these sources, the sources before any proof.
-# Only the program, --help and --version write to standard output.
+# Only the program, --help, --version and --test write to standard output.
 set -u
 
 root=$(dirname -- "$(readlink -f -- "${BASH_SOURCE[0]}")")
