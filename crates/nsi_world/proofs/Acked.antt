@@ -1,4 +1,4 @@
--- What was acknowledged was got, by entries that are synced and stay: whoever begins again.
+-- What was acknowledged was got, by entries that are synced and stay: whoever restarts.
 use Rattle.std.proofs.Common.{ℕ, ◌≤◌, ◌≡◌, List, [], ◌∷◌, ◌++◌, inl, inr, sym, ap, subst, arith, length, length-append, take, drop, take-append-drop}
 use Rattle.std.specs.List.{Contains}
 use Rattle.std.proofs.lemmas.Bool.{cases_eq}

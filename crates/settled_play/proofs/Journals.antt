@@ -103,6 +103,6 @@ journal_after a w (e ∷ es) h =
 abbrev pub journal_at : ℕ → List Event → List Entry
 journal_at a past = (world_after empty past).journal a
 
--- what more events enter stands behind it, where nobody begins again in them
+-- what more events enter stands behind it, where no agent restarts in them
 pub journal_more : (a : ℕ) (past es : List Event) → All GoesOn es → journal_at a (past ++ es) ≡ journal_at a past ++ entered_at a es
 journal_more a past es h = ap (λ (w : World). w.journal a) (after_append empty past es) ∙ journal_after a (world_after empty past) es h

@@ -147,48 +147,61 @@ not_here : (a b : ℕ) (es : List Entry) (reads : Reads) → with_read a es read
 not_here a b es reads q e = no_none es (with_read a es reads a) (read_here a es reads) (subst (λ k. with_read a es reads k ≡ None) e q)
 
 -- one restart more, with so many entries of those that its journal has then
-pub restarts_more : (a count : ℕ) (reads : Reads) (past events : List Event) → AreRestarts reads past events
-    → AreRestarts (with_read a (take count (journal_at a (past ++ events))) reads) past (events ++ restart a count ∷ [])
-restarts_more a count reads past events h =
-    let e : Event = restart a count in
-    let before : List Event = past ++ events in
-    let w : World = world_after empty before in
-    let js : List Entry = take count (journal_at a before) in
-    let same : before ++ e ∷ [] ≡ past ++ (events ++ e ∷ []) = append_assoc past events (e ∷ []) in
-    let here : journal_at a (past ++ (events ++ e ∷ [])) ≡ js = ap (λ xs. journal_at a xs) (sym same) ∙ (journal_one a before e ∙ at_same a js w.journal) in
-    let there : (b : ℕ) → b ≢ a → journal_at b (past ++ (events ++ e ∷ [])) ≡ journal_at b before = λ b n. ap (λ xs. journal_at b xs) (sym same) ∙ (journal_one b before e ∙ at_other a b js w.journal n) in
-    let flag : (b c : ℕ) → b ≢ a → cut_off b c (past ++ (events ++ e ∷ [])) ≡ ((a == c) || cut_off b c before) = λ b c n.
-    ap (λ xs. cut_off b c xs) (sym same) ∙ (one_cut b c before e ∙ ap (λ z. (a == c) || (not z && cut_off b c before)) (ne_eqb a b (λ q. n (sym q)))) in
-    record {
-      others = λ b q. let n = not_here a b js reads q in there b n ∙ h.others b (sym (read_else a b js reads n) ∙ q);
-      own = λ b es q. elim (cases_eq b a) [
-        | inl k ↦ ap (λ n. journal_at n (past ++ (events ++ e ∷ []))) k ∙ (here ∙ same_some js es (sym (read_here a js reads) ∙ subst (λ n. with_read a js reads n ≡ Some es) k q))
-        | inr n ↦ there b n ∙ h.own b es (sym (read_else a b js reads n) ∙ q)
-      ];
-      front = λ b es q P all. elim (cases_eq b a) [
-        | inl k ↦
-            let now : All P (journal_at a before) = fronts P (subst (λ n. All P (journal_at n past)) k all) in
-            subst (All P) (same_some js es (sym (read_here a js reads) ∙ subst (λ n. with_read a js reads n ≡ Some es) k q)) (All-take P count (journal_at a before) now)
-        | inr n ↦ h.front b es (sym (read_else a b js reads n) ∙ q) P all
-      ];
-      apart = λ b c q k.
-          let n = not_here a b js reads q in
-          let m = not_here a c js reads k in
-          flag b c n ∙ (ap (λ z. z || cut_off b c before) (ne_eqb a c (λ x. m (sym x))) ∙ h.apart b c (sym (read_else a b js reads n) ∙ q) (sym (read_else a c js reads m) ∙ k));
-      cut = λ b c es q k.
-          let n = not_here a b js reads q in
-          flag b c n ∙ elim (cases_eq a c) [
-            | inl x ↦ ap (λ z. z || cut_off b c before) (eq-eqb a c x)
-            | inr x ↦ ap (λ z. z || cut_off b c before) (ne_eqb a c x) ∙ h.cut b c es (sym (read_else a b js reads n) ∙ q) (sym (read_else a c js reads (λ y. x (sym y))) ∙ k)
-          ];
-    }
-  where
-    fronts : (P : Entry → Type 0) → All P (journal_at a past) → All P (journal_at a (past ++ events))
-    fronts P all = by (reads a) refl
-      where
-        by : (o : Option (List Entry)) → reads a ≡ o → All P (journal_at a (past ++ events))
-        by None q = subst (All P) (sym (h.others a q)) all
-        by (Some es) q = subst (All P) (sym (h.own a es q)) (h.front a es q P all)
+module _ (a count : ℕ) (reads : Reads) (past events : List Event) (h : AreRestarts reads past events) where
+  abbrev before : List Event
+  before = past ++ events
+
+  abbrev behind : List Event
+  behind = past ++ (events ++ restart a count ∷ [])
+
+  abbrev kept : List Entry
+  kept = take count (journal_at a before)
+
+  same : before ++ restart a count ∷ [] ≡ behind
+  same = append_assoc past events (restart a count ∷ [])
+
+  journal_here : journal_at a behind ≡ kept
+  journal_here = ap (λ xs. journal_at a xs) (sym same) ∙ (journal_one a before (restart a count) ∙ at_same a kept (world_after empty before).journal)
+
+  journal_there : (b : ℕ) → b ≢ a → journal_at b behind ≡ journal_at b before
+  journal_there b n = ap (λ xs. journal_at b xs) (sym same) ∙ (journal_one b before (restart a count) ∙ at_other a b kept (world_after empty before).journal n)
+
+  flag_there : (b c : ℕ) → b ≢ a → cut_off b c behind ≡ ((a == c) || cut_off b c before)
+  flag_there b c n = ap (λ xs. cut_off b c xs) (sym same) ∙ (one_cut b c before (restart a count) ∙ ap (λ z. (a == c) || (not z && cut_off b c before)) (ne_eqb a b (λ q. n (sym q))))
+
+  kept_is : (b : ℕ) (es : List Entry) → b ≡ a → with_read a kept reads b ≡ Some es → kept ≡ es
+  kept_is b es k q = same_some kept es (sym (read_here a kept reads) ∙ subst (λ n. with_read a kept reads n ≡ Some es) k q)
+
+  -- what holds of each entry of its journal before these events holds in front of this restart
+  holds_before : (P : Entry → Type 0) → All P (journal_at a past) → All P (journal_at a before)
+  holds_before P all = by (reads a) refl
+    where
+      by : (o : Option (List Entry)) → reads a ≡ o → All P (journal_at a before)
+      by None q = subst (All P) (sym (h.others a q)) all
+      by (Some es) q = subst (All P) (sym (h.own a es q)) (h.front a es q P all)
+
+  pub restarts_more : AreRestarts (with_read a kept reads) past (events ++ restart a count ∷ [])
+  restarts_more = record {
+    others = λ b q. let n = not_here a b kept reads q in journal_there b n ∙ h.others b (sym (read_else a b kept reads n) ∙ q);
+    own = λ b es q. elim (cases_eq b a) [
+      | inl k ↦ ap (λ n. journal_at n behind) k ∙ (journal_here ∙ kept_is b es k q)
+      | inr n ↦ journal_there b n ∙ h.own b es (sym (read_else a b kept reads n) ∙ q)
+    ];
+    front = λ b es q P all. elim (cases_eq b a) [
+      | inl k ↦ subst (All P) (kept_is b es k q) (All-take P count (journal_at a before) (holds_before P (subst (λ n. All P (journal_at n past)) k all)))
+      | inr n ↦ h.front b es (sym (read_else a b kept reads n) ∙ q) P all
+    ];
+    apart = λ b c q k.
+        let n = not_here a b kept reads q in
+        let m = not_here a c kept reads k in
+        flag_there b c n ∙ (ap (λ z. z || cut_off b c before) (ne_eqb a c (λ x. m (sym x))) ∙ h.apart b c (sym (read_else a b kept reads n) ∙ q) (sym (read_else a c kept reads m) ∙ k));
+    cut = λ b c es q k.
+        let n = not_here a b kept reads q in
+        flag_there b c n ∙ elim (cases_eq a c) [
+          | inl x ↦ ap (λ z. z || cut_off b c before) (eq-eqb a c x)
+          | inr x ↦ ap (λ z. z || cut_off b c before) (ne_eqb a c x) ∙ h.cut b c es (sym (read_else a b kept reads n) ∙ q) (sym (read_else a c kept reads (λ y. x (sym y))) ∙ k)
+        ];
+  }
 
 ---- All agents behind them
 

@@ -118,7 +118,7 @@ LosesNone plan = All IsRepeat plan
 abbrev pub LoseNothing : Plans → Type 0
 LoseNothing plans = (from to : ℕ) → LosesNone (plans from to)
 
--- nobody begins again
+-- no agent restarts
 abbrev pub IsNoRestart : Happening → Type 0
 IsNoRestart (Happening.Restart count) = ⊥
 IsNoRestart _ = Unit {0}
@@ -130,7 +130,7 @@ GoesOn e = IsNoRestart e.what
 abbrev pub IsDone : Network → Homes → World → ℕ → Message → Type 0
 IsDone t homes w from m = (b : ℕ) × (b < length t.agents) × IsTo homes b m × WasGot m (w.journal b) × WasAcked (identity m) (w.journal from)
 
--- at the end of a play in which nothing is lost and nobody begins again so it is of each message that an agent has said
+-- at the end of a play in which nothing is lost and no agent restarts so it is of each message that an agent has said
 abbrev pub PlayLeavesNone : Type 0
 PlayLeavesNone =
     (t : Network) (routes : Routes) (plans : Plans) (groups : List Group) (events : List Event) (last : Net) → LoseNothing plans → IsSound t → IsWellFormed t → AreRoutes t routes →
