@@ -1,6 +1,6 @@
 mod ScriptLemmas
 mod Given
-mod Later
+pub mod Later
 mod DoorSteps
 mod Steps
 mod Receipts
@@ -18,3 +18,4 @@ pub mod Resting
 mod RunLaws
 mod Rows
 mod Sending
+pub mod Acked

@@ -59,6 +59,7 @@ play_stands laws t routes plans groups events last wf rising acts play =
     let p = plays_come homes (given_in laws t routes) empty play.0 groups 0 0 (opening t plans) (rise_from groups rising) (may_act_all t routes groups (groups_of t groups acts)) (opening_stands t routes plans wf) in
     let end : StandInTheEnd t routes (plays play.0 groups 0 homes (opening t plans)).events (plays play.0 groups 0 homes (opening t plans)).net = record {
       clock = p.clock;
+      free = p.goes.free;
       numbers = p.goes.numbers ∙ numbers_of t plans (agents t);
       stand = p.goes.stand;
     } in

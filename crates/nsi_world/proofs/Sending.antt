@@ -22,7 +22,7 @@ front_of_front : (s n : ℕ) (js : List Entry) → s ≤ n → n ≤ length js �
 front_of_front s n js low high =
     sym (ap (take s) (sym (take-append-drop n js)) ∙ take-append-le s (take n js) (drop n js) (omega (arith, low, length-take-le n js high)))
 
-restart_grows : (w : World) (a n : ℕ) → w.synced a ≤ n → n ≤ length (w.journal a) → Extends (synced_part w) (synced_part (happens_at w a (Happening.Restart n)))
+pub restart_grows : (w : World) (a n : ℕ) → w.synced a ≤ n → n ≤ length (w.journal a) → Extends (synced_part w) (synced_part (happens_at w a (Happening.Restart n)))
 restart_grows w a n low high b = let js : List Entry = w.journal a in elim (cases_eq b a) [
   | inl q ↦ (
     drop (w.synced a) (take n js),

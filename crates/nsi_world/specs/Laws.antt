@@ -20,7 +20,7 @@ use Rattle.nsi_play.specs.Play.{plays, IsPlayFrom}
 use Rattle.nsi_world.specs.Worlds.{Homes, World, empty, IsSent}
 use Rattle.nsi_world.specs.Runs.{world_after, AreAllowed, IsRun, asks_of, numbered}
 use Rattle.nsi_world.specs.Heard.{IsFair}
-use Rattle.nsi_world.specs.Seats.{Stands, GoesOn}
+use Rattle.nsi_world.specs.Seats.{Stands, GoesOn, AreFree}
 use Rattle.nsi_world.specs.Nets.{numbers, AllStand, NetGoesOn}
 use Rattle.nsi_script.specs.Fits.{IsActOf, IsRising}
 use Rattle.nsi_script.specs.Scripts.{acts_of, seconds_of}
@@ -72,9 +72,10 @@ PlayIsRun =
     (t : Network) (routes : Routes) (plans : Plans) (groups : List Group) (events : List Event) (last : Net) → IsWellFormed t → IsRising (seconds_of groups) → All (IsActOf t) (acts_of groups) →
     IsPlayFrom groups (home_in t routes) (opening t plans) events last → length events ≤ most_entries → IsRun (home_in t routes) events
 
--- the agents at the end of a play stand as they should in the world that its events make
+-- the events of a play are allowed, but that there may be no room, and the agents at its end stand as they should in the world that these make
 pub record StandInTheEnd (t : Network) (routes : Routes) (events : List Event) (last : Net) : Type 0 where
   pub clock : ℕ
+  pub free : AreFree (home_in t routes) empty events
   pub numbers : numbers last ≡ agents t
   pub stand : AllStand (home_in t routes) clock (world_after empty events) last
 

@@ -20,7 +20,7 @@ use Rattle.nsi_world.specs.Runs.{world_after, asks_of, numbered}
 use Rattle.nsi_world.specs.Scripts.{wishes_of}
 use Rattle.nsi_world.specs.Laws.{IsAtRest}
 use Rattle.run_safety.specs.Safe.{IsSafeRun}
-use Rattle.settled_play.specs.Settled.{LeavesOnlyLost, LoseNothing, IsDone}
+use Rattle.settled_play.specs.Settled.{LeavesOnlyLost, LoseNothing, GoesOn, IsDone}
 use Rattle.run_totals.specs.Totals.{totals_of}
 use Rattle.run_totals.specs.declared.totals.Totals.{Totals}
 use Rattle.agent_threads.specs.Reports.{written}
@@ -54,14 +54,15 @@ pub record IsTextOf (options : RunOptions) (t : Network) (script : Script) (grou
   pub within : length events ≤ options.limit
 
 -- These events are a safe run that asks the whole script, in order. In the world that they make each journal is synced whole and no work
--- waits; and of the messages of a kind that one agent has said to another no more weren't got, or weren't acknowledged, than lines of the
--- script lose on the two ways between them. So where it plans no loss, each message that was said was got and acknowledged.
+-- waits; and of the messages of a kind that one agent has said to another that it isn't cut off from no more weren't got, or weren't
+-- acknowledged, than lines of the script lose on the two ways between them. So where it plans no loss, and no event is a restart, each message
+-- that was said was got and acknowledged.
 pub record IsWholeRun (t : Network) (routes : Routes) (script : Script) (events : List Event) : Type 0 where
   pub run : IsSafeRun t routes events
   pub asks : asks_of events ≡ numbered 0 (wishes_of script.groups)
   pub rests : (a : ℕ) → a < length t.agents → IsAtRest (home_in t routes) (world_after empty events) a
-  pub left : LeavesOnlyLost t (home_in t routes) (plans_of script.lose) (world_after empty events)
-  pub over : LoseNothing (plans_of script.lose) → (a : ℕ) → a < length t.agents → All (IsDone t (home_in t routes) (world_after empty events) a) (said (home_in t routes) (world_after empty events) a)
+  pub left : LeavesOnlyLost t (home_in t routes) (plans_of script.lose) events
+  pub over : LoseNothing (plans_of script.lose) → All GoesOn events → (a : ℕ) → a < length t.agents → All (IsDone t (home_in t routes) (world_after empty events) a) (said (home_in t routes) (world_after empty events) a)
 
 -- what is wanted of the whole play, which is such a run whichever legs are those of the least paths, and behind it its numbers
 pub record IsSettled (options : RunOptions) (t : Network) (script : Script) (text : List ℕ) : Type 0 where

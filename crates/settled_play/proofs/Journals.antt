@@ -1,4 +1,4 @@
--- What events enter at each agent is its journal in the world after them.
+-- What each agent's journal is in the world after events, and what more events enter there.
 use Rattle.std.proofs.Common.{ℕ, ◌≡◌, ◌≢◌, ◌==◌, Bool, true, false, cond, List, [], ◌∷◌, ◌++◌, inl, inr, refl, sym, ap, ◌∙◌, subst, append_assoc, append-nil, eq-eqb, ne_eqb}
 use Rattle.std.specs.List.{All, Contains}
 use Rattle.std.proofs.lemmas.Bool.{cases_eq}
@@ -8,11 +8,13 @@ use Rattle.nsi_primitive.specs.declared.entry.Event.{Event}
 use Rattle.nsi_primitive.specs.declared.entry.Happening.{Happening}
 use Rattle.agent_node.specs.Seat.{Seat}
 use Rattle.nsi_play.specs.Rounds.{Net, events_of}
-use Rattle.nsi_world.specs.Worlds.{World}
+use Rattle.nsi_world.specs.Worlds.{World, empty}
 use Rattle.nsi_world.specs.Runs.{happens_at, happens, world_after}
 use Rattle.nsi_world.specs.Nets.{number_of, numbers, AreDistinct}
+use Rattle.nsi_world.proofs.Later.{after_append}
 use Rattle.settled_play.proofs.Finding.{none_there, first_there, later_there, first_or_later, mapped_there}
-use Rattle.settled_play.proofs.Steps.{entry_in, entered_in, IsNoRestart, IsOwn}
+use Rattle.settled_play.specs.Settled.{IsNoRestart, GoesOn}
+use Rattle.settled_play.proofs.Steps.{entry_in, entered_in, IsOwn}
 use Rattle.settled_play.proofs.Meetings.{first_apart, rest_apart}
 
 -- what an event enters at an agent
@@ -65,9 +67,6 @@ net_entered s (x ∷ xs) d h c = at_append s.number x.events (events_of xs) ∙ 
 
 ---- Worlds
 
-abbrev pub GoesOn : Event → Type 0
-GoesOn e = IsNoRestart e.what
-
 pub net_goes_on : (net : Net) → AreOwn net → All GoesOn (events_of net)
 net_goes_on [] h = All-nil GoesOn
 net_goes_on (s ∷ ss) h =
@@ -99,3 +98,11 @@ journal_after a w [] h = sym (append-nil (w.journal a))
 journal_after a w (e ∷ es) h =
     journal_after a (happens w e) es (All-tail GoesOn e es h)
     ∙ (ap (λ xs. xs ++ entered_at a es) (happened w a e.agent e.what (All-head GoesOn e es h)) ∙ append_assoc (w.journal a) (entry_at a e) (entered_at a es))
+
+-- the journal of an agent after these events
+abbrev pub journal_at : ℕ → List Event → List Entry
+journal_at a past = (world_after empty past).journal a
+
+-- what more events enter stands behind it, where no agent restarts in them
+pub journal_more : (a : ℕ) (past es : List Event) → All GoesOn es → journal_at a (past ++ es) ≡ journal_at a past ++ entered_at a es
+journal_more a past es h = ap (λ (w : World). w.journal a) (after_append empty past es) ∙ journal_after a (world_after empty past) es h

@@ -1,7 +1,7 @@
 -- What a play leaves: nothing but what was lost.
-use Rattle.std.proofs.Common.{ℕ, ◌<◌, ◌≤◌, ◌+◌, ◌≡◌, ◌==◌, ◌&&◌, ◌⊎◌, true, List, [], ◌∷◌, ◌++◌, Option, Some, None, is_none, inl, inr, refl, sym, ap, ◌∙◌, subst, arith, length, get_or, eqb-true, length-append}
+use Rattle.std.proofs.Common.{ℕ, ◌<◌, ◌≤◌, ◌+◌, ◌≡◌, ◌⊎◌, true, false, List, [], ◌++◌, Option, Some, None, inl, inr, refl, sym, ap, ◌∙◌, subst, arith, length, get_or, length-append}
 use Rattle.std.specs.List.{All, Contains}
-use Rattle.std.proofs.lemmas.Bool.{and_parts, cases_eq}
+use Rattle.std.proofs.lemmas.Bool.{cases_eq}
 use Rattle.std.proofs.lemmas.List.{take_all}
 use Rattle.std.proofs.lemmas.List.Elements.{Contains-get_or, Contains-append_left, Contains-append_right}
 use Rattle.nsi_primitive.specs.Kinds.{kind_number}
@@ -13,53 +13,33 @@ use Rattle.nsi_primitive.specs.declared.message.Message.{Message}
 use Rattle.nsi_primitive.specs.declared.message.Parcel.{Parcel}
 use Rattle.stp_topology.specs.Network.{agent_of}
 use Rattle.stp_topology.specs.declared.network.Network.{Network}
-use Rattle.nsi_agent.specs.Homes.{Home, Routes, home_in}
+use Rattle.nsi_agent.specs.Homes.{Routes, home_in}
 use Rattle.nsi_agent.specs.Laws.{WhatIsSaidIsItsOwn}
-use Rattle.nsi_agent.specs.Steps.{work_of}
 use Rattle.nsi_agent.specs.Told.{told, WasGot}
 use Rattle.agent_link.specs.Plans.{parcel_number}
 use Rattle.agent_link.specs.declared.plan.ParcelKind.{ParcelKind}
 use Rattle.agent_speech.specs.Laws.{NothingIsSaidTwice}
-use Rattle.agent_node.specs.Acts.{is_quiet}
-use Rattle.agent_node.specs.Doors.{all_idle}
 use Rattle.agent_node.specs.Seat.{Seat}
 use Rattle.nsi_play.specs.Openings.{Plans, opening}
 use Rattle.nsi_play.specs.Rounds.{Net, Homes, is_quiet_in, all_quiet}
 use Rattle.nsi_play.specs.Play.{Played, plays}
 use Rattle.nsi_world.specs.Worlds.{World, empty, IsTo, said}
 use Rattle.nsi_world.specs.Runs.{world_after}
-use Rattle.nsi_world.specs.Laws.{PlayRests}
-use Rattle.settled_play.specs.Settled.{AllBut, WasAcked, IsOf, IsHeard, IsOver, losses, LeavesOnlyLost, PlaySettles, LoseNothing, IsDone, PlayLeavesNone}
-use Rattle.settled_play.proofs.Finding.{none_there, first_or_later, idle_door}
+use Rattle.nsi_world.specs.Laws.{PlayStands, PlayRests}
+use Rattle.nsi_world.specs.Seats.{AreFree}
+use Rattle.settled_play.specs.Settled.{AllBut, WasAcked, IsOf, IsHeard, IsOver, losses, cut_off, GoesOn, LeavesOnlyLost, PlaySettles, LoseNothing, IsDone, PlayLeavesNone}
+use Rattle.settled_play.proofs.Finding.{idle_door}
 use Rattle.nsi_world.proofs.Names.{home_name}
 use Rattle.nsi_world.proofs.Resting.{opening_quiet}
 use Rattle.settled_play.proofs.Links.{Given, IsLinked, Way, agent_there, others_within, said_goes}
 use Rattle.settled_play.proofs.Pairs.{IsFor, IsEmpty, Pair, pair_heard, pair_acked}
 use Rattle.settled_play.proofs.Putting.{counted, ahead}
 use Rattle.settled_play.proofs.Places.{places_of, as_many, place_there, said_once, ahead_within, losses_none}
-use Rattle.settled_play.proofs.Journals.{entered_at, journal_after}
+use Rattle.settled_play.proofs.Journals.{journal_at}
+use Rattle.settled_play.proofs.Cuts.{none_cut}
+use Rattle.settled_play.proofs.Quiet.{no_entries, quiet_one, quiet_parts}
 use Rattle.settled_play.proofs.Rounds.{SitsIn, HasMetAll, Rests, numbered}
 use Rattle.settled_play.proofs.Plays.{Ends, plays_end, opening_rests}
-
-no_entries : (es : List Entry) → length es ≡ 0 → es ≡ []
-no_entries [] e = refl
-no_entries (x ∷ xs) e = absurd (omega (arith, e))
-
-quiet_one : (homes : Homes) (net : Net) (s : Seat) → all_quiet homes net ≡ true → Contains net s → is_quiet_in homes s ≡ true
-quiet_one homes [] s q c = absurd (none_there s c)
-quiet_one homes (x ∷ xs) s q c =
-    let p = and_parts (is_quiet_in homes x) (all_quiet homes xs) q in
-    elim (first_or_later x xs s c) [
-      | inl e ↦ subst (λ (z : Seat). is_quiet_in homes z ≡ true) e p.0
-      | inr r ↦ quiet_one homes xs s p.1 r
-    ]
-
-quiet_parts : (h : Home) (s : Seat) → is_quiet h s ≡ true → (length s.fresh ≡ 0) × (all_idle s.doors ≡ true)
-unfolding is_quiet
-quiet_parts h s q =
-    let p = and_parts (length s.fresh == 0) (is_none (work_of h.role s.state) && all_idle s.doors) q in
-    let r = and_parts (is_none (work_of h.role s.state)) (all_idle s.doors) p.1 in
-    (eqb-true (length s.fresh) 0 p.0, r.1)
 
 quiet_empty : (t : Network) (routes : Routes) (past : List Event) (s : Seat) → SitsIn t routes past s → HasMetAll s → is_quiet_in (home_in t routes) s ≡ true → IsEmpty s
 quiet_empty t routes past s h met q =
@@ -75,24 +55,24 @@ record Left (t : Network) (routes : Routes) (plans : Plans) (past : List Event) 
   pub back : List Parcel
   pub few : (n : ℕ) → counted n there ≤ ahead n (plans a b)
   pub few_back : (n : ℕ) → counted n back ≤ ahead n (plans b a)
-  pub heard : (m : Message) → IsFor t b m → Contains (told (home_in t routes a) (entered_at a past)).out m → WasGot m (entered_at b past) ⊎ Contains there (Parcel.Message m)
-  pub acked : (m : Message) → IsFor t b m → Contains (told (home_in t routes a) (entered_at a past)).out m
-      → WasAcked (identity m) (entered_at a past) ⊎ (Contains there (Parcel.Message m) ⊎ Contains back (Parcel.Ack (identity m)))
+  pub heard : (m : Message) → IsFor t b m → Contains (told (home_in t routes a) (journal_at a past)).out m → WasGot m (journal_at b past) ⊎ Contains there (Parcel.Message m)
+  pub acked : (m : Message) → IsFor t b m → Contains (told (home_in t routes a) (journal_at a past)).out m
+      → WasAcked (identity m) (journal_at a past) ⊎ (Contains there (Parcel.Message m) ⊎ Contains back (Parcel.Ack (identity m)))
 
-left_between : (t : Network) (routes : Routes) (plans : Plans) (past : List Event) (net : Net) → Rests t routes plans past net → all_quiet (home_in t routes) net ≡ true → (a b : ℕ) → a < length t.agents → b < length t.agents → Left t routes plans past a b
-left_between t routes plans past net r quiet a b la lb =
+left_between : (t : Network) (routes : Routes) (plans : Plans) (past : List Event) (net : Net) → Rests t routes plans past net → all_quiet (home_in t routes) net ≡ true → (a b : ℕ) → a < length t.agents → b < length t.agents → cut_off a b past ≡ false → Left t routes plans past a b
+left_between t routes plans past net r quiet a b la lb cut =
     let homes : Homes = home_in t routes in
     let x = numbered net a (subst (λ ns. Contains ns a) (sym r.numbers) (agent_there t a la)) in
     let y = numbered net b (subst (λ ns. Contains ns b) (sym r.numbers) (agent_there t b lb)) in
     let none = λ (s : Seat) (k : Contains net s). quiet_empty t routes past s (r.sits s k) (r.met s k) (quiet_one homes net s quiet k) in
-    let q : Pair t routes plans x.0.number y.0.number (entered_at x.0.number past) (entered_at y.0.number past) [] [] x.0 y.0 = r.pairs x.0 y.0 x.1 y.1 in
+    let q : Pair t routes plans x.0.number y.0.number (journal_at x.0.number past) (journal_at y.0.number past) [] [] x.0 y.0 = r.pairs x.0 y.0 x.1 y.1 (subst (λ n. cut_off n y.0.number past ≡ false) (sym x.2) (subst (λ n. cut_off a n past ≡ false) (sym y.2) cut)) in
     let left : Left t routes plans past x.0.number y.0.number = record {
       there = q.there;
       back = q.back;
       few = λ n. let h = q.within n in omega (arith, h);
       few_back = λ n. let h = q.within_back n in omega (arith, h);
-      heard = λ m e c. pair_heard t routes x.0.number y.0.number (entered_at x.0.number past) (entered_at y.0.number past) x.0 y.0 m (none x.0 x.1) (none y.0 y.1) q e c;
-      acked = λ m e c. pair_acked t routes x.0.number y.0.number (entered_at x.0.number past) (entered_at y.0.number past) x.0 y.0 m (none x.0 x.1) (none y.0 y.1) q e c;
+      heard = λ m e c. pair_heard t routes x.0.number y.0.number (journal_at x.0.number past) (journal_at y.0.number past) x.0 y.0 m (none x.0 x.1) (none y.0 y.1) q e c;
+      acked = λ m e c. pair_acked t routes x.0.number y.0.number (journal_at x.0.number past) (journal_at y.0.number past) x.0 y.0 m (none x.0 x.1) (none y.0 y.1) q e c;
     } in
     subst (λ n. Left t routes plans past n b) x.2 (subst (λ n. Left t routes plans past x.0.number n) y.2 left)
 
@@ -109,10 +89,10 @@ whether (Some c) b = elim (cases_eq c b) [ inl e ↦ inl (ap (λ z. Some z) e) |
 
 -- the world that these events make, in which all is synced
 record IsWorld (t : Network) (routes : Routes) (past : List Event) (w : World) : Type 0 where
-  pub journal : (a : ℕ) → w.journal a ≡ entered_at a past
+  pub journal : (a : ℕ) → w.journal a ≡ journal_at a past
   pub synced : (a : ℕ) → a < length t.agents → w.synced a ≡ length (w.journal a)
 
-said_is : (t : Network) (routes : Routes) (past : List Event) (w : World) (a : ℕ) → IsWorld t routes past w → a < length t.agents → said (home_in t routes) w a ≡ (told (home_in t routes a) (entered_at a past)).out
+said_is : (t : Network) (routes : Routes) (past : List Event) (w : World) (a : ℕ) → IsWorld t routes past w → a < length t.agents → said (home_in t routes) w a ≡ (told (home_in t routes a) (journal_at a past)).out
 said_is t routes past w a is lt =
     let s = is.synced a lt in
     ap (λ (es : List Entry). (told (home_in t routes a) es).out) (take_all (w.synced a) (w.journal a) (omega (arith, s)) ∙ is.journal a)
@@ -123,7 +103,7 @@ for_it t routes given b m lb to = ap (agent_of t) (to ∙ home_name t routes b) 
 -- what one agent has said to another one
 module _ (t : Network) (routes : Routes) (given : Given t routes) (law : NothingIsSaidTwice) (plans : Plans) (past : List Event) (w : World) (is : IsWorld t routes past w) (a b : ℕ) (kind : Kind) (lb : b < length t.agents) (l : Left t routes plans past a b) where
   abbrev out : List Message
-  out = (told (home_in t routes a) (entered_at a past)).out
+  out = (told (home_in t routes a) (journal_at a past)).out
 
   abbrev number : ℕ
   number = parcel_number (ParcelKind.Message kind)
@@ -153,13 +133,13 @@ module _ (t : Network) (routes : Routes) (given : Given t routes) (law : Nothing
   place_lost k d within c =
       let m : Message = get_or out k d in
       elim (cases_eq (kind_number (kind_of m.body)) (kind_number kind)) [
-        | inl e ↦ inr (subst (λ n. Contains lost n) (said_once law (home_in t routes a) (entered_at a past) k d within) (place_there number l.there (Parcel.Message m) out c e))
+        | inl e ↦ inr (subst (λ n. Contains lost n) (said_once law (home_in t routes a) (journal_at a past) k d within) (place_there number l.there (Parcel.Message m) out c e))
         | inr n ↦ inl (λ of. n (ap (λ z. kind_number z) of.1))
       ]
 
   place_back : (k : ℕ) (d : Message) → k < length out → Contains l.back (Parcel.Ack (identity (get_or out k d))) → Contains lost_back k
   place_back k d within c =
-      subst (λ n. Contains lost_back n) (said_once law (home_in t routes a) (entered_at a past) k d within) (place_there (parcel_number ParcelKind.Ack) l.back (Parcel.Ack (identity (get_or out k d))) out c refl)
+      subst (λ n. Contains lost_back n) (said_once law (home_in t routes a) (journal_at a past) k d within) (place_there (parcel_number ParcelKind.Ack) l.back (Parcel.Ack (identity (get_or out k d))) out c refl)
 
   heard_but : AllBut (losses (ParcelKind.Message kind) (plans a b)) (IsHeard (home_in t routes) w b kind) out
   heard_but = (lost, few_lost, λ k d within. by k d within (whether (agent_of t (addressee (identity (get_or out k d)))) b))
@@ -190,34 +170,36 @@ module _ (t : Network) (routes : Routes) (given : Given t routes) (law : Nothing
         | inr gone ↦ gone_there k d within gone
       ]
 
-settled_in : (t : Network) (routes : Routes) → Given t routes → NothingIsSaidTwice → (plans : Plans) (past : List Event) (net : Net) (w : World) → Rests t routes plans past net → all_quiet (home_in t routes) net ≡ true → IsWorld t routes past w
-    → LeavesOnlyLost t (home_in t routes) plans w
-settled_in t routes given law plans past net w r quiet is =
+settled_in : (t : Network) (routes : Routes) → Given t routes → NothingIsSaidTwice → (plans : Plans) (past : List Event) (net : Net) → Rests t routes plans past net → all_quiet (home_in t routes) net ≡ true → IsWorld t routes past (world_after empty past)
+    → LeavesOnlyLost t (home_in t routes) plans past
+settled_in t routes given law plans past net r quiet is =
     let homes : Homes = home_in t routes in
+    let w : World = world_after empty past in
     let left = left_between t routes plans past net r quiet in
     record {
       addressed = λ a la k d within.
           let m : Message = get_or (said homes w a) k d in
           let x = numbered net a (subst (λ ns. Contains ns a) (sym r.numbers) (agent_there t a la)) in
-          let heard = subst (λ n. All (IsLinked t n) (entered_at n past)) x.2 (r.sits x.0 x.1).heard in
-          let c : Contains (told (homes a) (entered_at a past)).out m = subst (λ ms. Contains ms m) (said_is t routes past w a is la) (Contains-get_or (said homes w a) k d within) in
-          let way : Way t a m = said_goes t routes given a (entered_at a past) m la heard c in
+          let heard = subst (λ n. All (IsLinked t n) (journal_at n past)) x.2 (r.sits x.0 x.1).heard in
+          let c : Contains (told (homes a) (journal_at a past)).out m = subst (λ ms. Contains ms m) (said_is t routes past w a is la) (Contains-get_or (said homes w a) k d within) in
+          let way : Way t a m = said_goes t routes given a (journal_at a past) m la heard c in
           (way.to, others_within t a way.to way.link, way.goes.1 ∙ sym (home_name t routes way.to));
-      heard = λ a b kind la lb.
-          subst (AllBut (losses (ParcelKind.Message kind) (plans a b)) (IsHeard homes w b kind)) (sym (said_is t routes past w a is la)) (heard_but t routes given law plans past w is a b kind lb (left a b la lb));
-      acknowledged = λ a b kind la lb.
-          subst (AllBut (losses (ParcelKind.Message kind) (plans a b) + losses ParcelKind.Ack (plans b a)) (IsOver homes w a b kind)) (sym (said_is t routes past w a is la)) (over_but t routes given law plans past w is a b kind lb (left a b la lb));
+      heard = λ a b kind la lb cut.
+          subst (AllBut (losses (ParcelKind.Message kind) (plans a b)) (IsHeard homes w b kind)) (sym (said_is t routes past w a is la)) (heard_but t routes given law plans past w is a b kind lb (left a b la lb cut));
+      acknowledged = λ a b kind la lb cut.
+          subst (AllBut (losses (ParcelKind.Message kind) (plans a b) + losses ParcelKind.Ack (plans b a)) (IsOver homes w a b kind)) (sym (said_is t routes past w a is la)) (over_but t routes given law plans past w is a b kind lb (left a b la lb cut));
     }
 
-pub play_settles : WhatIsSaidIsItsOwn → NothingIsSaidTwice → PlayRests → PlaySettles
-play_settles own once rests t routes plans groups events last sound formed routed rise may p =
+pub play_settles : WhatIsSaidIsItsOwn → NothingIsSaidTwice → PlayStands → PlayRests → PlaySettles
+play_settles own once stands rests t routes plans groups events last sound formed routed rise may p =
     let given : Given t routes = record { own = own; sound = sound; formed = formed; routed = routed } in
     let homes : Homes = home_in t routes in
-    let e : Ends t routes plans [] (plays p.0 groups 0 homes (opening t plans)) = plays_end t routes given [] p.0 groups 0 (opening t plans) (opening_rests t routes plans) (opening_quiet t routes plans) (ap (λ (z : Played). z.is_over) p.1) in
+    let free : AreFree homes empty (plays p.0 groups 0 homes (opening t plans)).events = subst (λ (z : Played). AreFree homes empty z.events) (sym p.1) (stands t routes plans groups events last formed rise may p).free in
+    let e : Ends t routes plans [] (plays p.0 groups 0 homes (opening t plans)) =
+    plays_end t routes given [] p.0 groups 0 (opening t plans) (opening_rests t routes plans) (opening_quiet t routes plans) free (ap (λ (z : Played). z.is_over) p.1) in
     let end = subst (Ends t routes plans []) p.1 e in
-    let w : World = world_after empty events in
-    settled_in t routes given once plans events last w end.rests end.quiet (record {
-      journal = λ a. journal_after a empty events end.rests.goes_on;
+    settled_in t routes given once plans events last end.rests end.quiet (record {
+      journal = λ a. refl;
       synced = λ a lt. (rests t routes plans groups events last formed rise may p a lt).synced;
     })
 
@@ -231,15 +213,17 @@ none_but few P xs none h k d within = elim (h.2 k d within) [
 ]
 
 -- then each message is got and acknowledged
-each_done : (t : Network) (homes : Homes) (plans : Plans) (w : World) → LoseNothing plans → LeavesOnlyLost t homes plans w → (a : ℕ) → a < length t.agents → All (IsDone t homes w a) (said homes w a)
-each_done t homes plans w nothing h a lt k d within =
+each_done : (t : Network) (homes : Homes) (plans : Plans) (events : List Event) → LoseNothing plans → All GoesOn events → LeavesOnlyLost t homes plans events → (a : ℕ) → a < length t.agents
+    → All (IsDone t homes (world_after empty events) a) (said homes (world_after empty events) a)
+each_done t homes plans events nothing on h a lt k d within =
+    let w : World = world_after empty events in
     let m : Message = get_or (said homes w a) k d in
     let to = h.addressed a lt k d within in
     let kind : ParcelKind = ParcelKind.Message (kind_of m.body) in
     let none : losses kind (plans a to.0) + losses ParcelKind.Ack (plans to.0 a) ≡ 0 = let x = losses_none kind (plans a to.0) (nothing a to.0) in let y = losses_none ParcelKind.Ack (plans to.0 a) (nothing to.0 a) in omega (arith, x, y) in
-    let both = none_but (losses kind (plans a to.0) + losses ParcelKind.Ack (plans to.0 a)) (IsOver homes w a to.0 (kind_of m.body)) (said homes w a) none (h.acknowledged a to.0 (kind_of m.body) lt to.1) k d within (to.2, refl) in
+    let both = none_but (losses kind (plans a to.0) + losses ParcelKind.Ack (plans to.0 a)) (IsOver homes w a to.0 (kind_of m.body)) (said homes w a) none (h.acknowledged a to.0 (kind_of m.body) lt to.1 (none_cut a to.0 events on)) k d within (to.2, refl) in
     (to.0, to.1, to.2, both.0, both.1)
 
-pub play_leaves_none : WhatIsSaidIsItsOwn → NothingIsSaidTwice → PlayRests → PlayLeavesNone
-play_leaves_none own once rests t routes plans groups events last none sound formed routed rise may p a lt =
-    each_done t (home_in t routes) plans (world_after empty events) none (play_settles own once rests t routes plans groups events last sound formed routed rise may p) a lt
+pub play_leaves_none : WhatIsSaidIsItsOwn → NothingIsSaidTwice → PlayStands → PlayRests → PlayLeavesNone
+play_leaves_none own once stands rests t routes plans groups events last none sound formed routed rise may p on a lt =
+    each_done t (home_in t routes) plans events none on (play_settles own once stands rests t routes plans groups events last sound formed routed rise may p) a lt

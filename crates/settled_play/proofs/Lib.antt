@@ -6,8 +6,12 @@ mod Places
 mod Steps
 mod Moves
 mod Pairs
+mod Afresh
+mod Cuts
 mod Meetings
 mod Journals
+mod Quiet
 mod Rounds
+mod Restarting
 mod Plays
 mod Leaving

@@ -23,7 +23,7 @@ use Rattle.agent_node.specs.Doors.{Door, others, with_parcel, queue_at, queue_if
 use Rattle.agent_node.proofs.Passing.{passes_out, passes_queue}
 use Rattle.agent_node.specs.Openings.{empty_door, others_of}
 use Rattle.agent_node.specs.Seat.{Seat, now_at, enters, enters_if, queues}
-use Rattle.agent_node.specs.Turns.{cleared, takes, takes_all, work_then, works_off, worked, sync_event, syncs, syncs_if, synced_all, pushed, turn_with, turned}
+use Rattle.agent_node.specs.Turns.{cleared, takes, takes_all, work_then, works_off, worked, sync_event, syncs, syncs_if, synced_all, pushed, turn_entered, turn_with, turned}
 use Rattle.agent_node.specs.Acts.{asked, forced, is_overdue, overdue, tick_at, ticked}
 use Rattle.nsi_play.specs.Play.{changes, does}
 use Rattle.settled_play.proofs.Finding.{door_to, none_there, first_there, later_there, first_or_later, change_doors, map_door, others_map, lies_there, with_leads, queued_there, queue_keeps, says_keeps, said_there, others_change}
@@ -273,7 +273,7 @@ move_work t routes a (suc n) js s h = by (work_of (home_in t routes a).role s.st
 ---- A sync
 
 -- what isn't said yet goes along a link
-ways : (t : Network) (routes : Routes) → Given t routes → (a : ℕ) (js : List Entry) (ms : List Message) → a < length t.agents → All (IsLinked t a) js → All (Contains (told (home_in t routes a) js).out) ms → All (Way t a) ms
+pub ways : (t : Network) (routes : Routes) → Given t routes → (a : ℕ) (js : List Entry) (ms : List Message) → a < length t.agents → All (IsLinked t a) js → All (Contains (told (home_in t routes a) js).out) ms → All (Way t a) ms
 ways t routes given a js ms lt heard all = λ k d within. said_goes t routes given a js (get_or ms k d) lt heard (all k d within)
 
 move_sync : (t : Network) (routes : Routes) → Given t routes → (a : ℕ) (js : List Entry) (s : Seat) → Sits t routes a js [] s → Moves t routes a js [] [] s (syncs (home_in t routes a) s)
@@ -345,6 +345,22 @@ move_turned t routes given a js s h =
     let rest : Moves t routes a js (lying s.doors) [] u z = move_twice t routes a js (lying s.doors) [] [] u v z q (move_twice t routes a q.journal [] [] [] v x z r (move_twice t routes a r.journal [] [] [] x y z o (record { journal = o.journal; step = l }))) in
     record {
       moves = record { journal = rest.journal; step = step_twice t routes a js js rest.journal [] (lying s.doors) [] s u z p rest.step };
+      taken = λ b k c. cleared_none b s.doors k (rest.step.fewer b k c);
+    }
+
+-- so is what is left of one where the disk stops at its sync
+pub move_halted : (t : Network) (routes : Routes) (a : ℕ) (js : List Entry) (s : Seat) → Sits t routes a js [] s → Turns t routes a js s (turn_entered (home_in t routes a) (lying s.doors) (cleared s))
+move_halted t routes a js s h =
+    let home : Home = home_in t routes a in
+    let u : Seat = cleared s in
+    let p = step_doors t routes a js [] (lying s.doors) s (map clears s.doors) (keeps_clear t a s.doors) h in
+    let v : Seat = takes_all home (lying s.doors) u in
+    let q = move_all t routes a (lying s.doors) js u p.sits in
+    let x : Seat = worked home v in
+    let r = move_work t routes a (works_left home.role v.state) q.journal v q.step.sits in
+    let rest : Moves t routes a js (lying s.doors) [] u x = move_twice t routes a js (lying s.doors) [] [] u v x q r in
+    record {
+      moves = record { journal = rest.journal; step = step_twice t routes a js js rest.journal [] (lying s.doors) [] s u x p rest.step };
       taken = λ b k c. cleared_none b s.doors k (rest.step.fewer b k c);
     }
 

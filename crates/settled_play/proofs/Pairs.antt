@@ -151,7 +151,7 @@ Crosses a b s v u = (p : Parcel) → IsPut b s.doors p → IsPut b v.doors p ⊎
 abbrev pub HasSamePlan : ℕ → (s v : Seat) → Type 0
 HasSamePlan b s v = (door_to b v.doors).plan ≡ (door_to b s.doors).plan
 
-within_met : (plan : Plan) (b : ℕ) (gone : List Parcel) (s v : Seat) → HasSamePlan b s v → IsWithin plan b gone s → IsWithin plan b gone v
+pub within_met : (plan : Plan) (b : ℕ) (gone : List Parcel) (s v : Seat) → HasSamePlan b s v → IsWithin plan b gone s → IsWithin plan b gone v
 within_met plan b gone s v e h n = subst (λ x. counted n gone + ahead n x ≤ ahead n plan) (sym e) (h n)
 
 pub pair_meets : {plans : Plans} (t : Network) (routes : Routes) (a b : ℕ) (js ks : List Entry) (s u v x : Seat) → HasNone s.doors → HasNone u.doors → v.unsaid ≡ s.unsaid → HasSamePlan b s v → HasSamePlan a u x → Crosses a b s v x → Crosses b a u x v

@@ -18,7 +18,7 @@ use Rattle.nsi_agent.proofs.Telling.{telling_is_in_parts}
 use Rattle.agent_node.specs.Doors.{Door, others}
 use Rattle.agent_node.specs.Seat.{Seat, enters}
 use Rattle.agent_node.specs.Openings.{others_of}
-use Rattle.settled_play.specs.Settled.{WasAcked}
+use Rattle.settled_play.specs.Settled.{WasAcked, IsNoRestart}
 use Rattle.settled_play.proofs.Finding.{door_to, first_or_later}
 use Rattle.settled_play.proofs.Links.{Goes, IsLinked}
 use Rattle.settled_play.proofs.Putting.{counted, counted_append, counted_none, ahead}
@@ -37,11 +37,6 @@ entered_in (e ∷ es) = entry_in e.what ++ entered_in es
 pub entered_append : (es fs : List Event) → entered_in (es ++ fs) ≡ entered_in es ++ entered_in fs
 entered_append [] fs = refl
 entered_append (e ∷ es) fs = ap (λ xs. entry_in e.what ++ xs) (entered_append es fs) ∙ sym (append_assoc (entry_in e.what) (entered_in es) (entered_in fs))
-
--- nobody begins again
-abbrev pub IsNoRestart : Happening → Type 0
-IsNoRestart (Happening.Restart count) = ⊥
-IsNoRestart _ = Unit {0}
 
 abbrev pub IsOwn : ℕ → Event → Type 0
 IsOwn a e = (e.agent ≡ a) × IsNoRestart e.what

@@ -1,9 +1,10 @@
 -- What a play leaves open: of the messages that one agent has said to another one, how many weren't got, and how many weren't acknowledged.
-use Rattle.std.specs.Prelude.{◌≡◌, ◌≤◌, ◌<◌, ◌+◌, ◌⊎◌, ◌==◌, ◌&&◌, ℕ, Bool, true, false, List, length, filter, get_or}
+use Rattle.std.specs.Prelude.{◌≡◌, ◌≤◌, ◌<◌, ◌+◌, ◌⊎◌, ◌==◌, ◌&&◌, ◌||◌, ℕ, Bool, true, false, not, List, [], ◌∷◌, length, filter, get_or}
 use Rattle.std.specs.List.{All, Contains}
 use Rattle.nsi_primitive.specs.Messages.{identity, kind_of}
 use Rattle.nsi_primitive.specs.declared.entry.Entry.{Entry}
 use Rattle.nsi_primitive.specs.declared.entry.Event.{Event}
+use Rattle.nsi_primitive.specs.declared.entry.Happening.{Happening}
 use Rattle.nsi_primitive.specs.declared.entry.Input.{Input}
 use Rattle.nsi_primitive.specs.declared.kind.Kind.{Kind}
 use Rattle.nsi_primitive.specs.declared.message.Identity.{Identity}
@@ -64,19 +65,44 @@ loses kind f = is_loss f.how && (parcel_number f.of == parcel_number kind)
 abbrev pub losses : ParcelKind → Plan → ℕ
 losses kind plan = length (filter (loses kind) plan)
 
--- Each message that an agent has said is for an agent. Of those of a kind that it has said to that one, no more weren't got than lines of
--- the link's plan lose one of that kind; and no more than those and the lines of the link back that lose an acknowledgement weren't got or
--- weren't acknowledged.
-pub record LeavesOnlyLost (t : Network) (homes : Homes) (plans : Plans) (w : World) : Type 0 where
-  pub addressed : (a : ℕ) → a < length t.agents → All (HasAddressee t homes) (said homes w a)
-  pub heard : (a b : ℕ) (kind : Kind) → a < length t.agents → b < length t.agents → AllBut (losses (ParcelKind.Message kind) (plans a b)) (IsHeard homes w b kind) (said homes w a)
-  pub acknowledged : (a b : ℕ) (kind : Kind) → a < length t.agents → b < length t.agents → AllBut (losses (ParcelKind.Message kind) (plans a b) + losses ParcelKind.Ack (plans b a)) (IsOver homes w a b kind) (said homes w a)
+---- Which pairs are cut off
 
--- so it is in the world at the end of a play, whatever is lost and whatever comes twice
+abbrev pub cuts_by_entry : Input → (is_one was : Bool) → Bool
+cuts_by_entry Input.Tick is_one was = not is_one && was
+cuts_by_entry _ is_one was = was
+
+-- what an event at an agent makes of a pair of which it is the one, or the other one
+abbrev pub cuts_by : Happening → (is_one is_other was : Bool) → Bool
+cuts_by (Happening.Restart count) is_one is_other was = is_other || (not is_one && was)
+cuts_by (Happening.Entry e answer) is_one is_other was = cuts_by_entry e.input is_one was
+cuts_by (Happening.Sync count) is_one is_other was = was
+
+-- after these events
+unfoldable pub cut_after : (a b : ℕ) (was : Bool) → List Event → Bool
+cut_after a b was [] = was
+cut_after a b was (x ∷ xs) = cut_after a b (cuts_by x.what (x.agent == a) (x.agent == b) was) xs
+
+-- the other one has restarted since the one has last ticked or restarted
+abbrev pub cut_off : (a b : ℕ) → List Event → Bool
+cut_off a b events = cut_after a b false events
+
+---- What is left open
+
+-- In the world after these events each message that an agent has said is for an agent. Of those of a kind that it has said to one that it isn't
+-- cut off from, no more weren't got than lines of the link's plan lose one of that kind; and no more than those and the lines of the link back
+-- that lose an acknowledgement weren't got or weren't acknowledged.
+pub record LeavesOnlyLost (t : Network) (homes : Homes) (plans : Plans) (events : List Event) : Type 0 where
+  pub addressed : (a : ℕ) → a < length t.agents → All (HasAddressee t homes) (said homes (world_after empty events) a)
+  pub heard : (a b : ℕ) (kind : Kind) → a < length t.agents → b < length t.agents → cut_off a b events ≡ false →
+      AllBut (losses (ParcelKind.Message kind) (plans a b)) (IsHeard homes (world_after empty events) b kind) (said homes (world_after empty events) a)
+  pub acknowledged : (a b : ℕ) (kind : Kind) → a < length t.agents → b < length t.agents → cut_off a b events ≡ false →
+      AllBut (losses (ParcelKind.Message kind) (plans a b) + losses ParcelKind.Ack (plans b a)) (IsOver homes (world_after empty events) a b kind) (said homes (world_after empty events) a)
+
+-- so it is at the end of a play, whatever is lost and whatever comes twice
 abbrev pub PlaySettles : Type 0
 PlaySettles =
     (t : Network) (routes : Routes) (plans : Plans) (groups : List Group) (events : List Event) (last : Net) → IsSound t → IsWellFormed t → AreRoutes t routes →
-    IsRising (seconds_of groups) → All (IsActOf t) (acts_of groups) → IsPlayFrom groups (home_in t routes) (opening t plans) events last → LeavesOnlyLost t (home_in t routes) plans (world_after empty events)
+    IsRising (seconds_of groups) → All (IsActOf t) (acts_of groups) → IsPlayFrom groups (home_in t routes) (opening t plans) events last → LeavesOnlyLost t (home_in t routes) plans events
 
 ---- Where nothing is lost
 
@@ -92,13 +118,21 @@ LosesNone plan = All IsRepeat plan
 abbrev pub LoseNothing : Plans → Type 0
 LoseNothing plans = (from to : ℕ) → LosesNone (plans from to)
 
+-- no agent restarts
+abbrev pub IsNoRestart : Happening → Type 0
+IsNoRestart (Happening.Restart count) = ⊥
+IsNoRestart _ = Unit {0}
+
+abbrev pub GoesOn : Event → Type 0
+GoesOn e = IsNoRestart e.what
+
 -- its addressee got it, and the one that said it took the acknowledgement
 abbrev pub IsDone : Network → Homes → World → ℕ → Message → Type 0
 IsDone t homes w from m = (b : ℕ) × (b < length t.agents) × IsTo homes b m × WasGot m (w.journal b) × WasAcked (identity m) (w.journal from)
 
--- at the end of a play in which nothing is lost so it is of each message that an agent has said
+-- at the end of a play in which nothing is lost and no agent restarts so it is of each message that an agent has said
 abbrev pub PlayLeavesNone : Type 0
 PlayLeavesNone =
     (t : Network) (routes : Routes) (plans : Plans) (groups : List Group) (events : List Event) (last : Net) → LoseNothing plans → IsSound t → IsWellFormed t → AreRoutes t routes →
-    IsRising (seconds_of groups) → All (IsActOf t) (acts_of groups) → IsPlayFrom groups (home_in t routes) (opening t plans) events last →
+    IsRising (seconds_of groups) → All (IsActOf t) (acts_of groups) → IsPlayFrom groups (home_in t routes) (opening t plans) events last → All GoesOn events →
     (a : ℕ) → a < length t.agents → All (IsDone t (home_in t routes) (world_after empty events) a) (said (home_in t routes) (world_after empty events) a)
