@@ -1,6 +1,6 @@
 //! The table of the queries that wait for children's answers.
 
-ghost use Rattle.std.specs.Prelude.{◌≡◌, ◌<◌, ◌++◌, ◌∷◌, [], None, false, All, IfOk, IfSome, OnOk, OnErr};
+ghost use Rattle.std.specs.Prelude.{◌≡◌, ◌<◌, ◌++◌, ◌∷◌, ℕ, [], None, false, All, IfOk, IfSome, OnOk, OnErr};
 ghost use Rattle.std.specs.Prelude.{List as Sequence};
 ghost use Rattle.std.specs.BTreeMap.{keys, is_at};
 ghost use Rattle.std.specs.Map.{set_value, values_of};
@@ -99,9 +99,10 @@ impl OpenQueries {
     ) -> Result<Option<Told>, AllocError>
         requires { is_asked part ≡ false }
         ensures { let records = records_of (bonds connections.now) in
-            let heard = λ agent. tells_first agent records correlation part (values_of self.now) in
+            let heard = λ (agent : Sequence ℕ). tells_first agent records correlation part (values_of self.now) in
             IfOk result (IsTold records self.now heard) }
     {
+        let _count = self.queries.len();
         let mut numbers = Vec::new(alloc);
         self.ids.note_places(correlation, &mut numbers)?;
         let found = find_least(&self.queries, &numbers, connections, correlation);
