@@ -15,7 +15,8 @@ pub mod Mild
 pub mod MildTurns
 pub mod Queried
 pub mod Below
-pub mod Awaiting
+pub mod OpenTable
+pub mod OpenTold
 pub mod Entries
 pub mod Steady
 pub mod Requested

@@ -1,5 +1,6 @@
 -- An aggregator's fields as a standing.
 use Rattle.std.specs.Prelude.{ℕ, [], List}
+use Rattle.std.specs.Map.{values_of}
 use Rattle.agent_state.specs.declared.parent.OpenQuery.{OpenQuery}
 use Rattle.agent_state.specs.State.{AgentState}
 use Rattle.aggregator_agent.specs.declared.aggregator_core.Core.{Core}
@@ -28,7 +29,7 @@ state_of bs o queries next now taken =
     }
 
 abbrev pub state_at : Core → AgentState
-state_at d = state_of d.connections d.outbox d.queries.items d.next d.now d.taken
+state_at d = state_of d.connections d.outbox (values_of d.queries) d.next d.now d.taken
 
 abbrev pub standing_at : Core → Standing
 standing_at d = record { agent = d.agent; state = state_at d }

@@ -13,6 +13,7 @@ pub mod Undo
 pub mod Rounds
 pub mod Core
 pub mod Step
+pub mod OpenTable
 pub mod Open
 pub mod Good
 pub mod Laws

@@ -1,52 +1,29 @@
--- Calls about the queries that are open.
-use Rattle.std.specs.Prelude.{◌≡◌, ◌<◌, ◌+◌, ◌++◌, ℕ, Bool, true, false, List, [], ◌∷◌, length, take, drop, get_or, slice_set, Option, Some, None, IfSome}
-use Rattle.std.specs.List.{remove}
+-- Calls about the queries that are open, which stand under rising numbers.
+use Rattle.std.specs.Prelude.{◌≡◌, ◌<◌, ◌++◌, ℕ, Bool, true, false, List, [], ◌∷◌, length, Option, Some, None, IfSome}
+use Rattle.std.specs.BTreeMap.{is_at}
+use Rattle.std.specs.Map.{lookup, set_value, remove_entry, values_of}
+use Rattle.std.specs.Ordering.{nat_cmp}
 use Rattle.nsi_primitive.specs.declared.message.Message.{Message}
 use Rattle.connection_record.specs.declared.record.Record.{Record}
 use Rattle.agent_state.specs.declared.parent.OpenQuery.{OpenQuery}
-use Rattle.agent_state.specs.declared.parent.Part.{Part}
 use Rattle.agent_state.specs.State.{record_at}
-use Rattle.aggregator_agent.specs.declared.open.Awaited.{Awaited}
-use Rattle.aggregator_agent.specs.declared.open.Told.{Told}
+use Rattle.aggregator_agent.specs.declared.open_queries.Told.{Told}
 use Rattle.aggregator_agent.specs.declared.seeking.Seeking.{Seeking}
-use Rattle.aggregator_agent.specs.Below.{Sought, Heard, nested_reply, hears_nothing, told_at, closes, asked_place, tells_first, hear_below}
+use Rattle.aggregator_agent.specs.Below.{Sought, Heard, nested_reply, hear_below}
+use Rattle.aggregator_agent.specs.OpenTable.{AsksNoMore}
 
 abbrev pub sought_by : Seeking → Sought
 sought_by x = record { parts = x.parts.items; asked = x.asked.items; next = x.next }
 
----- The query that is told
+---- What becomes of the query that is told
 
-abbrev pub behind : List OpenQuery → Heard → Heard
-behind front h = record { queries = front ++ h.queries; out = h.out }
+abbrev pub left_by : (waits : Bool) → ℕ → OpenQuery → List (ℕ × OpenQuery) → List (ℕ × OpenQuery)
+left_by true number q es = set_value (is_at (nat_cmp number)) es q
+left_by false number q es = remove_entry (is_at (nat_cmp number)) es
 
--- the part of a query that waits for an answer under the correlation, where its connection is there
-abbrev pub part_there : Option Record → ℕ → OpenQuery → Option ℕ
-part_there None c q = None
-part_there (Some own) c q = asked_place c q
-
--- the first query that waits for an answer under the correlation, of a connection that is there
-pub record IsFirst (c : ℕ) (records : List Record) (qs : List OpenQuery) (a : Awaited) : Type 0 where
-  pub within : a.place < length qs
-  pub own : (q : OpenQuery) → (get_or qs a.place q).place < length records
-  pub part : (q : OpenQuery) → asked_place c (get_or qs a.place q) ≡ Some a.part
-  pub tells : (q : OpenQuery) (agent : List ℕ) (p : Part) →
-      let x : OpenQuery = get_or qs a.place q in
-      tells_first agent records c p qs ≡ behind (take a.place qs) (closes agent (record_at x.place records) (told_at a.part p x) (drop (a.place + 1) qs))
-
--- or there is none
-abbrev pub IsAwaited : ℕ → List Record → List OpenQuery → Option Awaited → Type 0
-IsAwaited c records qs None = (agent : List ℕ) (p : Part) → tells_first agent records c p qs ≡ hears_nothing qs
-IsAwaited c records qs (Some a) = IsFirst c records qs a
-
----- What becomes of it
-
-abbrev pub left_by : (waits : Bool) → ℕ → OpenQuery → List OpenQuery → List OpenQuery
-left_by true place q qs = slice_set qs place q
-left_by false place q qs = remove qs place
-
-abbrev pub left_then : Option Told → List OpenQuery → List OpenQuery
-left_then None qs = qs
-left_then (Some t) qs = left_by t.waits t.place t.query qs
+abbrev pub left_then : Option Told → List (ℕ × OpenQuery) → List (ℕ × OpenQuery)
+left_then None es = es
+left_then (Some t) es = left_by t.waits t.number t.query es
 
 abbrev pub said_by : (waits : Bool) → List ℕ → List Record → OpenQuery → List Message
 said_by true agent records q = []
@@ -56,9 +33,17 @@ abbrev pub said_then : List ℕ → List Record → Option Told → List Message
 said_then agent records None = []
 said_then agent records (Some t) = said_by t.waits agent records t.query
 
--- what a message is to the open queries
-pub record IsTold (agent : List ℕ) (records : List Record) (m : Message) (qs : List OpenQuery) (o : Option Told) : Type 0 where
-  pub left : (hear_below agent records m qs).queries ≡ left_then o qs
-  pub said : (hear_below agent records m qs).out ≡ said_then agent records o
-  pub within : IfSome o (λ t. t.place < length qs)
+-- it waits for no child for which the query of its number doesn't wait
+abbrev pub IsKept : List (ℕ × OpenQuery) → Told → Type 0
+IsKept es t = (q : OpenQuery) → lookup (is_at (nat_cmp t.number)) es ≡ Some q → AsksNoMore t.query q
+
+-- what each agent hears is what becomes of the query that is told, where there is one
+pub record IsTold (records : List Record) (es : List (ℕ × OpenQuery)) (heard : List ℕ → Heard) (o : Option Told) : Type 0 where
+  pub left : (agent : List ℕ) → (heard agent).queries ≡ values_of (left_then o es)
+  pub said : (agent : List ℕ) → (heard agent).out ≡ said_then agent records o
   pub own : IfSome o (λ t. t.query.place < length records)
+  pub kept : IfSome o (IsKept es)
+
+-- what a message is to the open queries
+abbrev pub IsToldBy : List Record → Message → List (ℕ × OpenQuery) → Option Told → Type 0
+IsToldBy records m es o = IsTold records es (λ agent. hear_below agent records m (values_of es)) o

@@ -13,10 +13,9 @@ use crate::connection_table::ConnectionTable;
 use crate::due_table::DueTable;
 use crate::entering::Entering;
 use crate::late::{Lateness, find_late};
-use crate::open::settle;
+use crate::open_queries::OpenQueries;
 use crate::outbox::Outbox;
 use crate::rounds::Begun;
-use agent_state::OpenQuery;
 use message_retry::Retry;
 use nsi_base::{AgentNo, Second};
 use nsi_primitive::{Entry, Input, Message};
@@ -30,7 +29,7 @@ pub struct Core {
     pub connections: ConnectionTable,
     pub outbox: Outbox,
     /// The queries that wait for children's answers, in the order in which they came.
-    pub queries: Vec<OpenQuery>,
+    pub queries: OpenQueries,
     pub now: Second,
     /// How many entries were taken.
     pub taken: u64,
@@ -58,7 +57,7 @@ impl Core {
                 retry: Retry::new(alloc),
                 dues: DueTable::new(alloc),
             },
-            queries: Vec::new(alloc),
+            queries: OpenQueries::new(alloc),
             now: Second::first(),
             taken: 0,
             next: 1,
@@ -127,7 +126,7 @@ impl Core {
         };
         let connections = &mut self.connections;
         let said = connections.hear(&mut self.outbox, &entering, begun)?;
-        settle(&mut self.queries, told);
+        self.queries.settle(told);
         self.next = said.next;
         Ok(said.out)
     }

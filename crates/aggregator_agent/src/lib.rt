@@ -18,6 +18,7 @@ mod late;
 pub mod laws;
 mod moving;
 mod open;
+mod open_queries;
 mod outbox;
 mod parts;
 mod passing;

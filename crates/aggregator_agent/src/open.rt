@@ -1,41 +1,24 @@
 //! The queries that wait for children's answers.
 
-ghost use Rattle.std.specs.Prelude.{◌≡◌, ◌<◌, ◌++◌, ◌∷◌, [], length, vec_len, vec_capacity, option_to_list, slice_get, true, IfOk, IfSome};
+ghost use Rattle.std.specs.Prelude.{◌≡◌, ◌<◌, ◌++◌, ◌∷◌, [], length, option_to_list, true, IfOk, IfSome};
 ghost use Rattle.agent_state.specs.State.{record_at, sends};
 ghost use Rattle.aggregator_agent.specs.Below.{nested_reply};
 ghost use Rattle.aggregator_agent.specs.Clock.{due_for};
-ghost use Rattle.aggregator_agent.specs.Bonds.{bonds, records_of};
-ghost use Rattle.aggregator_agent.specs.Open.{IsAwaited, IsTold, left_then, part_there, said_then};
+ghost use Rattle.aggregator_agent.specs.Bonds.{records_of};
+ghost use Rattle.aggregator_agent.specs.Open.{IsToldBy, said_then};
 ghost use Rattle.aggregator_agent.specs.Step.{IsStep};
 ghost use Rattle.aggregator_agent.specs.Steps.{asks_below, place_named, queries};
 
 use crate::aggregator_core::Core;
-use crate::connection::Connection;
 use crate::find::number_of;
-use crate::parts::{asked_place, nested_reply, part_of, told_at, waits};
+use crate::open_queries::Told;
+use crate::parts::{nested_reply, part_of, waits};
 use crate::said::{Moment, Said, dues_for};
 use crate::seeking::{Seeking, seek};
 use agent_state::OpenQuery;
 use nsi_base::List;
-use nsi_primitive::{ErrorName, Id, Message};
+use nsi_primitive::{ErrorName, Message};
 use std::alloc::{AllocError, Global};
-
-/// Which open query a message answers in part, and what becomes of it.
-#[derive(Drop)]
-pub struct Told {
-    /// Where the query stands.
-    pub place: usize,
-    pub query: OpenQuery,
-    /// Whether it waits for another child.
-    pub waits: bool,
-}
-
-/// Where an open query stands, and which of its parts is awaited.
-#[derive(Clone, Copy)]
-pub struct Awaited {
-    pub place: usize,
-    pub part: usize,
-}
 
 impl Core {
     /// Answers a queryRecursive, or asks the children of its connection and waits for them.
@@ -115,7 +98,6 @@ impl Core {
         }) asked.items) }
         ensures taken { self.new.taken ≡ self.old.taken }
     {
-        self.queries.reserve(1)?;
         let moment = Moment {
             number: number_of(query.place)?,
             second: self.now,
@@ -126,10 +108,17 @@ impl Core {
             dues,
             next,
         };
-        self.outbox.store(alloc, &said)?;
-        push_in_room(&mut self.queries, query);
-        self.next = next;
-        Ok(said.out)
+        self.queries.push(query)?;
+        match self.outbox.store(alloc, &said) {
+            Ok(()) => {
+                self.next = next;
+                Ok(said.out)
+            }
+            Err(error) => {
+                self.queries.take_back();
+                Err(error)
+            }
+        }
     }
 
     /// No child was asked, or all have answered.
@@ -162,26 +151,15 @@ impl Core {
     /// What a message tells an open query, if any.
     pub fn told_below(&self, alloc: Global, message: &Message) -> Result<Option<Told>, AllocError>
         ensures { let d = self.entry.now in
-            IfOk result (IsTold d.agent.name (records_of d.connections)
-            message.now d.queries.items) }
+            IfOk result (IsToldBy (records_of d.connections) message.now d.queries) }
     {
         let answer = part_of(&message.body)?;
         let Some(part) = answer else {
             return Ok(None);
         };
         let all = self.connections.items();
-        let queries: &[OpenQuery] = &self.queries;
-        let found = find_awaited(queries, all, message.header.correlation);
-        let Some(first) = found else {
-            return Ok(None);
-        };
-        let query = told_at(alloc, &queries[first.place], first.part, part)?;
-        let waits = waits(query.parts.items());
-        Ok(Some(Told {
-            place: first.place,
-            query,
-            waits,
-        }))
+        self.queries
+            .told(alloc, all, message.header.correlation, part)
     }
 
     /// What is said once an open query was told its part.
@@ -205,66 +183,4 @@ impl Core {
             }
         }
     }
-}
-
-/// The first query, of a connection that is there, that waits for an answer under a correlationId.
-fn find_awaited(
-    queries: &[OpenQuery],
-    connections: &[Connection],
-    correlation: Id,
-) -> Option<Awaited>
-    ensures { IsAwaited correlation (records_of (bonds connections.now)) queries.now result }
-{
-    for place in 0..queries.len() {
-        if let Some(part) = awaited_part(&queries[place], connections, correlation) {
-            return Some(Awaited { place, part });
-        }
-    }
-    None
-}
-
-/// Which part of a query, of a connection that is there, waits for an answer under a correlationId.
-fn awaited_part(query: &OpenQuery, connections: &[Connection], correlation: Id) -> Option<usize>
-    ensures part { let q = query.now in
-        let own = slice_get (records_of (bonds connections.now)) q.place in
-        result ≡ part_there own correlation q }
-    ensures own { IfSome result (λ _. query.now.place < length connections.now) }
-    ensures within { IfSome result (λ n. n < length query.now.parts) }
-{
-    if query.place < connections.len() {
-        asked_place(correlation, query)
-    } else {
-        None
-    }
-}
-
-/// What becomes of the open queries once one was told its part. It takes no memory.
-pub fn settle(queries: &mut Vec<OpenQuery>, told: Option<Told>)
-    requires { IfSome told (λ t. t.place < length queries.old.items) }
-    ensures { queries.new.items ≡ left_then told queries.old.items }
-{
-    let Some(
-        Told {
-            place,
-            query,
-            waits,
-        },
-    ) = told
-    else {
-        return;
-    };
-    if waits {
-        queries[place] = query;
-    } else {
-        let _answered = queries.remove(place);
-    }
-}
-
-fn push_in_room(queries: &mut Vec<OpenQuery>, query: OpenQuery)
-    requires { vec_len queries.old < vec_capacity queries.old }
-    ensures { queries.new.items ≡ queries.old.items ++ query ∷ [] }
-{
-    let Ok(()) = queries.push(query) else {
-        unreachable!()
-    };
 }

@@ -1,4 +1,5 @@
 use Rattle.std.proofs.Common.{◌∙◌, Ok, refl, ap}
+use Rattle.std.specs.Map.{values_of}
 use Rattle.aggregator_agent.specs.declared.outbox.Outbox.{Outbox}
 use Rattle.agent_state.specs.State.{stays}
 use Rattle.aggregator_agent.specs.Core.{state_at, state_of}
@@ -23,7 +24,7 @@ returns-in-Acked-clause-step c =
     let e = c.args.entry.now in
     let i = c.in-Acked.identity in
     let v = c.new.result in
-    let rest = ap (λ (o : Outbox). state_of d.connections o d.queries.items d.next d.now d.taken) c.acked.ensures in
+    let rest = ap (λ (o : Outbox). state_of d.connections o (values_of d.queries) d.next d.now d.taken) c.acked.ensures in
     let made = made_none (acknowledged i (state_at d)) v.items c.new.ensures.items in
     same_step t d _ (Ok v) (λ setting s. stays (acknowledged i s)) _ (λ route. step_acked (setting_of t d.agent route) (state_at d) e.input e.second i c.in-Acked.is)
     (by_all t d _ (Ok v) (λ setting s. stays (acknowledged i s)) (record { all = λ u route. record { state = rest ∙ made.state; said = made.said }; agent = refl; err = tt }))

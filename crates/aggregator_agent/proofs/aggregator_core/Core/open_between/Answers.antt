@@ -1,4 +1,5 @@
 use Rattle.std.proofs.Common.{◌≡◌, ◌∙◌, refl, ap}
+use Rattle.std.specs.Map.{values_of}
 use Rattle.agent_state.specs.State.{name_or}
 use Rattle.connection_record.specs.declared.record.Record.{Record}
 use Rattle.connection_record.specs.Moves.{fresh, service_of}
@@ -23,8 +24,8 @@ returns-clause-step c =
     let said = c.in_ok-said.said in
     let some = c.in_ok-said.ensures.some in
     record {
-      by = λ route h. opened_made t d.agent d.now m d.next route d.connections c.open.new.self (bond x) d.outbox c.open.new.outbox d.queries.items said d.taken q points is (c.in_ok-said.ensures.by route h);
-      some = (some.0, opened_made t d.agent d.now m d.next some.0 d.connections c.open.new.self (bond x) d.outbox c.open.new.outbox d.queries.items said d.taken q points is some.1);
+      by = λ route h. opened_made t d.agent d.now m d.next route d.connections c.open.new.self (bond x) d.outbox c.open.new.outbox (values_of d.queries) said d.taken q points is (c.in_ok-said.ensures.by route h);
+      some = (some.0, opened_made t d.agent d.now m d.next some.0 d.connections c.open.new.self (bond x) d.outbox c.open.new.outbox (values_of d.queries) said d.taken q points is some.1);
       agent = refl;
       err = tt;
     }

@@ -1,4 +1,5 @@
 use Rattle.std.proofs.Common.{◌≡◌, ◌∙◌, true, false, Ok, refl, sym, ap}
+use Rattle.std.specs.Map.{values_of}
 use Rattle.nsi_primitive.specs.Messages.{is_request}
 use Rattle.message_retry.specs.Retry.{Retry}
 use Rattle.agent_state.specs.State.{stays}
@@ -27,6 +28,6 @@ returns-in-Ok-clause-step c =
     let new : is_seen (state_at d) m ≡ false = sym c.is_old.ensures ∙ c.if-is_old.false in
     let mid : Core = record d { outbox = record d.outbox { retry = c.saw.new.self } } in
     step_from t d mid c.take_new.new.self (Ok c.in-Ok.out) (λ setting s. takes_new (is_request m.body) setting s m) _ refl tt
-    (λ route. ap (λ (r : Retry). takes_new (is_request m.body) (setting_of t d.agent route) (state_of d.connections (record d.outbox { retry = r }) d.queries.items d.next d.now d.taken) m) c.in_ok-saw.ensures.ok
+    (λ route. ap (λ (r : Retry). takes_new (is_request m.body) (setting_of t d.agent route) (state_of d.connections (record d.outbox { retry = r }) (values_of d.queries) d.next d.now d.taken) m) c.in_ok-saw.ensures.ok
     ∙ received_new (is_request m.body) (setting_of t d.agent route) (state_at d) m new)
     c.in-Ok.ensures.step

@@ -1,4 +1,5 @@
 use Rattle.std.proofs.Common.{◌≡◌, ◌<◌, ◌∙◌, ◌++◌, List, All, length, refl, sym, ap, subst}
+use Rattle.std.specs.Map.{values_of}
 use Rattle.std.proofs.lemmas.List.{append-nil}
 use Rattle.agent_state.specs.declared.parent.Due.{Due}
 use Rattle.aggregator_agent.specs.declared.outbox.Outbox.{Outbox}
@@ -38,8 +39,8 @@ returns-clause-step c =
     record {
       all = λ t route.
           record {
-            state = ticked_state (setting_of t d.agent route) c.args.now late bs c.clock.new.self d.outbox p d.queries.items d.next c.in_ok-said.said.next d.now d.taken is all.bonds all.waits told all.next;
-            said = all.out ∙ sym (ticked_out (setting_of t d.agent route) c.args.now late bs d.outbox d.queries.items d.next d.now d.taken is);
+            state = ticked_state (setting_of t d.agent route) c.args.now late bs c.clock.new.self d.outbox p (values_of d.queries) d.next c.in_ok-said.said.next d.now d.taken is all.bonds all.waits told all.next;
+            said = all.out ∙ sym (ticked_out (setting_of t d.agent route) c.args.now late bs d.outbox (values_of d.queries) d.next d.now d.taken is);
           };
       agent = refl;
       err = tt;
