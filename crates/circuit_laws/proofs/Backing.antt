@@ -37,12 +37,12 @@ use Rattle.circuit_laws.proofs.Requesters.{views_are_in_step, views_are_backed}
 use Rattle.circuit_laws.proofs.Aggregators.{children_are_in_step, children_are_backed}
 
 -- a list in which something stands is there
-list_there : {X : Type 0} (css : List (List X)) (n i : ℕ) (x : X) → slice_get (get_or css n []) i ≡ Some x → slice_get css n ≡ Some (get_or css n [])
+pub list_there : {X : Type 0} (css : List (List X)) (n i : ℕ) (x : X) → slice_get (get_or css n []) i ≡ Some x → slice_get css n ≡ Some (get_or css n [])
 list_there [] n i x e = absurd (cc)
 list_there (c ∷ cs) zero i x e = refl
 list_there (c ∷ cs) (suc n) i x e = list_there cs n i x e
 
-place_there : {X : Type 0} (xs : List X) (x : X) (its : Contains xs x) → slice_get xs its.0 ≡ Some x
+pub place_there : {X : Type 0} (xs : List X) (x : X) (its : Contains xs x) → slice_get xs its.0 ≡ Some x
 place_there xs x its = got_at xs its.0 x x its.1 its.2
 
 module _ (laws : AreLaws) (heard : HeardWasSent) (t : Network) (routes : Routes) (events : List Event) (sound : IsSound t) (formed : IsWellFormed t) (routed : AreRoutes t routes) (allowed : AreAllowed (home_in t routes) empty events) (a k : ℕ) (agent : IsAgent (home_in t routes) a) (cut : IsCutOf (world_after empty events) a k) where
@@ -56,7 +56,7 @@ module _ (laws : AreLaws) (heard : HeardWasSent) (t : Network) (routes : Routes)
   s = state_of_cut homes w a k
 
   abbrev Stands : ChildConnection → Type 0
-  Stands x = (b : ℕ) × IsChildOf homes a x.child b × AreBackedIn homes w a b x × Steps homes w a b x
+  Stands x = (b : ℕ) × IsChildOf t homes a x.child b × AreBackedIn homes w a b x × Steps homes w a b x
 
   place : IsPlaceOf w a k
   place = (cut.synced, cut.within)
@@ -65,7 +65,7 @@ module _ (laws : AreLaws) (heard : HeardWasSent) (t : Network) (routes : Routes)
   are_of = views_are_of laws homes (given_in t routes) w (heard homes events allowed) a k
 
   -- a child whom it asks
-  child : (role : Role) → (homes a).role ≡ role → (name : List ℕ) → Asks role name → (b : ℕ) × IsChildOf homes a name b
+  child : (role : Role) → (homes a).role ≡ role → (name : List ℕ) → Asks role name → (b : ℕ) × IsChildOf t homes a name b
   child role e name asks = asks_others t routes sound formed routed a name (subst (λ (r : Role). Asks r name) (sym e) asks)
 
   view_stands : (setting : RequesterSetting) → (homes a).role ≡ requests setting → (v : View) → Contains s.views v → Stands v.child

@@ -1,10 +1,9 @@
--- What an aggregator's own records have as committed stands with all their children, in every cut of a run.
-use Rattle.std.proofs.Common.{ℕ, ◌≡◌, ◌<◌, ◌∙◌, ◌⊎◌, inl, inr, Bool, true, false, List, [], ◌∷◌, ◌++◌, length, get_or, take, Contains, Option, Some, refl, sym, ap, subst, arith, true≢false}
+-- An aggregator's own records fit the views of their children, in every cut of a run.
+use Rattle.std.proofs.Common.{ℕ, ◌≡◌, ◌<◌, ◌∙◌, ◌⊎◌, inl, inr, Bool, true, false, List, [], ◌∷◌, ◌++◌, length, get_or, take, Contains, Option, Some, refl, sym, ap, subst, true≢false}
 use Rattle.std.specs.List.{All}
 use Rattle.std.proofs.lemmas.Bool.{cases_eq}
 use Rattle.std.proofs.lemmas.List.{get_or_default}
 use Rattle.std.proofs.lemmas.List.Elements.{All-weaker, All-take, All-contains}
-use Rattle.std.proofs.lemmas.Option.{get_or_from_slice_get}
 use Rattle.std.proofs.lemmas.Slice.Eq.{bytes_eq-Decides}
 use Rattle.nsi_primitive.specs.Messages.{has_rows, is_request}
 use Rattle.nsi_primitive.specs.declared.entry.Entry.{Entry}
@@ -17,30 +16,28 @@ use Rattle.nsi_primitive.specs.declared.message.Header.{Header}
 use Rattle.nsi_primitive.specs.declared.message.Message.{Message}
 use Rattle.nsi_primitive.specs.declared.message.ReserveConfirmation.{ReserveConfirmation}
 use Rattle.nsi_primitive.specs.declared.message.ReserveRequest.{ReserveRequest}
+use Rattle.stp_topology.specs.declared.network.Network.{Network}
 use Rattle.record_index.proofs.Members.{nothing_in}
 use Rattle.child_connection.specs.Hearing.{Heard}
 use Rattle.child_connection.specs.Views.{ChildConnection, sent}
-use Rattle.connection_record.specs.declared.record.Record.{Record}
 use Rattle.connection_record.specs.Moves.{is_live}
 use Rattle.connection_record.specs.Speaking.{is_answering, is_asking, is_noting}
-use Rattle.agent_state.specs.State.{AgentState, blank_agent, record_at, children_at, no_record}
+use Rattle.agent_state.specs.State.{AgentState, blank_agent, record_at, children_at}
 use Rattle.aggregator_agent.specs.Asking.{may_abort}
 use Rattle.aggregator_agent.specs.Setting.{Setting as AggregatorSetting}
-use Rattle.nsi_agent.specs.Homes.{Role, aggregates, home_in}
+use Rattle.nsi_agent.specs.Homes.{Role, aggregates}
 use Rattle.nsi_agent.specs.Laws.{WhatIsSaidIsItsOwn}
 use Rattle.nsi_agent.specs.Steps.{after_as}
 use Rattle.nsi_agent.specs.Told.{Told, told, name_in, HasAsked, Asks, IsForIn, IsSaid, IsSaidAs}
 use Rattle.nsi_world.specs.Worlds.{Homes, IsAgent, World, empty, synced_part, IsSaidBy, IsSent, IsTo}
 use Rattle.nsi_world.specs.Runs.{is_requester, world_after, AreAllowed, MayCome, at}
 use Rattle.nsi_world.specs.Heard.{IsHeard, IsFair as IsFairWorld}
-use Rattle.nsi_world.specs.Laws.{HeardWasSent}
-use Rattle.run_growth.specs.Cuts.{state_of_cut}
 use Rattle.agent_speech.specs.Laws.{RequestCame, IsEven}
 use Rattle.agent_speech.proofs.Every.{blank_is_even}
 use Rattle.agent_speech.proofs.Spoken.{answers_were_asked}
 use Rattle.run_identities.specs.Cuts.{IsPlaceOf, cut, told_to, all_synced, IsGrown, begins, grows}
 use Rattle.run_identities.proofs.Grown.{at_same, gets_more, AreGrown, run_grown}
-use Rattle.run_identities.proofs.Sent.{Given, given_in, agents_same, front, got_sent, to_requester, request_by, request_asks, answer_asks}
+use Rattle.run_identities.proofs.Sent.{Given, agents_same, front, got_sent, to_requester, request_by, request_asks, answer_asks}
 use Rattle.run_identities.proofs.Worlds.{grown_fair, synced_cut, cut_at}
 use Rattle.circuit_link.specs.Children.{Child, about, header_of, IsFair}
 use Rattle.circuit_link.specs.Serving.{child_of}
@@ -49,11 +46,10 @@ use Rattle.circuit_pairs.specs.Pairs.{IsAsked, IsReserveOf, IsTerminateOf, IsPai
 use Rattle.circuit_pairs.specs.Minding.{no_child, mine}
 use Rattle.circuit_pairs.proofs.Minding.{connected, notice_alike}
 use Rattle.circuit_pairs.proofs.Parenting.{dec_pair, mine_own}
-use Rattle.circuit_fit.specs.Fits.{committed_of, IsCommittedBelow, WasAsked, IsReserveFor, IsHonest, Fits, AllFit, AllHonest, IsEnding, AllEnd}
+use Rattle.circuit_fit.specs.Fits.{WasAsked, IsReserveFor, IsHonest, AllFit, AllHonest, IsEnding, AllEnd}
 use Rattle.circuit_fit.proofs.Entering.{entries_keep_fit, entries_keep_ended, fresh_fits}
-use Rattle.circuit_laws.specs.Backed.{IsChildOf, IsBackedIn, HasView}
-use Rattle.circuit_laws.specs.Laws.{RunsAreBacked, CircuitsStand}
-use Rattle.circuit_laws.proofs.Leading.{AsksOthers, asks_others}
+use Rattle.circuit_laws.specs.Backed.{IsChildOf}
+use Rattle.circuit_laws.proofs.Leading.{AsksOthers}
 use Rattle.circuit_laws.proofs.Roles.{views_of, aggregates_keep, even_from}
 use Rattle.circuit_laws.proofs.Facts.{told_fair, told_once, answer_said}
 use Rattle.circuit_laws.proofs.Pairs.{told_none, told_more, grown_pair}
@@ -102,7 +98,7 @@ reserve_same p q e = cc
 reserve_request : (b : Body) (q : ReserveRequest) → b ≡ Body.Reserve q → is_request b ≡ true
 reserve_request b q e = ap is_request e
 
-module _ (own_law : WhatIsSaidIsItsOwn) (homes : Homes) (given : Given homes) (a : ℕ) (agent : IsAgent homes a) (setting : AggregatorSetting) (role : (homes a).role ≡ aggregates setting) (leads : AsksOthers homes a) where
+module _ (own_law : WhatIsSaidIsItsOwn) (t : Network) (homes : Homes) (given : Given homes) (a : ℕ) (agent : IsAgent homes a) (setting : AggregatorSetting) (role : (homes a).role ≡ aggregates setting) (leads : AsksOthers t homes a) where
   abbrev parent : List ℕ
   parent = name_in (homes a).role
 
@@ -143,9 +139,9 @@ module _ (own_law : WhatIsSaidIsItsOwn) (homes : Homes) (given : Given homes) (a
         All-contains (IsSaid (name_in (homes a).role) (Asks (homes a).role) (HasAsked (synced_part w a))) (told (homes a) (synced_part w a)).out n (own_law (homes a) (synced_part w a) all_for) by_a.1
         in
         let asks : Asks (homes a).role n.header.provider =
-        (subst (λ (t : Bool). IsSaidAs t (name_in (homes a).role) (Asks (homes a).role) (HasAsked (synced_part w a)) n) q.request says).1
+        (subst (λ (z : Bool). IsSaidAs z (name_in (homes a).role) (Asks (homes a).role) (HasAsked (synced_part w a)) n) q.request says).1
         in
-        let below : (b : ℕ) × IsChildOf homes a n.header.provider b = leads n.header.provider asks in
+        let below : (b : ℕ) × IsChildOf t homes a n.header.provider b = leads n.header.provider asks in
         record {
           b = below.0;
           other = below.1.agent;
@@ -266,33 +262,3 @@ module _ (own_law : WhatIsSaidIsItsOwn) (homes : Homes) (given : Given homes) (a
 
       grown : AreGrown homes w
       grown = run_grown homes events allowed
-
----- The law
-
-pub circuits_stand : WhatIsSaidIsItsOwn → HeardWasSent → RunsAreBacked → CircuitsStand
-circuits_stand own_law heard backed t routes events sound formed routed allowed a k n v setting own agent role place here there = record { some = below.some; each = each }
-  where
-    homes : Homes
-    homes = home_in t routes
-
-    w : World
-    w = world_after empty events
-
-    s : AgentState
-    s = state_of_cut homes w a k
-
-    xs : List ChildConnection
-    xs = children_at n s.children
-
-    fits : Fits (name_in (homes a).role) (told_to homes w a k).out (record_at n s.base.records) xs
-    fits = (cut_fits own_law homes (given_in t routes) a agent setting role (asks_others t routes sound formed routed a) events allowed k (place.synced, place.within)).0 n
-
-    below : IsCommittedBelow v xs
-    below = fits.committed v (subst (λ (r : Record). Contains (committed_of r) v) (sym (get_or_from_slice_get s.base.records n own no_record here)) there)
-
-    each : (x : ChildConnection) → Contains xs x → Contains x.committed v × (b : ℕ) × (c : ℕ) × IsChildOf homes a x.child b × IsBackedIn homes w a b x v c
-    each x its =
-        let has : Contains x.committed v = All-contains (λ (y : ChildConnection). Contains y.committed v) xs x below.each its in
-        let (b, child, all) = backed t routes events sound formed routed allowed a k x agent place (subst (λ (r : Role). HasView r s x) (sym role) (n, its)) in
-        let one : IsBackedIn homes w a b x (get_or x.committed has.0 0) (get_or all.own has.0 0) = all.each has.0 (omega (arith, has.1, all.long)) in
-        (has, b, get_or all.own has.0 0, child, subst (λ (u : ℕ). IsBackedIn homes w a b x u (get_or all.own has.0 0)) (get_or_default x.committed has.0 0 v has.1 ∙ has.2) one)

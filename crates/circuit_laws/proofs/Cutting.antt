@@ -62,7 +62,7 @@ module _ (homes : Homes) (given : Given homes) (events : List Event) (allowed : 
   grown = run_grown homes events allowed
 
   -- both in their own cuts
-  cut_pair : (j : ℕ) → IsPlaceOf w b j → IsPair I parent child (views mine.state) mine.out (child_at homes w b j)
+  pub cut_pair : (j : ℕ) → IsPlaceOf w b j → IsPair I parent child (views mine.state) mine.out (child_at homes w b j)
   cut_pair j there =
       subst (λ (es : List Entry). IsPair I parent child (views (told (homes a) es).state) (told (homes a) es).out (child_at homes w b j)) (ap (λ (n : ℕ). take n (w.journal a)) (at_same a k (at b j w.synced)))
       (subst (λ (es : List Entry). IsPair I parent child (views (told (homes a) (cut w c a)).state) (told (homes a) (cut w c a)).out (child_of (told (homes b) es).state.base (told (homes b) es).out))

@@ -1,5 +1,6 @@
 mod Rows
-mod AggregatorRun
+pub mod OneWay
+pub mod AggregatorRun
 pub mod Roles
 pub mod Facts
 pub mod Pairs
@@ -11,4 +12,8 @@ pub mod Leading
 pub mod Whose
 pub mod Backing
 pub mod Circuits
+pub mod Ways
+pub mod Living
+pub mod Criteria
+pub mod Standing
 pub mod Nothing

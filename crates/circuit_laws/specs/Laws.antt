@@ -1,12 +1,12 @@
 -- The laws of circuits in runs: how each view of a parent stands against the record of its child.
-use Rattle.std.specs.Prelude.{ℕ, ◌≡◌, ◌≢◌, ◌<◌, length, false, List, Option, Some, None, slice_get}
+use Rattle.std.specs.Prelude.{ℕ, ◌≡◌, ◌≢◌, ◌<◌, length, false, List, Option, Some, None, Contains, slice_get}
 use Rattle.nsi_primitive.specs.declared.entry.Event.{Event}
 use Rattle.nsi_primitive.specs.declared.kind.Kind.{Kind}
 use Rattle.nsi_primitive.specs.declared.state.Rsm.{Rsm}
 use Rattle.stp_topology.specs.Laws.{IsWellFormed}
 use Rattle.stp_topology.specs.Sound.{IsSound}
 use Rattle.stp_topology.specs.declared.network.Network.{Network}
-use Rattle.agent_state.specs.State.{record_at}
+use Rattle.agent_state.specs.State.{record_at, children_at}
 use Rattle.agent_state.specs.declared.parent.View.{View}
 use Rattle.child_connection.specs.Views.{ChildConnection, sent}
 use Rattle.connection_record.specs.declared.record.Record.{Record}
@@ -15,13 +15,15 @@ use Rattle.requester_agent.specs.Setting.{Setting as RequesterSetting}
 use Rattle.aggregator_agent.specs.Setting.{Setting as AggregatorSetting}
 use Rattle.nsi_agent.specs.Homes.{Routes, AreRoutes, requests, aggregates, home_in}
 use Rattle.nsi_world.specs.Worlds.{Homes, IsAgent, World, empty}
-use Rattle.nsi_world.specs.Runs.{is_requester, world_after, AreAllowed}
+use Rattle.nsi_world.specs.Runs.{is_requester, world_after, AreAllowed, IsRun}
+use Rattle.run_growth.specs.Cuts.{IsCutOf, state_of_cut}
+use Rattle.run_growth.specs.InStep.{versions_of}
 use Rattle.run_identities.specs.Cuts.{IsPlaceOf, told_to}
 use Rattle.circuit_link.specs.Sides.{standing_of}
 use Rattle.circuit_link.specs.Links.{InStep, Stands, Waits}
 use Rattle.circuit_link.specs.Children.{Child, record_of, side_of}
 use Rattle.circuit_link.specs.Serving.{child_of}
-use Rattle.circuit_laws.specs.Backed.{AreBackedIn, EachViewIsBacked, EachViewRises, EachCircuitStands}
+use Rattle.circuit_laws.specs.Backed.{AreBackedIn, EachViewIsBacked, EachViewRises, IsCircuit, EachCircuitStands, EachChildLives, NoRecordIsShared, EachCriteriaWasAskedFor}
 
 -- what an agent keeps and has said by the entries before a place, as the views of those who ask it see it
 abbrev pub child_at : Homes → World → (b j : ℕ) → Child
@@ -127,17 +129,52 @@ ChildrenKnowTheirOwn =
 ---- Every run
 
 -- in the world that the events of a run make, in a topology that a text gives
-abbrev pub InEveryRun : (Homes → World → Type 0) → Type 0
+abbrev pub InEveryRun : (Network → Homes → World → Type 0) → Type 0
 InEveryRun Holds =
     (t : Network) (routes : Routes) (events : List Event) → IsSound t → IsWellFormed t → AreRoutes t routes → AreAllowed (home_in t routes) empty events →
-    Holds (home_in t routes) (world_after empty events)
+    Holds t (home_in t routes) (world_after empty events)
 
 -- whose views these are is known too: no premise names the child
 abbrev pub RunsAreBacked : Type 0
 RunsAreBacked = InEveryRun EachViewIsBacked
 
 abbrev pub ViewsRise : Type 0
-ViewsRise = InEveryRun EachViewRises
+ViewsRise = InEveryRun (λ t homes w. EachViewRises homes w)
+
+abbrev pub RecordsAreApart : Type 0
+RecordsAreApart = InEveryRun NoRecordIsShared
+
+abbrev pub ChildrenLive : Type 0
+ChildrenLive = InEveryRun EachChildLives
+
+abbrev pub CriteriaWereAskedFor : Type 0
+CriteriaWereAskedFor = (homes : Homes) (events : List Event) → AreAllowed homes empty events → EachCriteriaWasAskedFor homes (world_after empty events)
 
 abbrev pub CircuitsStand : Type 0
 CircuitsStand = InEveryRun EachCircuitStands
+
+---- There are circuits
+
+-- A run of a topology that a text gives, over the legs of its least paths; and whatever a crash leaves of an aggregator by so many entries, a version
+-- that a record of it has as committed is a circuit of two children.
+pub record IsCircuitRun (t : Network) (routes : Routes) (events : List Event) : Type 0 where
+  pub sound : IsSound t
+  pub formed : IsWellFormed t
+  pub routed : AreRoutes t routes
+  pub run : IsRun (home_in t routes) events
+  pub agent : ℕ
+  pub cut : ℕ
+  pub place : ℕ
+  pub version : ℕ
+  pub setting : AggregatorSetting
+  pub own : Record
+  pub is_agent : IsAgent (home_in t routes) agent
+  pub role : (home_in t routes agent).role ≡ aggregates setting
+  pub is_cut : IsCutOf (world_after empty events) agent cut
+  pub there : slice_get (state_of_cut (home_in t routes) (world_after empty events) agent cut).base.records place ≡ Some own
+  pub committed : Contains (versions_of own) version
+  pub two : length (children_at place (state_of_cut (home_in t routes) (world_after empty events) agent cut).children) ≡ 2
+  pub circuit : IsCircuit t (home_in t routes) (world_after empty events) agent own (children_at place (state_of_cut (home_in t routes) (world_after empty events) agent cut).children) version
+
+abbrev pub CircuitsAreReached : Type 0
+CircuitsAreReached = (t : Network) × (routes : Routes) × (events : List Event) × IsCircuitRun t routes events

@@ -1,8 +1,9 @@
 //! The laws of circuits in runs. Each function is its contract.
 
-ghost use Rattle.circuit_laws.specs.Laws.{ViewsHavePhases, ChildrenHavePhases, ViewsAreInStep, ChildrenAreInStep, ViewsAreBacked, ChildrenAreBacked, ViewsKnowTheirOwn, ChildrenKnowTheirOwn, RunsAreBacked, ViewsRise, CircuitsStand};
+ghost use Rattle.circuit_laws.specs.Laws.{ViewsHavePhases, ChildrenHavePhases, ViewsAreInStep, ChildrenAreInStep, ViewsAreBacked, ChildrenAreBacked, ViewsKnowTheirOwn, ChildrenKnowTheirOwn, RunsAreBacked, ViewsRise, RecordsAreApart, ChildrenLive, CriteriaWereAskedFor, CircuitsStand, CircuitsAreReached};
 
 use child_connection::laws::places;
+use least_routes::laws::{least_path_or_none, routes_exist};
 use nsi_world::laws::{agents, sent};
 use run_growth::laws::{in_step, rising};
 
@@ -28,10 +29,11 @@ pub fn backing()
     sent();
 }
 
-/// No two such views know one connection.
+/// No two such views know one connection, and so no two views of an aggregator are backed by one record.
 pub fn known()
     ensures views { ViewsKnowTheirOwn }
     ensures children { ChildrenKnowTheirOwn }
+    ensures records { RecordsAreApart }
 {}
 
 /// Whatever a crash leaves of an agent, each of its views is of another agent, no requester, and that one backs so all that the view has as
@@ -46,12 +48,38 @@ pub fn views()
     in_step();
 }
 
-/// What an aggregator's own record has as committed stands in each network on its way, by what that network has synced: a circuit that is
-/// confirmed from end to end is there, whatever was lost, came twice or came late, and whoever began again from what was synced.
+/// What a record of an agent has as committed was asked for by its owner: a reserve that was sent has its schedule and capacity, and its version
+/// where it gives one.
+pub fn asked_for()
+    ensures { CriteriaWereAskedFor }
+{
+    sent();
+}
+
+/// While a connection of an aggregator lives, so do the records of its children: none is terminated, nor about to be, before the connection is.
+pub fn living()
+    ensures { ChildrenLive }
+{
+    agents();
+}
+
+/// What an aggregator's own record has as committed stands in each network on the least path between its points, by what that network has synced: a
+/// circuit that is confirmed from end to end is there, whatever was lost, came twice or came late, and whoever began again from what was synced.
+/// Each leg of that path is of a child with a record of its own, which lives while the circuit does.
 pub fn circuits()
     ensures { CircuitsStand }
 {
+    least_path_or_none();
     views();
+    living();
     sent();
     agents();
+}
+
+/// And there are circuits: in a topology that a text gives, over the legs of its least paths, a run reaches one of two children.
+pub fn reached()
+    ensures { CircuitsAreReached }
+{
+    least_path_or_none();
+    routes_exist();
 }

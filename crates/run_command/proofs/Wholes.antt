@@ -1,5 +1,5 @@
 -- A play is a safe run that asks the whole script, and comes to rest; so is each front of it a safe run.
-use Rattle.std.proofs.Common.{ℕ, zero, suc, ◌≡◌, ◌≤◌, List, [], ◌∷◌, ◌++◌, length, take, refl, subst, arith}
+use Rattle.std.proofs.Common.{ℕ, zero, suc, ◌≡◌, ◌≤◌, List, [], ◌∷◌, ◌++◌, length, take, arith}
 use Rattle.std.specs.List.{All}
 use Rattle.std.proofs.lemmas.List.Elements.{All-nil, All-cons, All-head, All-tail, All-append}
 use Rattle.nsi_primitive.specs.declared.entry.Event.{Event}
@@ -11,21 +11,15 @@ use Rattle.nsi_script.specs.declared.script.Group.{Group}
 use Rattle.nsi_script.specs.declared.script.Script.{Script}
 use Rattle.nsi_script.specs.Fits.{Fits, IsActOf, IsRising}
 use Rattle.nsi_script.specs.Scripts.{acts_of, seconds_of}
-use Rattle.nsi_agent.specs.Homes.{Routes, AreRoutes, home_in}
+use Rattle.nsi_agent.specs.Homes.{Routes, AreRoutes}
 use Rattle.nsi_play.specs.Openings.{plans_of}
 use Rattle.nsi_play.specs.Rounds.{Net}
 use Rattle.nsi_play.specs.Play.{IsPlay}
-use Rattle.nsi_world.specs.Worlds.{World, empty}
-use Rattle.nsi_world.specs.Runs.{IsRun, world_after, AreAllowed, asks_of, numbered}
 use Rattle.nsi_world.specs.Laws.{PlayIsRun, PlayRests, AsksWhole}
-use Rattle.run_growth.proofs.Worlds.{allowed_front}
-use Rattle.safe_runs.specs.Safe.{InEachWorld, IsSafeAtEachAgent}
-use Rattle.safe_runs.specs.Laws.{EveryRunIsSafe, EveryPlayIsSafe}
-use Rattle.circuit_laws.specs.Backed.{EachViewIsBacked, EachViewRises, EachCircuitStands}
-use Rattle.circuit_laws.specs.Laws.{RunsAreBacked, ViewsRise, CircuitsStand}
-use Rattle.circuit_laws.proofs.Nothing.{nothing_is_unbacked, nothing_falls, no_circuit_lacks}
+use Rattle.run_safety.specs.Safe.{IsSafeRun}
+use Rattle.run_safety.specs.Laws.{EveryRunIsSafe}
 use Rattle.settled_play.specs.Settled.{PlaySettles, PlayLeavesNone}
-use Rattle.run_command.specs.Runs.{IsSafeRun, IsWholeRun}
+use Rattle.run_command.specs.Runs.{IsWholeRun}
 
 -- a play of no more events than that is such a run
 abbrev pub PlaysRun : ℕ → Network → Script → Type 0
@@ -37,34 +31,15 @@ pub record PlayLaws : Type 0 where
   pub is_run : PlayIsRun
   pub rests : PlayRests
   pub asks : AsksWhole
-  pub safe : EveryPlayIsSafe
-  pub backed : RunsAreBacked
-  pub rising : ViewsRise
-  pub circuits : CircuitsStand
+  pub safe : EveryRunIsSafe
   pub left : PlaySettles
   pub over : PlayLeavesNone
-
--- a run of a topology that a text gives is safe
-safe_run : PlayLaws → (t : Network) (routes : Routes) (events : List Event) → IsSound t → IsWellFormed t → AreRoutes t routes → IsRun (home_in t routes) events →
-    IsSafeAtEachAgent t routes events → IsSafeRun t routes events
-safe_run laws t routes events sound well are run safe =
-    record {
-      run = run;
-      safe = safe;
-      backed = λ earlier later e. laws.backed t routes earlier sound well are (front earlier later e);
-      rising = λ earlier later e. laws.rising t routes earlier sound well are (front earlier later e);
-      circuits = λ earlier later e. laws.circuits t routes earlier sound well are (front earlier later e);
-    }
-  where
-    front : (earlier later : List Event) → events ≡ earlier ++ later → AreAllowed (home_in t routes) empty earlier
-    front earlier later e = allowed_front (home_in t routes) empty earlier later (subst (AreAllowed (home_in t routes) empty) e run.allowed)
 
 pub plays_run : PlayLaws → (limit : ℕ) (t : Network) (s : Script) → limit ≤ 2000000 → IsSound t → IsWellFormed t → Fits t s → PlaysRun limit t s
 plays_run laws limit t s few sound well fits = λ events last play within routes r.
     record {
-      run = safe_run laws t routes events sound well r
-          (laws.is_run t routes (plans_of s.lose) s.groups events last well fits.rising fits.acts (play routes r) (omega (arith, few, within)))
-          (laws.safe t routes (plans_of s.lose) s.groups events last well fits.rising fits.acts (play routes r) (omega (arith, few, within)));
+      run = laws.safe t routes events sound well r
+          (laws.is_run t routes (plans_of s.lose) s.groups events last well fits.rising fits.acts (play routes r) (omega (arith, few, within)));
       asks = laws.asks t routes (plans_of s.lose) s.groups events last well fits.rising fits.acts (play routes r);
       rests = laws.rests t routes (plans_of s.lose) s.groups events last well fits.rising fits.acts (play routes r);
       left = laws.left t routes (plans_of s.lose) s.groups events last sound well r fits.rising fits.acts (play routes r);
@@ -99,35 +74,5 @@ pub fronts_run : PlayLaws → (limit : ℕ) (t : Network) (s : Script) → limit
 fronts_run laws limit t s few sound well fits = λ groups events last play within routes r.
     let rising = rising_take groups s.groups fits.rising in
     let acts = acts_take (IsActOf t) groups s.groups fits.acts in
-    safe_run laws t routes events sound well r
+    laws.safe t routes events sound well r
     (laws.is_run t routes (plans_of s.lose) (take groups s.groups) events last well rising acts (play routes r) (omega (arith, few, within)))
-    (laws.safe t routes (plans_of s.lose) (take groups s.groups) events last well rising acts (play routes r) (omega (arith, few, within)))
-
----- No events
-
--- where nothing has happened, a run is safe
-abbrev pub NothingRuns : Type 0
-NothingRuns = (t : Network) (routes : Routes) → IsSafeRun t routes []
-
-nothing_allowed : (t : Network) (routes : Routes) → AreAllowed (home_in t routes) empty []
-unfolding AreAllowed
-nothing_allowed t routes = tt
-
-nothing_asked : asks_of [] ≡ numbered 0 []
-unfolding asks_of numbered
-nothing_asked = refl
-
-in_no_world : (Holds : World → Type 0) → Holds empty → InEachWorld [] Holds
-unfolding world_after
-in_no_world Holds h [] later e = h
-in_no_world Holds h (x ∷ earlier) later e = absurd (cc)
-
-pub nothing_runs : EveryRunIsSafe → NothingRuns
-nothing_runs safe = λ t routes.
-    record {
-      run = record { allowed = nothing_allowed t routes; wishes = []; asked = nothing_asked };
-      safe = safe t routes [] (nothing_allowed t routes);
-      backed = in_no_world (EachViewIsBacked (home_in t routes)) (nothing_is_unbacked (home_in t routes));
-      rising = in_no_world (EachViewRises (home_in t routes)) (nothing_falls (home_in t routes));
-      circuits = in_no_world (EachCircuitStands (home_in t routes)) (no_circuit_lacks (home_in t routes));
-    }

@@ -16,11 +16,10 @@ use Rattle.nsi_play.specs.Openings.{plans_of}
 use Rattle.nsi_play.specs.Play.{IsPlay, Passes}
 use Rattle.nsi_play.specs.Rounds.{Net}
 use Rattle.nsi_world.specs.Worlds.{empty, said}
-use Rattle.nsi_world.specs.Runs.{IsRun, world_after, asks_of, numbered}
+use Rattle.nsi_world.specs.Runs.{world_after, asks_of, numbered}
 use Rattle.nsi_world.specs.Scripts.{wishes_of}
 use Rattle.nsi_world.specs.Laws.{IsAtRest}
-use Rattle.safe_runs.specs.Safe.{InEachWorld, IsSafeAtEachAgent}
-use Rattle.circuit_laws.specs.Backed.{EachViewIsBacked, EachViewRises, EachCircuitStands}
+use Rattle.run_safety.specs.Safe.{IsSafeRun}
 use Rattle.settled_play.specs.Settled.{LeavesOnlyLost, LoseNothing, IsDone}
 use Rattle.run_totals.specs.Totals.{totals_of}
 use Rattle.run_totals.specs.declared.totals.Totals.{Totals}
@@ -46,15 +45,6 @@ closing_line Report.Trace n = settled_line n.events
 closing_line Report.Summary n = summary_line n
 
 ---- Plays
-
--- Events that are a run, which is safe: at each agent; and, in each world that a front of them makes, whatever a crash leaves of an agent, what a view
--- has as committed rises and is backed by the agent that it is of, and what an aggregator's record has stands in each network on its way.
-pub record IsSafeRun (t : Network) (routes : Routes) (events : List Event) : Type 0 where
-  pub run : IsRun (home_in t routes) events
-  pub safe : IsSafeAtEachAgent t routes events
-  pub backed : InEachWorld events (EachViewIsBacked (home_in t routes))
-  pub rising : InEachWorld events (EachViewRises (home_in t routes))
-  pub circuits : InEachWorld events (EachCircuitStands (home_in t routes))
 
 -- the play of some first groups of a script, which has no more events than that, and is such a run whichever legs are those of the least paths
 pub record IsTextOf (options : RunOptions) (t : Network) (script : Script) (groups : ℕ) (events : List Event) : Type 0 where

@@ -15,7 +15,6 @@ ghost use Rattle.run_command.specs.Runs.{Runs, Begins, Breaks, KeepsRun, closing
 use crate::reading::{Declared, read_declared};
 use crate::texts::closing_line;
 use agent_threads::{Resources, RunFault, RunOptions};
-use circuit_laws::laws::{circuits, views};
 use fault_lines::{disk_fault_text, script_fault, topology_fault};
 use line_reader::{ReadError, read_whole};
 use net_run::run_world;
@@ -24,8 +23,8 @@ use nsi_disk::Shelf;
 use nsi_outside::{Sink, SinkError, Source, write_all};
 use nsi_script::{Script, ScriptFault, ScriptRefusal, read_script};
 use nsi_world::laws::{asks_whole, play_runs};
+use run_safety::laws::{every_run_safe, nothing_safe};
 use run_totals::{Report, Totals};
-use safe_runs::laws::{every_play_safe_at_each_agent, every_run_safe_at_each_agent};
 use settled_play::laws::settled;
 use std::alloc::Global;
 use std::thread::Threads;
@@ -144,9 +143,7 @@ where
     topology.laws();
     play_runs();
     asks_whole();
-    every_play_safe_at_each_agent();
-    views();
-    circuits();
+    every_run_safe();
     settled();
     match run_world(resources, topology, script, options, shelf, out) {
         Ok(totals) => tell_totals(resources.alloc, out, options.report, totals),
@@ -176,7 +173,7 @@ where
     ensures journals { result ≡ RunEnd.Done →
         KeepsRun bytes.now (H.holds shelf.old) (H.holds shelf.new) }
 {
-    every_run_safe_at_each_agent();
+    nothing_safe();
     let alloc = resources.alloc;
     match read_script(
         alloc,
@@ -209,7 +206,7 @@ where
     ensures journals { result ≡ RunEnd.Done →
         KeepsRun bytes.now (H.holds shelf.old) (H.holds shelf.new) }
 {
-    every_run_safe_at_each_agent();
+    nothing_safe();
     let alloc = resources.alloc;
     match read_declared(alloc, bytes) {
         Ok(declared) => run_script(resources, options, bytes, &declared, out, shelf),
@@ -263,7 +260,7 @@ where
     ensures journals { result ≡ RunEnd.Done → IfSome (S.left input.old)
         (λ bytes. KeepsRun bytes (H.holds shelf.old) (H.holds shelf.new)) }
 {
-    every_run_safe_at_each_agent();
+    nothing_safe();
     match read_whole(resources.alloc, input, GREATEST_INPUT) {
         Ok(Some(bytes)) => run_bytes(resources, options, &bytes, out, shelf),
         Ok(None) => close(out, b"fault long\n", RunEnd::Long),
@@ -277,5 +274,5 @@ pub fn begins_with_nothing()
     ensures { (options : _) (left old : Option (List ℕ)) → IfSome left
         (λ bytes. WritesSomeFront (Begins options bytes) old old) }
 {
-    every_run_safe_at_each_agent();
+    nothing_safe();
 }

@@ -12,10 +12,7 @@ returns-in-Ok-clause-played g c =
       is_run = c.play_runs.ensures.whole;
       rests = c.play_runs.ensures.rests;
       asks = c.asks_whole.ensures;
-      safe = c.every_play_safe_at_each_agent.ensures;
-      backed = c.views.ensures.backed;
-      rising = c.views.ensures.rise;
-      circuits = c.circuits.ensures;
+      safe = c.every_run_safe.ensures;
       left = c.settled.ensures.counts;
       over = c.settled.ensures.each;
     }
@@ -41,10 +38,7 @@ returns-in-Err-clause-played g c =
       is_run = c.play_runs.ensures.whole;
       rests = c.play_runs.ensures.rests;
       asks = c.asks_whole.ensures;
-      safe = c.every_play_safe_at_each_agent.ensures;
-      backed = c.views.ensures.backed;
-      rising = c.views.ensures.rise;
-      circuits = c.circuits.ensures;
+      safe = c.every_run_safe.ensures;
       left = c.settled.ensures.counts;
       over = c.settled.ensures.each;
     }

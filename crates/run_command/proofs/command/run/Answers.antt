@@ -1,6 +1,5 @@
 use Rattle.std.proofs.Common.{inl, Ok, Err, ap}
 use Rattle.run_command.specs.declared.command.RunEnd.{RunEnd}
-use Rattle.run_command.proofs.Wholes.{nothing_runs}
 use Rattle.run_command.proofs.Running.{kinds}
 use Rattle.run_command.proofs.Inputs.{nothing_begun, long_begun}
 use Rattle.run_command.proofs.command.run.Goals as goal
@@ -16,7 +15,7 @@ pub returns-in-Err-NoMemory-clause-unfinished : goal.returns-in-Err-NoMemory-cla
 returns-in-Err-NoMemory-clause-unfinished g c = λ _.
     inl (
       c.in-Err-NoMemory.ensures.memory (ap (λ e. Err e) c.in-Err-NoMemory.field-0-is),
-      nothing_begun (nothing_runs c.every_run_safe_at_each_agent.ensures) c.args.options (g.S.Source.left c.args.input.now) (g.K.Sink.content c.args.out.now),
+      nothing_begun c.nothing_safe.ensures c.args.options (g.S.Source.left c.args.input.now) (g.K.Sink.content c.args.out.now),
     )
 
 pub returns-in-Ok-None-clause-journals : goal.returns-in-Ok-None-clause-journals

@@ -1,5 +1,4 @@
 use Rattle.run_command.specs.declared.command.RunEnd.{RunEnd}
-use Rattle.run_command.proofs.Wholes.{nothing_runs}
 use Rattle.run_command.proofs.Running.{kinds}
 use Rattle.run_command.proofs.Inputs.{played_read, bad_script_read, wanting_read, are_read}
 use Rattle.run_command.proofs.command.run_script.Goals as goal
@@ -22,7 +21,7 @@ pub returns-in-Err-Fault-clause-journals : goal.returns-in-Err-Fault-clause-jour
 returns-in-Err-Fault-clause-journals g c = λ done. absurd (kinds RunEnd.BadScript c.bad_script.result c.bad_script.ensures.kind (λ d. cc) done)
 
 pub returns-in-Err-NoMemory-clause-read : goal.returns-in-Err-NoMemory-clause-read
-returns-in-Err-NoMemory-clause-read g c = wanting_read (nothing_runs c.every_run_safe_at_each_agent.ensures) c.args.options c.args.bytes.now (g.K.Sink.content c.args.out.now) _ _
+returns-in-Err-NoMemory-clause-read g c = wanting_read c.nothing_safe.ensures c.args.options c.args.bytes.now (g.K.Sink.content c.args.out.now) _ _
 
 pub returns-in-Err-NoMemory-clause-journals : goal.returns-in-Err-NoMemory-clause-journals
 returns-in-Err-NoMemory-clause-journals g c = λ done. cc

@@ -1,0 +1,298 @@
+-- What a record has as committed, or pending, its owner has asked for.
+use Rattle.std.proofs.Common.{ℕ, zero, suc, ◌≡◌, ◌∙◌, ◌⊎◌, inl, inr, false, List, [], ◌∷◌, ◌++◌, length, take, slice_set, Contains, Option, Some, None, option_to_list, refl, sym, ap, subst, arith}
+use Rattle.std.proofs.lemmas.Bool.{cases_eq}
+use Rattle.std.proofs.lemmas.List.Elements.{All-contains, All-take, Contains-append_left, Contains-append_right, Contains-append_cases}
+use Rattle.std.proofs.lemmas.Option.{get_or_from_slice_get}
+use Rattle.nsi_base.specs.Range.{Span, span_of}
+use Rattle.nsi_primitive.specs.declared.entry.Entry.{Entry}
+use Rattle.nsi_primitive.specs.declared.entry.Input.{Input}
+use Rattle.nsi_primitive.specs.declared.kind.Kind.{Kind}
+use Rattle.nsi_primitive.specs.declared.message.Body.{Body}
+use Rattle.nsi_primitive.specs.declared.message.Criteria.{Criteria}
+use Rattle.nsi_primitive.specs.declared.message.Header.{Header}
+use Rattle.nsi_primitive.specs.declared.message.Message.{Message}
+use Rattle.nsi_primitive.specs.declared.message.ReserveRequest.{ReserveRequest}
+use Rattle.nsi_primitive.specs.declared.message.Service.{Service}
+use Rattle.nsi_primitive.specs.declared.state.Rsm.{Rsm}
+use Rattle.nsi_primitive.specs.declared.state.Side.{Side}
+use Rattle.reserve_machine.specs.Table.{step as reserve_step}
+use Rattle.record_index.proofs.Members.{nothing_in}
+use Rattle.connection_record.specs.declared.life.LifecycleMove.{LifecycleMove}
+use Rattle.connection_record.specs.declared.moves.ReservationMove.{ReservationMove}
+use Rattle.connection_record.specs.declared.moves.Reply.{Reply}
+use Rattle.connection_record.specs.declared.provisioning.ProvisionMove.{ProvisionMove}
+use Rattle.connection_record.specs.declared.record.Record.{Record}
+use Rattle.connection_record.specs.Applied.{reserve_move, moves, moves_if, requested}
+use Rattle.connection_record.specs.Courses.{IsOwn, IsAct, Course}
+use Rattle.connection_record.specs.Demand.{last}
+use Rattle.connection_record.specs.Lives.{provisions, lives}
+use Rattle.connection_record.specs.Moves.{event_of, reserves, reserves_if, reservation_does, fits, asked_version, criteria_with, asked_criteria, fresh}
+use Rattle.connection_record.specs.Replies.{Moved, by_row}
+use Rattle.connection_record.proofs.Courses.{course_after}
+use Rattle.connection_record.proofs.Growing.{moves_if_later}
+use Rattle.agent_state.specs.State.{AgentState, no_record, record_at, blank_agent}
+use Rattle.nsi_agent.specs.Homes.{Home}
+use Rattle.nsi_agent.specs.Steps.{after}
+use Rattle.nsi_agent.specs.Told.{told, goes_on, name_in}
+use Rattle.nsi_world.specs.Worlds.{Homes, World, empty}
+use Rattle.nsi_world.specs.Runs.{is_requester, world_after}
+use Rattle.nsi_world.specs.Heard.{WasSent, IsHeard}
+use Rattle.nsi_world.specs.Laws.{HeardWasSent}
+use Rattle.run_growth.specs.Cuts.{state_of_cut}
+use Rattle.circuit_link.specs.Children.{Child}
+use Rattle.circuit_link.specs.Serving.{child_of, Serves, taken_by}
+use Rattle.circuit_link.proofs.Answering.{only_one}
+use Rattle.circuit_link.proofs.Opening.{last_here, last_there}
+use Rattle.circuit_fit.proofs.Owning.{lives_as, provisions_as}
+use Rattle.circuit_laws.specs.Backed.{AsksFor, WasAskedFor}
+use Rattle.circuit_laws.specs.Laws.{CriteriaWereAskedFor}
+use Rattle.circuit_laws.proofs.Roles.{serves_as}
+
+---- A record by itself
+
+-- it has criteria as committed, or pending
+abbrev Has : Record → Criteria → Type 0
+Has r k = Contains r.committed k ⊎ (r.pending ≡ Some k)
+
+-- what it has then it had before
+abbrev HadAll : Record → Record → Type 0
+HadAll r q = (k : Criteria) → Has q k → Has r k
+
+kept : (r q : Record) → q.committed ≡ r.committed → q.pending ≡ r.pending → HadAll r q
+kept r q c p k (inl i) = inl (subst (λ (ks : List Criteria). Contains ks k) c i)
+kept r q c p k (inr e) = inr (sym p ∙ e)
+
+dropped_pending : (r q : Record) → q.committed ≡ r.committed → q.pending ≡ None → HadAll r q
+dropped_pending r q c p k (inl i) = inl (subst (λ (ks : List Criteria). Contains ks k) c i)
+dropped_pending r q c p k (inr e) = absurd (let n : None ≡ Some k = sym p ∙ e in cc)
+
+in_option : (o : Option Criteria) (k : Criteria) → Contains (option_to_list o) k → o ≡ Some k
+in_option None k i = absurd (nothing_in k i)
+in_option (Some c) k i = ap (λ (z : Criteria). Some z) (sym (only_one c k i))
+
+fits_had : (o : Option Criteria) (deadline : Option ℕ) (next : Rsm) (now : ℕ) (r : Record) → HadAll r (fits o deadline next now r).rec
+fits_had None deadline next now r = λ k h. h
+fits_had (Some c) deadline next now r = λ k h. h
+
+done_had : (next : Rsm) (now : ℕ) (r : Record) → HadAll r (reservation_does next ReservationMove.Done now r).rec
+done_had next now r k (inl i) = elim (Contains-append_cases r.committed (option_to_list r.pending) k i) [ inl j ↦ inl j | inr j ↦ inr (in_option r.pending k j) ]
+done_had next now r k (inr e) = absurd (cc)
+
+does_had : (move : ReservationMove) (next : Rsm) (now : ℕ) (r : Record) → IsOwn (Some move) → HadAll r (reservation_does next move now r).rec
+does_had (ReservationMove.Reserve c k) next now r own = absurd (cc)
+does_had (ReservationMove.Commit c) next now r own = absurd (cc)
+does_had (ReservationMove.Abort c) next now r own = absurd (cc)
+does_had (ReservationMove.Fit deadline) next now r own = fits_had r.pending deadline next now r
+does_had (ReservationMove.Lack e) next now r own = dropped_pending r (reservation_does next (ReservationMove.Lack e) now r).rec refl refl
+does_had (ReservationMove.HoldEnd origin) next now r own = dropped_pending r (reservation_does next (ReservationMove.HoldEnd origin) now r).rec refl refl
+does_had (ReservationMove.Spoiled e mixed) next now r own = dropped_pending r (reservation_does next (ReservationMove.Spoiled e mixed) now r).rec refl refl
+does_had ReservationMove.Freed next now r own = kept r (reservation_does next ReservationMove.Freed now r).rec refl refl
+does_had ReservationMove.Done next now r own = done_had next now r
+
+reserves_had : (state : Rsm) (move : ReservationMove) (now : ℕ) (r : Record) → IsOwn (Some move) → HadAll r (reserves state move now r).rec
+unfolding reserves
+reserves_had state move now r own = by_found (reserve_step state (event_of move))
+  where
+    by_found : (o : Option (Rsm × Option Kind)) → HadAll r (by_row o (λ next said. reservation_does next move now r) r).rec
+    by_found None = λ k h. h
+    by_found (Some row) = does_had move row.0 now r own
+
+reserves_if_had : (o : Option ReservationMove) (now : ℕ) (r : Record) → IsOwn o → HadAll r (reserves_if o now r).rec
+reserves_if_had None now r own = λ k h. h
+reserves_if_had (Some move) now r own = reserves_had r.rsm move now r own
+
+act_had : (r : Record) (y : Moved) → IsAct r y → HadAll r y.rec
+act_had r y a k h =
+    reserves_if_had a.acts.move a.acts.now r a.acts.own k (kept (reserves_if a.acts.move a.acts.now r).rec y.rec a.acts.same.committed a.acts.same.pending k h)
+
+course_had : (r q : Record) (out : List Reply) → Course r q out → HadAll r q
+course_had _ _ _ (Course.rests r) k h = h
+course_had _ _ _ (Course.does r y a) k h = act_had r y a k h
+course_had _ _ _ (Course.goes_on r q p xs ys zs a b m) k h = course_had r q xs a k (course_had q p ys b k h)
+
+---- A request
+
+same_criteria : (x y : Criteria) → Some x ≡ Some y → x ≡ y
+same_criteria x y e = cc
+
+same_number : (n k : ℕ) → Some n ≡ Some k → n ≡ k
+same_number n k e = cc
+
+asks_for : (q : ReserveRequest) (ks : List Criteria) (k : Criteria) → asked_criteria q ks ≡ Some k → AsksFor q k
+asks_for q ks k e = by (span_of q.start q.end) (asked_version q.version (last ks)) refl refl e
+  where
+    by : (o : Option Span) (v : Option ℕ) → span_of q.start q.end ≡ o → asked_version q.version (last ks) ≡ v → criteria_with o v q.capacity ≡ Some k → AsksFor q k
+    by None v s t f = absurd (cc)
+    by (Some span) None s t f = absurd (cc)
+    by (Some span) (Some version) s t f =
+        let same : (let x : Criteria = record { version = version; interval = span; capacity = q.capacity } in x) ≡ k = same_criteria (record { version = version; interval = span; capacity = q.capacity }) k f in
+        record {
+          interval = s ∙ ap (λ (z : Criteria). Some z.interval) same;
+          capacity = ap (λ (z : Criteria). z.capacity) same;
+          version = λ n g. same_number n version (sym (ap (λ (o : Option ℕ). asked_version o (last ks)) g) ∙ t) ∙ ap (λ (z : Criteria). z.version) same;
+        }
+
+-- what it has once it has taken a request it had before, or the request asks for it
+abbrev HadOrAsked : Record → Body → Record → Type 0
+HadOrAsked r b q = (k : Criteria) → Has q k → Has r k ⊎ ((a : ReserveRequest) × (b ≡ Body.Reserve a) × AsksFor a k)
+
+reserve_had : (a : ReserveRequest) (side : Side) (c now : ℕ) (r : Record) → HadOrAsked r (Body.Reserve a) (moves_if side (reserve_move c (asked_criteria a r.committed)) now r).rec
+unfolding moves reserves
+reserve_had a side c now r = by (asked_criteria a r.committed) refl
+  where
+    by : (o : Option Criteria) → asked_criteria a r.committed ≡ o → HadOrAsked r (Body.Reserve a) (moves_if side (reserve_move c o) now r).rec
+    by None e = λ k h. inl h
+    by (Some p) e = by_found (reserve_step r.rsm (event_of (ReservationMove.Reserve c p)))
+      where
+        by_found : (o : Option (Rsm × Option Kind)) → HadOrAsked r (Body.Reserve a) (by_row o (λ next said. reservation_does next (ReservationMove.Reserve c p) now r) r).rec
+        by_found None k h = inl h
+        by_found (Some row) k (inl i) = inl (inl i)
+        by_found (Some row) k (inr f) = inr (a, refl, asks_for a r.committed k (e ∙ f))
+
+commit_had : (c now : ℕ) (r : Record) → HadAll r (reserves r.rsm (ReservationMove.Commit c) now r).rec
+unfolding reserves
+commit_had c now r = by_found (reserve_step r.rsm (event_of (ReservationMove.Commit c)))
+  where
+    by_found : (o : Option (Rsm × Option Kind)) → HadAll r (by_row o (λ next said. reservation_does next (ReservationMove.Commit c) now r) r).rec
+    by_found None = λ k h. h
+    by_found (Some row) = λ k h. h
+
+abort_had : (c now : ℕ) (r : Record) → HadAll r (reserves r.rsm (ReservationMove.Abort c) now r).rec
+unfolding reserves
+abort_had c now r = by_found (reserve_step r.rsm (event_of (ReservationMove.Abort c)))
+  where
+    by_found : (o : Option (Rsm × Option Kind)) → HadAll r (by_row o (λ next said. reservation_does next (ReservationMove.Abort c) now r) r).rec
+    by_found None = λ k h. h
+    by_found (Some row) = dropped_pending r (reservation_does row.0 (ReservationMove.Abort c) now r).rec refl refl
+
+taken_had : (b : Body) (side : Side) (c now : ℕ) (r : Record) → HadOrAsked r b (moves_if side (requested b c r) now r).rec
+unfolding requested moves
+taken_had (Body.Reserve a) side c now r = reserve_had a side c now r
+taken_had (Body.ReserveCommit id) side c now r = λ k h. inl (commit_had c now r k h)
+taken_had (Body.ReserveAbort id) side c now r = λ k h. inl (abort_had c now r k h)
+taken_had (Body.Provision id) side c now r =
+    λ k h. let s = provisions_as side r.psm (ProvisionMove.Provision c) now r in inl (kept r (provisions side r.psm (ProvisionMove.Provision c) now r).rec s.committed s.pending k h)
+taken_had (Body.Release id) side c now r =
+    λ k h. let s = provisions_as side r.psm (ProvisionMove.Release c) now r in inl (kept r (provisions side r.psm (ProvisionMove.Release c) now r).rec s.committed s.pending k h)
+taken_had (Body.Terminate id) side c now r =
+    λ k h. let s = lives_as (LifecycleMove.Terminate c) now r in inl (kept r (lives r.lsm (LifecycleMove.Terminate c) now r).rec s.committed s.pending k h)
+taken_had _ side c now r = λ k h. inl h
+
+---- Entries
+
+-- one of the entries takes a reserve of that requester that asks for the criteria
+pub record Came (owner : List ℕ) (es : List Entry) (k : Criteria) : Type 0 where
+  pub entry : Entry
+  pub there : Contains es entry
+  pub message : Message
+  pub got : entry.input ≡ Input.Got message
+  pub from : message.header.requester ≡ owner
+  pub reserve : ReserveRequest
+  pub body : message.body ≡ Body.Reserve reserve
+  pub asks : AsksFor reserve k
+
+-- what a record has came so
+abbrev AllCame : List Entry → List Record → Type 0
+AllCame es rs = (n : ℕ) (k : Criteria) → Has (record_at n rs) k → Came (record_at n rs).owner es k
+
+-- so does what it has then, of the same owner
+abbrev CameAt : List Entry → Record → Type 0
+CameAt es r = (k : Criteria) → Has r k → Came r.owner es k
+
+of_owner : (es : List Entry) (r q : Record) → q.owner ≡ r.owner → HadAll r q → CameAt es r → CameAt es q
+of_owner es r q o had came k h = subst (λ (z : List ℕ). Came z es k) (sym o) (came k (had k h))
+
+more_came : (owner : List ℕ) (es fs : List Entry) (k : Criteria) → Came owner es k → Came owner (es ++ fs) k
+more_came owner es fs k c =
+    record { entry = c.entry; there = Contains-append_left es fs c.entry c.there; message = c.message; got = c.got; from = c.from; reserve = c.reserve; body = c.body; asks = c.asks }
+
+all_more : (es fs : List Entry) (rs : List Record) → AllCame es rs → AllCame (es ++ fs) rs
+all_more es fs rs all n k h = more_came (record_at n rs).owner es fs k (all n k h)
+
+its_last : (es : List Entry) (e : Entry) → Contains (es ++ e ∷ []) e
+its_last es e = Contains-append_right es (e ∷ []) e (0, omega arith, refl)
+
+-- a record that has taken a request
+turned : (es : List Entry) (e : Entry) (m : Message) (side : Side) (now : ℕ) (r q : Record) (said : List Reply) → e.input ≡ Input.Got m → r.owner ≡ m.header.requester → Course (taken_by side now m r).rec q said →
+    CameAt (es ++ e ∷ []) r → CameAt (es ++ e ∷ []) q
+turned es e m side now r q said got owner course came k h = by (taken_had m.body side m.header.correlation now r k (course_had (taken_by side now m r).rec q said course k h))
+  where
+    same : q.owner ≡ r.owner
+    same = (course_after (taken_by side now m r).rec q said course).later.owner ∙ (moves_if_later side (requested m.body m.header.correlation r) now r).owner
+
+    by : Has r k ⊎ ((a : ReserveRequest) × (m.body ≡ Body.Reserve a) × AsksFor a k) → Came q.owner (es ++ e ∷ []) k
+    by (inl had) = subst (λ (z : List ℕ). Came z (es ++ e ∷ []) k) (sym same) (came k had)
+    by (inr (a, is, asks)) =
+        record { entry = e; there = its_last es e; message = m; got = got; from = sym owner ∙ sym same; reserve = a; body = is; asks = asks }
+
+put_came : (es : List Entry) (rs : List Record) (n : ℕ) (q : Record) → AllCame es rs → CameAt es q → AllCame es (slice_set rs n q)
+put_came es [] n q all its k = all k
+put_came es (r ∷ rs) zero q all its zero = its
+put_came es (r ∷ rs) zero q all its (suc k) = all (suc k)
+put_came es (r ∷ rs) (suc n) q all its zero = all zero
+put_came es (r ∷ rs) (suc n) q all its (suc k) = put_came es rs n q (λ i. all (suc i)) its k
+
+fresh_came : (es : List Entry) (id : ℕ) (owner : List ℕ) (s : Service) (source dest : ℕ) → CameAt es (fresh id owner s source dest)
+fresh_came es id owner s source dest k (inl i) = absurd (nothing_in k i)
+fresh_came es id owner s source dest k (inr e) = absurd (cc)
+
+pushed_came : (es : List Entry) (rs : List Record) (q : Record) → AllCame es rs → CameAt es q → AllCame es (rs ++ q ∷ [])
+pushed_came es rs q all its n = by (cases_eq n (length rs))
+  where
+    by : (n ≡ length rs) ⊎ (n ≡ length rs → ⊥) → CameAt es (record_at n (rs ++ q ∷ []))
+    by (inl e) = subst (CameAt es) (sym (ap (λ (z : ℕ). record_at z (rs ++ q ∷ [])) e ∙ last_here rs q no_record)) its
+    by (inr f) = subst (CameAt es) (sym (last_there rs q no_record n f)) (all n)
+
+served : (es : List Entry) (e : Entry) (name : List ℕ) (d : Child) (records : List Record) (seen : List Header) (out : List Message) → Serves name e.input d records seen out → AllCame (es ++ e ∷ []) d.records → AllCame (es ++ e ∷ []) records
+served es e name d records seen out (Serves.acts _ t) all = λ n.
+    of_owner (es ++ e ∷ []) (record_at n d.records) (record_at n records) (course_after (record_at n d.records) (record_at n records) (t.said n) (t.each n)).later.owner
+    (course_had (record_at n d.records) (record_at n records) (t.said n) (t.each n)) (all n)
+served es e name d records seen out (Serves.leaves m new apart same none) all = subst (AllCame (es ++ e ∷ [])) (sym same) all
+served es e name d records seen out (Serves.refuses m error new refused same one) all = subst (AllCame (es ++ e ∷ [])) (sym same) all
+served es e name d records seen out (Serves.takes m n side now new about turn) all =
+    subst (AllCame (es ++ e ∷ [])) (sym turn.records)
+    (put_came (es ++ e ∷ []) d.records n turn.after all (turned es e m side now (record_at n d.records) turn.after turn.said new.got about.owner turn.course (all n)))
+served es e name d records seen out (Serves.opens m id service source dest side now new first turn) all =
+    let r : Record = fresh id m.header.requester service source dest in
+    let rows : AllCame (es ++ e ∷ []) (d.records ++ r ∷ []) = pushed_came (es ++ e ∷ []) d.records r all (fresh_came (es ++ e ∷ []) id m.header.requester service source dest) in
+    subst (AllCame (es ++ e ∷ [])) (sym turn.records)
+    (put_came (es ++ e ∷ []) (d.records ++ r ∷ []) (length d.records) turn.after rows
+    (turned es e m side now (record_at (length d.records) (d.records ++ r ∷ [])) turn.after turn.said new.got (ap (λ (z : Record). z.owner) (last_here d.records r no_record)) turn.course (rows (length d.records))))
+
+-- from a state in which all that records have came by the entries before
+came_from : (h : Home) → is_requester h.role ≡ false → (before es : List Entry) (s : AgentState) → AllCame before s.base.records → AllCame (before ++ es) (goes_on h s es).state.base.records
+unfolding goes_on
+came_from h asked before [] s all = all_more before [] s.base.records all
+came_from h asked before (e ∷ es) s all =
+    subst (λ (fs : List Entry). AllCame fs (goes_on h (after h s e).state es).state.base.records) (in_front before e es)
+    (came_from h asked (before ++ e ∷ []) es (after h s e).state
+    (served before e (name_in h.role) (child_of s.base []) (after h s e).state.base.records (after h s e).state.base.seen (after h s e).out (serves_as h.role asked s e []) (all_more before (e ∷ []) s.base.records all)))
+  where
+    in_front : (xs : List Entry) (y : Entry) (ys : List Entry) → (xs ++ y ∷ []) ++ ys ≡ xs ++ y ∷ ys
+    in_front [] y ys = refl
+    in_front (x ∷ xs) y ys = ap (λ zs. x ∷ zs) (in_front xs y ys)
+
+told_came : (h : Home) → is_requester h.role ≡ false → (es : List Entry) → AllCame es (told h es).state.base.records
+told_came h asked es = came_from h asked [] es blank_agent (λ n k i. none k i)
+  where
+    none : (k : Criteria) → Has no_record k → Came no_record.owner [] k
+    none k (inl i) = absurd (nothing_in k i)
+    none k (inr e) = absurd (cc)
+
+---- Runs
+
+pub criteria_were_asked_for : HeardWasSent → CriteriaWereAskedFor
+criteria_were_asked_for heard homes events allowed b j n r k agent asked cut there its =
+    let w : World = world_after empty events in
+    let rs : List Record = (state_of_cut homes w b j).base.records in
+    let same : record_at n rs ≡ r = get_or_from_slice_get rs n r no_record there in
+    let c : Came r.owner (take j (w.journal b)) k =
+    subst (λ (z : Record). Has z k → Came z.owner (take j (w.journal b)) k) same (told_came (homes b) asked (take j (w.journal b)) n k) (inl its)
+    in
+    let h : IsHeard homes w b c.entry = All-contains (IsHeard homes w b) (take j (w.journal b)) c.entry (All-take (IsHeard homes w b) j (w.journal b) ((heard homes events allowed).heard b)) c.there in
+    sent_so homes w b r.owner k (take j (w.journal b)) c h
+  where
+    sent_so : (homes : Homes) (w : World) (b : ℕ) (owner : List ℕ) (k : Criteria) (es : List Entry) (c : Came owner es k) → IsHeard homes w b c.entry → WasAskedFor homes w b owner k
+    sent_so homes w b owner k es c h =
+        let s = subst (λ (i : Input). WasSent homes w b i) c.got h.sent in
+        record { message = c.message; sent = s.0; to = s.1; from = c.from; reserve = c.reserve; body = c.body; asks = c.asks }
