@@ -106,10 +106,12 @@ impl OpenQueries {
         let mut numbers = Vec::new(alloc);
         self.ids.note_places(correlation, &mut numbers)?;
         let found = find_least(&self.queries, &numbers, connections, correlation);
-        let Some(Awaited {
-            number,
-            part: place,
-        }) = found
+        let Some(
+            Awaited {
+                number,
+                part: place,
+            },
+        ) = found
         else {
             return Ok(None);
         };
