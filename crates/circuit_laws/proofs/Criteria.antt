@@ -1,6 +1,5 @@
 -- What a record has as committed, or pending, its owner has asked for.
-use Rattle.std.proofs.Common.{ℕ, zero, suc, ◌≡◌, ◌∙◌, ◌⊎◌, inl, inr, false, List, [], ◌∷◌, ◌++◌, length, take, slice_set, Contains, Option, Some, None, option_to_list, refl, sym, ap, subst, arith}
-use Rattle.std.proofs.lemmas.Bool.{cases_eq}
+use Rattle.std.proofs.Common.{ℕ, ◌≡◌, ◌∙◌, ◌⊎◌, inl, inr, List, [], ◌∷◌, ◌++◌, take, Contains, Option, Some, None, option_to_list, refl, sym, ap, subst, arith}
 use Rattle.std.proofs.lemmas.List.Elements.{All-contains, All-take, Contains-append_left, Contains-append_right, Contains-append_cases}
 use Rattle.std.proofs.lemmas.Option.{get_or_from_slice_get}
 use Rattle.nsi_base.specs.Range.{Span, span_of}
@@ -9,7 +8,6 @@ use Rattle.nsi_primitive.specs.declared.entry.Input.{Input}
 use Rattle.nsi_primitive.specs.declared.kind.Kind.{Kind}
 use Rattle.nsi_primitive.specs.declared.message.Body.{Body}
 use Rattle.nsi_primitive.specs.declared.message.Criteria.{Criteria}
-use Rattle.nsi_primitive.specs.declared.message.Header.{Header}
 use Rattle.nsi_primitive.specs.declared.message.Message.{Message}
 use Rattle.nsi_primitive.specs.declared.message.ReserveRequest.{ReserveRequest}
 use Rattle.nsi_primitive.specs.declared.message.Service.{Service}
@@ -30,23 +28,18 @@ use Rattle.connection_record.specs.Moves.{event_of, reserves, reserves_if, reser
 use Rattle.connection_record.specs.Replies.{Moved, by_row}
 use Rattle.connection_record.proofs.Courses.{course_after}
 use Rattle.connection_record.proofs.Growing.{moves_if_later}
-use Rattle.agent_state.specs.State.{AgentState, no_record, record_at, blank_agent}
-use Rattle.nsi_agent.specs.Homes.{Home}
-use Rattle.nsi_agent.specs.Steps.{after}
-use Rattle.nsi_agent.specs.Told.{told, goes_on, name_in}
+use Rattle.agent_state.specs.State.{no_record, record_at}
 use Rattle.nsi_world.specs.Worlds.{Homes, World, empty}
-use Rattle.nsi_world.specs.Runs.{is_requester, world_after}
+use Rattle.nsi_world.specs.Runs.{world_after}
 use Rattle.nsi_world.specs.Heard.{WasSent, IsHeard}
 use Rattle.nsi_world.specs.Laws.{HeardWasSent}
 use Rattle.run_growth.specs.Cuts.{state_of_cut}
-use Rattle.circuit_link.specs.Children.{Child}
-use Rattle.circuit_link.specs.Serving.{child_of, Serves, taken_by}
+use Rattle.circuit_link.specs.Serving.{taken_by}
 use Rattle.circuit_link.proofs.Answering.{only_one}
-use Rattle.circuit_link.proofs.Opening.{last_here, last_there}
 use Rattle.circuit_fit.proofs.Owning.{lives_as, provisions_as}
 use Rattle.circuit_laws.specs.Backed.{AsksFor, WasAskedFor}
 use Rattle.circuit_laws.specs.Laws.{CriteriaWereAskedFor}
-use Rattle.circuit_laws.proofs.Roles.{serves_as}
+use Rattle.circuit_laws.proofs.Kept.{IsKept, told_kept}
 
 ---- A record by itself
 
@@ -118,7 +111,7 @@ same_criteria x y e = cc
 same_number : (n k : ℕ) → Some n ≡ Some k → n ≡ k
 same_number n k e = cc
 
-asks_for : (q : ReserveRequest) (ks : List Criteria) (k : Criteria) → asked_criteria q ks ≡ Some k → AsksFor q k
+pub asks_for : (q : ReserveRequest) (ks : List Criteria) (k : Criteria) → asked_criteria q ks ≡ Some k → AsksFor q k
 asks_for q ks k e = by (span_of q.start q.end) (asked_version q.version (last ks)) refl refl e
   where
     by : (o : Option Span) (v : Option ℕ) → span_of q.start q.end ≡ o → asked_version q.version (last ks) ≡ v → criteria_with o v q.capacity ≡ Some k → AsksFor q k
@@ -192,92 +185,52 @@ pub record Came (owner : List ℕ) (es : List Entry) (k : Criteria) : Type 0 whe
   pub asks : AsksFor reserve k
 
 -- what a record has came so
-abbrev AllCame : List Entry → List Record → Type 0
-AllCame es rs = (n : ℕ) (k : Criteria) → Has (record_at n rs) k → Came (record_at n rs).owner es k
+abbrev pub AllCame : List Entry → Record → Type 0
+AllCame es r = (k : Criteria) → Has r k → Came r.owner es k
 
--- so does what it has then, of the same owner
-abbrev CameAt : List Entry → Record → Type 0
-CameAt es r = (k : Criteria) → Has r k → Came r.owner es k
-
-of_owner : (es : List Entry) (r q : Record) → q.owner ≡ r.owner → HadAll r q → CameAt es r → CameAt es q
-of_owner es r q o had came k h = subst (λ (z : List ℕ). Came z es k) (sym o) (came k (had k h))
-
-more_came : (owner : List ℕ) (es fs : List Entry) (k : Criteria) → Came owner es k → Came owner (es ++ fs) k
+abbrev pub more_came : (owner : List ℕ) (es fs : List Entry) (k : Criteria) → Came owner es k → Came owner (es ++ fs) k
 more_came owner es fs k c =
     record { entry = c.entry; there = Contains-append_left es fs c.entry c.there; message = c.message; got = c.got; from = c.from; reserve = c.reserve; body = c.body; asks = c.asks }
 
-all_more : (es fs : List Entry) (rs : List Record) → AllCame es rs → AllCame (es ++ fs) rs
-all_more es fs rs all n k h = more_came (record_at n rs).owner es fs k (all n k h)
+of_owner : (es : List Entry) (r q : Record) → q.owner ≡ r.owner → HadAll r q → AllCame es r → AllCame es q
+of_owner es r q o had came k h = subst (λ (z : List ℕ). Came z es k) (sym o) (came k (had k h))
 
-its_last : (es : List Entry) (e : Entry) → Contains (es ++ e ∷ []) e
-its_last es e = Contains-append_right es (e ∷ []) e (0, omega arith, refl)
+abbrev pub last_came : (es : List Entry) (e : Entry) (m : Message) (owner : List ℕ) (a : ReserveRequest) (k : Criteria) → e.input ≡ Input.Got m → m.header.requester ≡ owner → m.body ≡ Body.Reserve a → AsksFor a k →
+    Came owner (es ++ e ∷ []) k
+last_came es e m owner a k got from is asks =
+    record { entry = e; there = Contains-append_right es (e ∷ []) e (0, omega arith, refl); message = m; got = got; from = from; reserve = a; body = is; asks = asks }
 
 -- a record that has taken a request
-turned : (es : List Entry) (e : Entry) (m : Message) (side : Side) (now : ℕ) (r q : Record) (said : List Reply) → e.input ≡ Input.Got m → r.owner ≡ m.header.requester → Course (taken_by side now m r).rec q said →
-    CameAt (es ++ e ∷ []) r → CameAt (es ++ e ∷ []) q
-turned es e m side now r q said got owner course came k h = by (taken_had m.body side m.header.correlation now r k (course_had (taken_by side now m r).rec q said course k h))
+taken_came : (es : List Entry) (e : Entry) (m : Message) (side : Side) (now : ℕ) (r : Record) → e.input ≡ Input.Got m → r.owner ≡ m.header.requester → AllCame (es ++ e ∷ []) r → AllCame (es ++ e ∷ []) (taken_by side now m r).rec
+taken_came es e m side now r got owner came k h = by (taken_had m.body side m.header.correlation now r k h)
   where
+    q : Record
+    q = (taken_by side now m r).rec
+
     same : q.owner ≡ r.owner
-    same = (course_after (taken_by side now m r).rec q said course).later.owner ∙ (moves_if_later side (requested m.body m.header.correlation r) now r).owner
+    same = (moves_if_later side (requested m.body m.header.correlation r) now r).owner
 
     by : Has r k ⊎ ((a : ReserveRequest) × (m.body ≡ Body.Reserve a) × AsksFor a k) → Came q.owner (es ++ e ∷ []) k
     by (inl had) = subst (λ (z : List ℕ). Came z (es ++ e ∷ []) k) (sym same) (came k had)
-    by (inr (a, is, asks)) =
-        record { entry = e; there = its_last es e; message = m; got = got; from = sym owner ∙ sym same; reserve = a; body = is; asks = asks }
+    by (inr (a, is, asks)) = last_came es e m q.owner a k got (sym owner ∙ sym same) is asks
 
-put_came : (es : List Entry) (rs : List Record) (n : ℕ) (q : Record) → AllCame es rs → CameAt es q → AllCame es (slice_set rs n q)
-put_came es [] n q all its k = all k
-put_came es (r ∷ rs) zero q all its zero = its
-put_came es (r ∷ rs) zero q all its (suc k) = all (suc k)
-put_came es (r ∷ rs) (suc n) q all its zero = all zero
-put_came es (r ∷ rs) (suc n) q all its (suc k) = put_came es rs n q (λ i. all (suc i)) its k
-
-fresh_came : (es : List Entry) (id : ℕ) (owner : List ℕ) (s : Service) (source dest : ℕ) → CameAt es (fresh id owner s source dest)
-fresh_came es id owner s source dest k (inl i) = absurd (nothing_in k i)
-fresh_came es id owner s source dest k (inr e) = absurd (cc)
-
-pushed_came : (es : List Entry) (rs : List Record) (q : Record) → AllCame es rs → CameAt es q → AllCame es (rs ++ q ∷ [])
-pushed_came es rs q all its n = by (cases_eq n (length rs))
+all_kept : IsKept AllCame
+all_kept =
+    record {
+      more = λ es fs r came k h. more_came r.owner es fs k (came k h);
+      course = λ es r q out course came. of_owner es r q (course_after r q out course).later.owner (course_had r q out course) came;
+      taken = taken_came;
+      fresh = λ es id owner s source dest. fresh_came es id owner s source dest;
+      none = none_came;
+    }
   where
-    by : (n ≡ length rs) ⊎ (n ≡ length rs → ⊥) → CameAt es (record_at n (rs ++ q ∷ []))
-    by (inl e) = subst (CameAt es) (sym (ap (λ (z : ℕ). record_at z (rs ++ q ∷ [])) e ∙ last_here rs q no_record)) its
-    by (inr f) = subst (CameAt es) (sym (last_there rs q no_record n f)) (all n)
+    fresh_came : (es : List Entry) (id : ℕ) (owner : List ℕ) (s : Service) (source dest : ℕ) → AllCame es (fresh id owner s source dest)
+    fresh_came es id owner s source dest k (inl i) = absurd (nothing_in k i)
+    fresh_came es id owner s source dest k (inr e) = absurd (cc)
 
-served : (es : List Entry) (e : Entry) (name : List ℕ) (d : Child) (records : List Record) (seen : List Header) (out : List Message) → Serves name e.input d records seen out → AllCame (es ++ e ∷ []) d.records → AllCame (es ++ e ∷ []) records
-served es e name d records seen out (Serves.acts _ t) all = λ n.
-    of_owner (es ++ e ∷ []) (record_at n d.records) (record_at n records) (course_after (record_at n d.records) (record_at n records) (t.said n) (t.each n)).later.owner
-    (course_had (record_at n d.records) (record_at n records) (t.said n) (t.each n)) (all n)
-served es e name d records seen out (Serves.leaves m new apart same none) all = subst (AllCame (es ++ e ∷ [])) (sym same) all
-served es e name d records seen out (Serves.refuses m error new refused same one) all = subst (AllCame (es ++ e ∷ [])) (sym same) all
-served es e name d records seen out (Serves.takes m n side now new about turn) all =
-    subst (AllCame (es ++ e ∷ [])) (sym turn.records)
-    (put_came (es ++ e ∷ []) d.records n turn.after all (turned es e m side now (record_at n d.records) turn.after turn.said new.got about.owner turn.course (all n)))
-served es e name d records seen out (Serves.opens m id service source dest side now new first turn) all =
-    let r : Record = fresh id m.header.requester service source dest in
-    let rows : AllCame (es ++ e ∷ []) (d.records ++ r ∷ []) = pushed_came (es ++ e ∷ []) d.records r all (fresh_came (es ++ e ∷ []) id m.header.requester service source dest) in
-    subst (AllCame (es ++ e ∷ [])) (sym turn.records)
-    (put_came (es ++ e ∷ []) (d.records ++ r ∷ []) (length d.records) turn.after rows
-    (turned es e m side now (record_at (length d.records) (d.records ++ r ∷ [])) turn.after turn.said new.got (ap (λ (z : Record). z.owner) (last_here d.records r no_record)) turn.course (rows (length d.records))))
-
--- from a state in which all that records have came by the entries before
-came_from : (h : Home) → is_requester h.role ≡ false → (before es : List Entry) (s : AgentState) → AllCame before s.base.records → AllCame (before ++ es) (goes_on h s es).state.base.records
-unfolding goes_on
-came_from h asked before [] s all = all_more before [] s.base.records all
-came_from h asked before (e ∷ es) s all =
-    subst (λ (fs : List Entry). AllCame fs (goes_on h (after h s e).state es).state.base.records) (in_front before e es)
-    (came_from h asked (before ++ e ∷ []) es (after h s e).state
-    (served before e (name_in h.role) (child_of s.base []) (after h s e).state.base.records (after h s e).state.base.seen (after h s e).out (serves_as h.role asked s e []) (all_more before (e ∷ []) s.base.records all)))
-  where
-    in_front : (xs : List Entry) (y : Entry) (ys : List Entry) → (xs ++ y ∷ []) ++ ys ≡ xs ++ y ∷ ys
-    in_front [] y ys = refl
-    in_front (x ∷ xs) y ys = ap (λ zs. x ∷ zs) (in_front xs y ys)
-
-told_came : (h : Home) → is_requester h.role ≡ false → (es : List Entry) → AllCame es (told h es).state.base.records
-told_came h asked es = came_from h asked [] es blank_agent (λ n k i. none k i)
-  where
-    none : (k : Criteria) → Has no_record k → Came no_record.owner [] k
-    none k (inl i) = absurd (nothing_in k i)
-    none k (inr e) = absurd (cc)
+    none_came : AllCame [] no_record
+    none_came k (inl i) = absurd (nothing_in k i)
+    none_came k (inr e) = absurd (cc)
 
 ---- Runs
 
@@ -287,7 +240,7 @@ criteria_were_asked_for heard homes events allowed b j n r k agent asked cut the
     let rs : List Record = (state_of_cut homes w b j).base.records in
     let same : record_at n rs ≡ r = get_or_from_slice_get rs n r no_record there in
     let c : Came r.owner (take j (w.journal b)) k =
-    subst (λ (z : Record). Has z k → Came z.owner (take j (w.journal b)) k) same (told_came (homes b) asked (take j (w.journal b)) n k) (inl its)
+    subst (λ (z : Record). AllCame (take j (w.journal b)) z) same (told_kept AllCame all_kept (homes b) asked (take j (w.journal b)) n) k (inl its)
     in
     let h : IsHeard homes w b c.entry = All-contains (IsHeard homes w b) (take j (w.journal b)) c.entry (All-take (IsHeard homes w b) j (w.journal b) ((heard homes events allowed).heard b)) c.there in
     sent_so homes w b r.owner k (take j (w.journal b)) c h

@@ -14,6 +14,11 @@ pub mod Backing
 pub mod Circuits
 pub mod Ways
 pub mod Living
+pub mod Kept
 pub mod Criteria
+pub mod Attempts
+pub mod Opened
+pub mod Pointed
+pub mod Points
 pub mod Standing
 pub mod Nothing

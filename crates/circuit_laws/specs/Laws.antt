@@ -23,7 +23,7 @@ use Rattle.circuit_link.specs.Sides.{standing_of}
 use Rattle.circuit_link.specs.Links.{InStep, Stands, Waits}
 use Rattle.circuit_link.specs.Children.{Child, record_of, side_of}
 use Rattle.circuit_link.specs.Serving.{child_of}
-use Rattle.circuit_laws.specs.Backed.{AreBackedIn, EachViewIsBacked, EachViewRises, IsCircuit, EachCircuitStands, EachChildLives, NoRecordIsShared, EachCriteriaWasAskedFor}
+use Rattle.circuit_laws.specs.Backed.{AreBackedIn, EachViewIsBacked, EachViewRises, IsCircuit, EachCircuitStands, EachChildLives, NoRecordIsShared, EachCriteriaWasAskedFor, EachAttemptWasAskedFor, EachRecordWasOpened, EachRecordHasAViewsPoints}
 
 -- what an agent keeps and has said by the entries before a place, as the views of those who ask it see it
 abbrev pub child_at : Homes → World → (b j : ℕ) → Child
@@ -149,6 +149,15 @@ ChildrenLive = InEveryRun EachChildLives
 
 abbrev pub CriteriaWereAskedFor : Type 0
 CriteriaWereAskedFor = (homes : Homes) (events : List Event) → AreAllowed homes empty events → EachCriteriaWasAskedFor homes (world_after empty events)
+
+abbrev pub AttemptsWereAskedFor : Type 0
+AttemptsWereAskedFor = (homes : Homes) (events : List Event) → AreAllowed homes empty events → EachAttemptWasAskedFor homes (world_after empty events)
+
+abbrev pub RecordsWereOpened : Type 0
+RecordsWereOpened = (homes : Homes) (events : List Event) → AreAllowed homes empty events → EachRecordWasOpened homes (world_after empty events)
+
+abbrev pub RecordsHaveThePoints : Type 0
+RecordsHaveThePoints = InEveryRun (λ t homes w. EachRecordHasAViewsPoints homes w)
 
 abbrev pub CircuitsStand : Type 0
 CircuitsStand = InEveryRun EachCircuitStands

@@ -1,6 +1,6 @@
 //! The laws of circuits in runs. Each function is its contract.
 
-ghost use Rattle.circuit_laws.specs.Laws.{ViewsHavePhases, ChildrenHavePhases, ViewsAreInStep, ChildrenAreInStep, ViewsAreBacked, ChildrenAreBacked, ViewsKnowTheirOwn, ChildrenKnowTheirOwn, RunsAreBacked, ViewsRise, RecordsAreApart, ChildrenLive, CriteriaWereAskedFor, CircuitsStand, CircuitsAreReached};
+ghost use Rattle.circuit_laws.specs.Laws.{ViewsHavePhases, ChildrenHavePhases, ViewsAreInStep, ChildrenAreInStep, ViewsAreBacked, ChildrenAreBacked, ViewsKnowTheirOwn, ChildrenKnowTheirOwn, RunsAreBacked, ViewsRise, RecordsAreApart, ChildrenLive, CriteriaWereAskedFor, AttemptsWereAskedFor, RecordsWereOpened, RecordsHaveThePoints, CircuitsStand, CircuitsAreReached};
 
 use child_connection::laws::places;
 use least_routes::laws::{least_path_or_none, routes_exist};
@@ -52,6 +52,22 @@ pub fn views()
 /// where it gives one.
 pub fn asked_for()
     ensures { CriteriaWereAskedFor }
+{
+    sent();
+}
+
+/// What it has as pending was asked for by its owner too: by the reserve that is the record's attempt.
+pub fn attempts()
+    ensures { AttemptsWereAskedFor }
+{
+    sent();
+}
+
+/// Each record was opened by a first reserve of its owner that was sent, and has that reserve's service: its two points, and all else. Where the
+/// owner is an aggregator, these are the points of a view that it has of that agent.
+pub fn opened()
+    ensures by { RecordsWereOpened }
+    ensures points { RecordsHaveThePoints }
 {
     sent();
 }
