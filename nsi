@@ -110,7 +110,7 @@ build_crate() {
     local verb=lib wanted=0 status
     # The program without a word ends with status 4, with which no build that fails ends.
     [ "$1" != nsi ] || { verb=run wanted=4; }
-    (cd -- "$root/crates/$1" && exec rt "$verb") </dev/null 2>&1 | show_waits >"$room/log"
+    (cd -- "$root/crates/$1" && exec "$root/tools/rt" "$verb") </dev/null 2>&1 | show_waits >"$room/log"
     status=${PIPESTATUS[0]}
     [ "$status" -ne "$wanted" ] || return 0
     grep -v -e ': proved$' -e '^so far: ' -- "$room/log" | tail -n 60 >&2
@@ -126,12 +126,12 @@ show_waits() {
     done
 }
 
-# Every proof and test, and then rows and random inputs over the program that `rt ci` left. The last line adds up theirs.
+# Every proof and test by `rt ci`, and then rows and random inputs over the program that it left. The last line adds up theirs.
 test_all() {
     local passed=0 failed=0
     require_rt unproved
     make_room
-    step rt ci
+    step tools/rt ci
     step tools/try-rows
     step tools/differential-test --seeds 6
     step tools/differential-run --seeds 1..200 --keep "${TMPDIR:-/tmp}"
