@@ -402,11 +402,13 @@ fn is_so(rt: &(impl Threads + Sync), alloc: Global, row: &Row) -> Result<bool, A
 
 #[test]
 fn what_is_kept_is_read_again(rt: HostRuntime) -> Result<(), Fail> {
-    for rows in [KEPT.as_slice(), LOOKED_AT.as_slice()] {
-        for row in rows {
-            let is_right = is_so(&rt, rt.alloc(), row)?;
-            assert!(rt; is_right, "{}", row.0);
-        }
+    for row in &KEPT {
+        let is_right = is_so(&rt, rt.alloc(), row)?;
+        assert!(rt; is_right, "{}", row.0);
+    }
+    for row in &LOOKED_AT {
+        let is_right = is_so(&rt, rt.alloc(), row)?;
+        assert!(rt; is_right, "{}", row.0);
     }
     Ok(())
 }
