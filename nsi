@@ -8,7 +8,7 @@ crate=$root/crates/nsi
 program=$crate/out/nsi
 # `rt try` hands on no more of an input.
 most_tried=$((64 * 1024 * 1024 - 1))
-whole_build='about an hour on four processors'
+whole_build='an hour or more on four processors'
 
 main() {
     case $#:${1-} in
