@@ -131,7 +131,7 @@ test_all() {
     local passed=0 failed=0
     require_rt unproved
     make_room
-    step tools/rt ci
+    step rt ci
     step tools/try-rows
     step tools/differential-test --seeds 6
     step tools/differential-run --seeds 1..200 --keep "${TMPDIR:-/tmp}"
