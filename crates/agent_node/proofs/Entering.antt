@@ -1,5 +1,5 @@
 -- An entry that was taken, as the agent and its lists tell of it.
-use Rattle.std.proofs.Common.{ℕ, ◌≡◌, ◌↔◌, List, Option, IsTrue, IsSome, true, refl, sym, ap, ◌∙◌, subst}
+use Rattle.std.proofs.Common.{ℕ, ◌≡◌, ◌↔◌, List, Option, None, IsTrue, IsSome, true, refl, sym, ap, ◌∙◌, subst}
 use Rattle.nsi_primitive.specs.Printable.{is_ask}
 use Rattle.nsi_primitive.specs.declared.ask.AskAnswer.{AskAnswer}
 use Rattle.nsi_primitive.specs.declared.entry.Entry.{Entry}
@@ -18,7 +18,7 @@ use Rattle.agent_node.proofs.Answered.{answered}
 -- the agent's part of a seat, with the rest
 abbrev pub seat_by : ℕ → List Entry → List Message → List Event → List Door → Standing → Seat
 seat_by synced fresh unsaid events doors a =
-    record { number = a.number; state = a.state; synced = synced; fresh = fresh; unsaid = unsaid; events = events; doors = doors }
+    record { number = a.number; state = a.state; past = None; synced = synced; fresh = fresh; unsaid = unsaid; events = events; doors = doors }
 
 whole : (x : AgentStepped) (s : AgentState) (out : List Message) (answer : Option AskAnswer) → s ≡ x.state → out ≡ x.out → answer ≡ x.answer → stepped s out answer ≡ x
 whole x s out answer p q r = ap (λ z. stepped z out answer) p ∙ (ap (λ z. stepped x.state z answer) q ∙ ap (stepped x.state x.out) r)

@@ -13,3 +13,4 @@ pub mod Resting
 pub mod Filtering
 pub mod Beginning
 pub mod Pairing
+pub mod Pasts

@@ -13,7 +13,7 @@ use Rattle.nsi_agent.specs.Homes.{Home, Routes, home_in}
 use Rattle.agent_node.specs.declared.fault.TurnFault.{TurnFault}
 use Rattle.agent_node.specs.Doors.{Door, says_all}
 use Rattle.agent_node.specs.Seat.{Seat}
-use Rattle.agent_node.specs.Turns.{lying, cleared, syncs, syncs_if, synced_all, sync_event, pushed, turn_entered, turn_with}
+use Rattle.agent_node.specs.Turns.{lying, cleared, adds, syncs, syncs_if, synced_all, sync_event, pushed, turn_entered, turn_with}
 use Rattle.agent_node.specs.Faults.{fault_by}
 use Rattle.agent_node.specs.Seated.{Seated, AtSeat, Stays, Goes}
 use Rattle.agent_node.specs.Kept.{Kept, kept_with, IsSameAgent}
@@ -56,7 +56,7 @@ adds_none None h = tt
 adds_none (Some x) h = ap Some (ap (λ es. record { synced = x.synced; waiting = es }) h ∙ ap (λ es. record { synced = es; waiting = [] }) (sym (append-nil x.synced)))
 
 abbrev seat_of_parts : Seat → ℕ → List Entry → List Message → List Event → List Door → Seat
-seat_of_parts s n fresh unsaid events doors = record { number = s.number; state = s.state; synced = n; fresh = fresh; unsaid = unsaid; events = events; doors = doors }
+seat_of_parts s n fresh unsaid events doors = record { number = s.number; state = s.state; past = adds s.fresh s.past; synced = n; fresh = fresh; unsaid = unsaid; events = events; doors = doors }
 
 pub no_entries : (es : List Entry) → (length es == 0) ≡ true → es ≡ []
 no_entries [] h = refl
@@ -69,7 +69,7 @@ some_entries (e ∷ es) h = omega arith
 -- all is told
 pub told_is : (h : Home) (s : Seat) (n : ℕ) (fresh : List Entry) (unsaid : List Message) (events : List Event) (doors : List Door) → n ≡ s.synced + length s.fresh → fresh ≡ [] → unsaid ≡ []
     → events ≡ s.events ++ sync_event s.number n ∷ [] → doors ≡ says_all h.agent_of s.unsaid s.doors
-    → record { number = s.number; state = s.state; synced = n; fresh = fresh; unsaid = unsaid; events = events; doors = doors } ≡ syncs h s
+    → record { number = s.number; state = s.state; past = adds s.fresh s.past; synced = n; fresh = fresh; unsaid = unsaid; events = events; doors = doors } ≡ syncs h s
 told_is h s n fresh unsaid events doors p q r t u =
     let e : events ≡ s.events ++ sync_event s.number (s.synced + length s.fresh) ∷ [] = t ∙ ap (λ (k : ℕ). s.events ++ sync_event s.number k ∷ []) p in
     ap (λ (k : ℕ). seat_of_parts s k fresh unsaid events doors) p

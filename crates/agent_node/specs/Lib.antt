@@ -2,6 +2,7 @@ pub mod Doors
 pub mod Linked
 pub mod Seat
 pub mod Turns
+pub mod Restarts
 pub mod Acts
 pub mod Meetings
 pub mod Openings

@@ -52,4 +52,4 @@ doors_of t plans a = map (opened (plans a)) (others_of t a)
 -- an agent that has taken nothing
 abbrev pub seat_of : Network → Plans → ℕ → Seat
 seat_of t plans a =
-    record { number = a; state = blank_agent; synced = 0; fresh = []; unsaid = []; events = []; doors = doors_of t plans a }
+    record { number = a; state = blank_agent; past = Some []; synced = 0; fresh = []; unsaid = []; events = []; doors = doors_of t plans a }

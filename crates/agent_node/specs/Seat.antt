@@ -1,5 +1,5 @@
 -- One agent of a net: what it keeps, what it has to say, and its ends of the links.
-use Rattle.std.specs.Prelude.{ℕ, Bool, true, false, List, [], ◌∷◌, ◌++◌, Option}
+use Rattle.std.specs.Prelude.{ℕ, Bool, true, false, List, [], ◌∷◌, ◌++◌, Option, Some, None}
 use Rattle.nsi_primitive.specs.declared.ask.AskAnswer.{AskAnswer}
 use Rattle.nsi_primitive.specs.declared.entry.Entry.{Entry}
 use Rattle.nsi_primitive.specs.declared.entry.Event.{Event}
@@ -13,11 +13,12 @@ use Rattle.nsi_agent.specs.Steps.{after}
 use Rattle.agent_node.specs.Doors.{queue_at}
 pub use Rattle.agent_node.specs.Doors.{Door, change_first, says_all}
 
--- its number, what it keeps, how many of its entries are synced and which stand behind these, what these cause, what has
--- happened and isn't taken away, and its doors by the others' numbers
+-- its number, what it keeps, its synced entries where these are told, how many they are and which stand behind these, what these cause,
+-- what has happened and isn't taken away, and its doors by the others' numbers
 pub record Seat : Type 0 where
   pub number : ℕ
   pub state : AgentState
+  pub past : Option (List Entry)
   pub synced : ℕ
   pub fresh : List Entry
   pub unsaid : List Message

@@ -1,5 +1,6 @@
 -- A turn: an agent takes what came, does its work, syncs, says what the synced entries cause, and pushes.
 use Rattle.std.specs.Prelude.{ℕ, zero, suc, ◌+◌, ◌==◌, Bool, true, false, List, [], ◌∷◌, ◌++◌, length, map, Option, Some, None}
+use Rattle.nsi_primitive.specs.declared.entry.Entry.{Entry}
 use Rattle.nsi_primitive.specs.Messages.{identity}
 use Rattle.nsi_primitive.specs.declared.entry.Event.{Event}
 use Rattle.nsi_primitive.specs.declared.entry.Happening.{Happening}
@@ -47,10 +48,16 @@ worked h s = works_off (works_left h.role s.state) h s
 abbrev pub sync_event : ℕ → ℕ → Event
 sync_event n count = record { agent = n; what = Happening.Sync count }
 
+-- more entries behind those that are told
+abbrev pub adds : List Entry → Option (List Entry) → Option (List Entry)
+adds es None = None
+adds es (Some past) = Some (past ++ es)
+
 -- all is synced, and what it causes is queued
 abbrev pub syncs : Home → Seat → Seat
 syncs h s =
     record s {
+      past = adds s.fresh s.past;
       synced = s.synced + length s.fresh;
       fresh = [];
       unsaid = [];
@@ -79,3 +86,7 @@ turn_with h xs s = pushed (synced_all h (turn_entered h xs s))
 -- a turn, in which it takes what came
 abbrev pub turned : Home → Seat → Seat
 turned h s = turn_with h (lying s.doors) (cleared s)
+
+-- a turn that ends where the disk stops: it has taken what came and done its work, and says and pushes nothing
+abbrev pub halted : Home → Seat → Seat
+halted h s = turn_entered h (lying s.doors) (cleared s)

@@ -157,7 +157,7 @@ fn core_of<'t>(
     requires within { agent < length topology.now.agents }
     ensures network { IfOk result (λ b. (box_value b).network ≡ topology.now) }
     ensures seat { IfOk result (λ b. (box_value b).seat
-        ≡ record (seat_of topology.now nothing_planned agent) { doors = [] }) }
+        ≡ record (seat_of topology.now nothing_planned agent) { past = None; doors = [] }) }
 {
     let agent = Agent::new(alloc, topology, agent)?;
     let core = Core::new(alloc, topology, agent);
@@ -176,7 +176,7 @@ fn parts<'t>(
     ensures none { IfOk result (λ r. r.1.items ≡ []) }
     ensures network { IfOk result (λ r. (box_value r.2).network ≡ topology.now) }
     ensures seat { IfOk result (λ r. (box_value r.2).seat
-        ≡ record (seat_of topology.now nothing_planned agent) { doors = [] }) }
+        ≡ record (seat_of topology.now nothing_planned agent) { past = None; doors = [] }) }
 {
     let others = others(alloc, topology, agent)?;
     let links = Vec::with_capacity(alloc, others.len())?;
@@ -204,7 +204,7 @@ impl<'t, D: Disk + Drop> Node<'t, DiskJournal<D>> {
         requires ends { AreEnds (others_of topology.now agent) outgoing incoming }
         ensures seat { (plans : Plans) →
             ArePlanned (plans agent) (others_of topology.now agent) outgoing →
-            IfOk result (λ n. n.seat ≡ seat_of topology.now plans agent) }
+            IfOk result (λ n. n.seat ≡ record (seat_of topology.now plans agent) { past = None }) }
         ensures network { IfOk result (λ n. n.network ≡ topology.now) }
         ensures plugs { IfOk result
             (λ n. n.plugs ≡ plugs_of (others_of topology.now agent) outgoing incoming) }

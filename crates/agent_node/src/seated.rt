@@ -41,7 +41,7 @@ pub struct Core<'t> {
 }
 
 impl<'t> Model for Core<'t> {
-    ghost use Rattle.std.specs.Prelude.{◌≡◌};
+    ghost use Rattle.std.specs.Prelude.{◌≡◌, None};
     ghost use Rattle.agent_node.specs.Seated.{Seated};
 
     ghost Value = { Seated };
@@ -51,6 +51,7 @@ impl<'t> Model for Core<'t> {
       seat = record {
         number = c.agent.number;
         state = c.agent.state;
+        past = None;
         synced = c.synced;
         fresh = c.fresh;
         unsaid = c.unsaid;
@@ -71,6 +72,7 @@ impl<'t> Core<'t> {
         ensures seat { result.seat ≡ record {
           number = agent.entry.number;
           state = agent.entry.state;
+          past = None;
           synced = 0;
           fresh = [];
           unsaid = [];

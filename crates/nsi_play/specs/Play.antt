@@ -7,6 +7,7 @@ use Rattle.nsi_script.specs.declared.script.Group.{Group}
 use Rattle.nsi_agent.specs.Homes.{Routes, AreRoutes, home_in}
 use Rattle.agent_node.specs.Seat.{Seat}
 use Rattle.agent_node.specs.Acts.{asked, forced, ticked}
+use Rattle.agent_node.specs.Restarts.{restarted}
 use Rattle.nsi_play.specs.Openings.{Plans, opening}
 use Rattle.nsi_play.specs.Rounds.{Net, Homes, round, events_of, emptied, all_quiet}
 
@@ -45,7 +46,7 @@ changes a f s = if s.number == a then f s else s
 abbrev pub does : Act → ℕ → Homes → Seat → Seat
 does (Act.Ask a ask) count homes s = changes a (asked (homes a) count ask) s
 does (Act.Force a n) count homes s = changes a (forced (homes a) n) s
-does (Act.Restart a) count homes s = s
+does (Act.Restart a) count homes s = changes a (restarted (homes a)) s
 
 abbrev pub acted : Act → ℕ → Homes → Net → Net
 acted act count homes net = map (does act count homes) net

@@ -20,15 +20,17 @@ use Rattle.nsi_script.specs.declared.script.Act.{Act}
 use Rattle.agent_node.specs.Doors.{Door, says_all, is_queued}
 use Rattle.agent_node.specs.Seat.{Seat, now_at, enters}
 use Rattle.agent_node.specs.Acts.{asked, forced, is_overdue, overdue, tick_at, ticked}
+use Rattle.agent_node.specs.Restarts.{restarted}
 use Rattle.nsi_play.specs.Play.{changes, does}
 use Rattle.nsi_world.specs.Worlds.{Homes, World, said, IsSaidBy}
 use Rattle.nsi_world.specs.Runs.{is_provider, is_requester, world_after}
 use Rattle.nsi_world.specs.Heard.{IsFair}
-use Rattle.nsi_world.specs.Seats.{IsDoor, Stands, Not, GoesOn}
+use Rattle.nsi_world.specs.Seats.{IsDoor, Stands, Not, GoesOn, GoesLater}
 use Rattle.nsi_world.proofs.Given.{Given}
 use Rattle.nsi_world.proofs.Later.{said_later, doors_later}
 use Rattle.nsi_world.proofs.DoorSteps.{doors_say}
-use Rattle.nsi_world.proofs.Steps.{goes_none, goes_twice, goes_enters, goes_doors}
+use Rattle.nsi_world.proofs.Steps.{later_goes, goes_none, goes_twice, goes_enters, goes_doors}
+use Rattle.nsi_world.proofs.RestartSteps.{goes_restarted}
 use Rattle.nsi_world.proofs.Receipts.{none_contained, head_or_tail}
 
 ---- What is overdue was said
@@ -96,19 +98,22 @@ changed_here a f s e = ap (λ b. cond b (f s) s) (eq-eqb s.number a e)
 pub changed_there : (a : ℕ) (f : Seat → Seat) (s : Seat) → (s.number ≡ a → ⊥) → changes a f s ≡ s
 changed_there a f s n = ap (λ b. cond b (f s) s) (ne_eqb s.number a n)
 
-goes_changed : (homes : Homes) (clock : ℕ) (w : World) (a : ℕ) (f : Seat → Seat) (s : Seat) → Stands homes clock w s → IsFair homes w → (s.number ≡ a → GoesOn homes clock w s (f s)) → GoesOn homes clock w s (changes a f s)
+goes_changed : (homes : Homes) (clock : ℕ) (w : World) (a : ℕ) (f : Seat → Seat) (s : Seat) → Stands homes clock w s → IsFair homes w → (s.number ≡ a → GoesLater homes clock w s (f s)) → GoesLater homes clock w s (changes a f s)
 goes_changed homes clock w a f s h fair g = elim (cases_eq s.number a) [
-  | inl e ↦ subst (GoesOn homes clock w s) (sym (changed_here a f s e)) (g e)
-  | inr n ↦ subst (GoesOn homes clock w s) (sym (changed_there a f s n)) (goes_none homes clock w s h fair)
+  | inl e ↦ subst (GoesLater homes clock w s) (sym (changed_here a f s e)) (g e)
+  | inr n ↦ subst (GoesLater homes clock w s) (sym (changed_there a f s n)) (later_goes homes clock w s s (goes_none homes clock w s h fair))
 ]
 
-pub goes_does : (homes : Homes) (clock : ℕ) (act : Act) (count : ℕ) (w : World) (s : Seat) → MayAct homes act → Stands homes clock w s → IsFair homes w → GoesOn homes clock w s (does act count homes s)
-goes_does homes clock (Act.Ask a ask) count w s may h fair =
+pub goes_does : (homes : Homes) → Given homes → (clock : ℕ) (act : Act) (count : ℕ) (w : World) (s : Seat) → MayAct homes act → Stands homes clock w s → IsFair homes w → GoesLater homes clock w s (does act count homes s)
+goes_does homes given clock (Act.Ask a ask) count w s may h fair =
     goes_changed homes clock w a (asked (homes a) count ask) s h fair (λ is.
-    goes_enters homes clock w (now_at s (Input.Ask count ask)) a s is h fair
-    (record { printable = may.1; in_time = refl; comes = subst (λ k. is_requester (homes k).role ≡ true) (sym is) may.0; soon = h.in_time }))
-goes_does homes clock (Act.Force a n) count w s may h fair =
+    later_goes homes clock w s (asked (homes a) count ask s)
+    (goes_enters homes clock w (now_at s (Input.Ask count ask)) a s is h fair
+    (record { printable = may.1; in_time = refl; comes = subst (λ k. is_requester (homes k).role ≡ true) (sym is) may.0; soon = h.in_time })))
+goes_does homes given clock (Act.Force a n) count w s may h fair =
     goes_changed homes clock w a (forced (homes a) n) s h fair (λ is.
-    goes_enters homes clock w (now_at s (Input.Force n)) a s is h fair
-    (record { printable = tt; in_time = refl; comes = subst (λ k. is_provider (homes k).role ≡ true) (sym is) may; soon = h.in_time }))
-goes_does homes clock (Act.Restart a) count w s may h fair = goes_none homes clock w s h fair
+    later_goes homes clock w s (forced (homes a) n s)
+    (goes_enters homes clock w (now_at s (Input.Force n)) a s is h fair
+    (record { printable = tt; in_time = refl; comes = subst (λ k. is_provider (homes k).role ≡ true) (sym is) may; soon = h.in_time })))
+goes_does homes given clock (Act.Restart a) count w s may h fair =
+    goes_changed homes clock w a (restarted (homes a)) s h fair (λ is. subst (λ k. GoesLater homes clock w s (restarted (homes k) s)) is (goes_restarted homes given clock w s h fair))

@@ -17,6 +17,7 @@ use Rattle.agent_node.specs.Doors.{lying}
 use Rattle.agent_node.specs.Seat.{Seat, entered, now_at, enters, enters_now, enters_if}
 use Rattle.agent_node.specs.Turns.{sync_event, cleared, takes, takes_all, work_then, works_off, worked, syncs_if, turn_with}
 use Rattle.agent_node.specs.Acts.{asked, forced, tick_at, ticked}
+use Rattle.agent_node.specs.Restarts.{restart_event, restart_events, reads, reads_past, restarted}
 use Rattle.nsi_play.specs.Rounds.{Net, turned_in, round, events_of, emptied, all_quiet}
 use Rattle.nsi_play.specs.Play.{Played, settles, changes, does, acted, asks_in as asks_of_act, asks_among, acts, ticked_in, begins, group}
 use Rattle.nsi_play.proofs.Settling.{settle_quiet, settle_more, settle_stop, group_is, acts_cons, acts_none}
@@ -42,6 +43,10 @@ asks_append (e ∷ es) fs = ap (λ xs. asks_in e.agent e.what ++ xs) (asks_appen
 asks_one : (e : Event) → asks_of (e ∷ []) ≡ asks_in e.agent e.what
 unfolding asks_of
 asks_one e = append-nil (asks_in e.agent e.what)
+
+asks_more_first : (e : Event) (es : List Event) → asks_in e.agent e.what ≡ [] → asks_of (e ∷ es) ≡ asks_of es
+unfolding asks_of
+asks_more_first e es h = ap (λ xs. xs ++ asks_of es) h
 
 asks_more : (es : List Event) (e : Event) → asks_in e.agent e.what ≡ [] → asks_of (es ++ e ∷ []) ≡ asks_of es
 asks_more es e h = asks_append es (e ∷ []) ∙ (ap (λ xs. asks_of es ++ xs) (asks_one e ∙ h) ∙ append-nil (asks_of es))
@@ -171,6 +176,26 @@ forced_no_ask homes a n count s = elim (cases_eq s.number a) [
   | inr m ↦ ap (λ (u : Seat). asks_of u.events) (changed_there a (forced (homes a) n) s m)
 ]
 
+restarts_no_ask : (times n count : ℕ) → asks_of (restart_events times n count) ≡ []
+restarts_no_ask zero n count = asks_none
+restarts_no_ask (suc times) n count = asks_more_first (restart_event n count) (restart_events times n count) refl ∙ restarts_no_ask times n count
+
+reads_no_ask : (h : Home) (tries : ℕ) (es : List Entry) (s : Seat) → asks_of (reads h tries es s).events ≡ asks_of s.events
+unfolding reads
+reads_no_ask h tries es s =
+    asks_append s.events (restart_event s.number (length es) ∷ restart_events tries s.number (length es))
+    ∙ (ap (λ xs. asks_of s.events ++ xs) (asks_more_first (restart_event s.number (length es)) (restart_events tries s.number (length es)) refl ∙ restarts_no_ask tries s.number (length es)) ∙ append-nil (asks_of s.events))
+
+past_no_ask : (o : Option (List Entry)) (h : Home) (tries : ℕ) (s : Seat) → asks_of (reads_past o h tries s).events ≡ asks_of s.events
+past_no_ask None h tries s = refl
+past_no_ask (Some es) h tries s = reads_no_ask h tries es s
+
+restarted_no_ask : (homes : Homes) (a count : ℕ) (s : Seat) → asks_of (does (Act.Restart a) count homes s).events ≡ asks_of s.events
+restarted_no_ask homes a count s = elim (cases_eq s.number a) [
+  | inl e ↦ ap (λ (u : Seat). asks_of u.events) (changed_here a (restarted (homes a)) s e) ∙ past_no_ask s.past (homes a) 0 s
+  | inr m ↦ ap (λ (u : Seat). asks_of u.events) (changed_there a (restarted (homes a)) s m)
+]
+
 numbered_one : (count : ℕ) (x : Wish) → numbered count (x ∷ []) ≡ record { number = count; agent = x.0; ask = x.1 } ∷ []
 unfolding numbered
 numbered_one count x = refl
@@ -182,7 +207,7 @@ numbered_none count = refl
 act_asks : (homes : Homes) (act : Act) (count : ℕ) (net : Net) → IsHere (numbers net) act → AreDistinct (numbers net) → All IsTold net → asks_of (events_of (acted act count homes net)) ≡ numbered count (wish_of act)
 act_asks homes (Act.Ask a ask) count net c d told = ask_once homes a count ask net c d told ∙ sym (numbered_one count (a, ask))
 act_asks homes (Act.Force a n) count net c d told = net_no_ask (does (Act.Force a n) count homes) (forced_no_ask homes a n count) net told ∙ sym (numbered_none count)
-act_asks homes (Act.Restart a) count net c d told = net_no_ask (does (Act.Restart a) count homes) (λ s. refl) net told ∙ sym (numbered_none count)
+act_asks homes (Act.Restart a) count net c d told = net_no_ask (does (Act.Restart a) count homes) (restarted_no_ask homes a count) net told ∙ sym (numbered_none count)
 
 ---- Acts
 
@@ -197,10 +222,18 @@ number_changed a f s same = by (s.number == a)
     by true = same
     by false = refl
 
+number_reads : (h : Home) (tries : ℕ) (es : List Entry) (s : Seat) → (reads h tries es s).number ≡ s.number
+unfolding reads
+number_reads h tries es s = refl
+
+number_past : (o : Option (List Entry)) (h : Home) (tries : ℕ) (s : Seat) → (reads_past o h tries s).number ≡ s.number
+number_past None h tries s = refl
+number_past (Some es) h tries s = number_reads h tries es s
+
 number_does : (act : Act) (count : ℕ) (homes : Homes) (s : Seat) → (does act count homes s).number ≡ s.number
 number_does (Act.Ask a ask) count homes s = number_changed a (asked (homes a) count ask) s (number_entered (homes a) (now_at s (Input.Ask count ask)) s)
 number_does (Act.Force a n) count homes s = number_changed a (forced (homes a) n) s (number_entered (homes a) (now_at s (Input.Force n)) s)
-number_does (Act.Restart a) count homes s = refl
+number_does (Act.Restart a) count homes s = number_changed a (restarted (homes a)) s (number_past s.past (homes a) 0 s)
 
 number_ticked : (second : ℕ) (homes : Homes) (s : Seat) → (ticked_in second homes s).number ≡ s.number
 unfolding ticked

@@ -1,5 +1,5 @@
 -- Later worlds: what was said stays said, and what was got stays got.
-use Rattle.std.proofs.Common.{ℕ, ◌≤◌, ◌≡◌, List, [], ◌∷◌, ◌++◌, Option, inl, inr, refl, sym, ap, ◌∙◌, subst, arith, length, take, drop, append_assoc, append-nil, length-append, eq-eqb, ne_eqb, take-append-drop}
+use Rattle.std.proofs.Common.{ℕ, ◌≤◌, ◌≡◌, List, [], ◌∷◌, ◌++◌, Option, inl, inr, refl, sym, ap, ◌∙◌, subst, arith, length, take, drop, append_assoc, append-nil, length-append, eq-eqb, ne_eqb, take-append-drop, Some, None, IfSome}
 use Rattle.std.specs.List.{All, Contains}
 use Rattle.std.proofs.lemmas.Bool.{cases_eq}
 use Rattle.std.proofs.lemmas.List.{take-append-le, take_all}
@@ -21,7 +21,7 @@ use Rattle.agent_node.specs.Seat.{Seat}
 use Rattle.nsi_world.specs.Worlds.{Homes, World, synced_part, IsSaidBy, IsSent, IsGot, IsTaken}
 use Rattle.nsi_world.specs.Runs.{at, happens_at, happens, world_after}
 use Rattle.nsi_world.specs.Heard.{WasSent, IsHeard, IsFair}
-use Rattle.nsi_world.specs.Seats.{MayGo, IsDoor, Stands, AreFree, Not, Follows}
+use Rattle.nsi_world.specs.Seats.{MayGo, IsDoor, Stands, AreFree, Not, Follows, Later}
 
 ---- One entry more
 
@@ -137,8 +137,45 @@ doors_later homes rests w v a ds f h = All-weaker (IsDoor homes w a) (IsDoor hom
       queue = all_later homes w v w.journal v.journal a d.other d.queue f.grows f.enters k.queue;
     }
 
+---- Where entries may be gone elsewhere
+
+pub later_follows : (rests : ℕ → Type 0) (w v : World) → Follows rests w v → Later rests w v
+later_follows rests w v f = record { grows = f.grows; others = f.others }
+
+pub later_none : (rests : ℕ → Type 0) (w : World) → Later rests w w
+later_none rests w = later_follows rests w w (follows_none rests w)
+
+pub later_twice : (rests : ℕ → Type 0) (w v u : World) → Later rests w v → Later rests v u → Later rests w u
+later_twice rests w v u p q = record {
+  grows = λ b. ((p.grows b).0 ++ (q.grows b).0, (q.grows b).1 ∙ (ap (λ xs. xs ++ (q.grows b).0) (p.grows b).1 ∙ append_assoc (synced_part w b) (p.grows b).0 (q.grows b).0));
+  others = λ b n. ((q.others b n).0 ∙ (p.others b n).0, (q.others b n).1 ∙ (p.others b n).1);
+}
+
+pub later_fewer : (p q : ℕ → Type 0) (w v : World) → ((b : ℕ) → q b → p b) → Later p w v → Later q w v
+later_fewer p q w v f h = record { grows = h.grows; others = λ b n. h.others b (f b n) }
+
+-- what an agent has queued acknowledges what it has taken itself
+go_still : (homes : Homes) (w v : World) (from to : ℕ) (p : Parcel) → Extends (synced_part w) (synced_part v) → v.journal from ≡ w.journal from → MayGo homes w w.journal from to p → MayGo homes v v.journal from to p
+go_still homes w v from to (Parcel.Message m) g e h = (said_later homes w v from m g h.0, h.1)
+go_still homes w v from to (Parcel.Ack i) g e h = (h.0, h.1, record { said = said_later homes w v to h.0 g h.2.said; addressed = h.2.addressed; got = subst (IsGot h.0) (sym e) h.2.got })
+
+doors_still : (homes : Homes) (w v : World) (a : ℕ) (ds : List Door) → Extends (synced_part w) (synced_part v) → v.journal a ≡ w.journal a → All (IsDoor homes w a) ds → All (IsDoor homes v a) ds
+doors_still homes w v a ds g e h = All-weaker (IsDoor homes w a) (IsDoor homes v a) door ds h
+  where
+    door : (d : Door) → IsDoor homes w a d → IsDoor homes v a d
+    door d k = record {
+      inc = all_later homes w v (synced_part w) (synced_part v) d.other a d.inc g g k.inc;
+      out = all_later homes w v (synced_part w) (synced_part v) a d.other d.out g g k.out;
+      queue = All-weaker (MayGo homes w w.journal a d.other) (MayGo homes v v.journal a d.other) (λ p. go_still homes w v a d.other p g e) d.queue k.queue;
+    }
+
+-- what is told of synced entries
+pub past_as : (o : Option (List Entry)) (xs ys : List Entry) → ys ≡ xs → IfSome o (λ es. es ≡ xs) → IfSome o (λ es. es ≡ ys)
+past_as None xs ys e h = tt
+past_as (Some es) xs ys e h = h ∙ sym e
+
 -- another agent's seat stands as before
-pub stands_later : (homes : Homes) (clock : ℕ) (rests : ℕ → Type 0) (w v : World) (s : Seat) → rests s.number → Follows rests w v → Stands homes clock w s → Stands homes clock v s
+pub stands_later : (homes : Homes) (clock : ℕ) (rests : ℕ → Type 0) (w v : World) (s : Seat) → rests s.number → Later rests w v → Stands homes clock w s → Stands homes clock v s
 stands_later homes clock rests w v s n f h =
     let a : ℕ = s.number in
     let same : synced_part v a ≡ synced_part w a = ap (λ k. take k (v.journal a)) (f.others a n).1 ∙ ap (take (w.synced a)) (f.others a n).0 in
@@ -146,9 +183,10 @@ stands_later homes clock rests w v s n f h =
       agent = h.agent;
       journal = (f.others a n).0 ∙ (h.journal ∙ ap (λ es. es ++ s.fresh) (sym same));
       synced = (f.others a n).1 ∙ h.synced;
+      past = past_as s.past (synced_part w a) (synced_part v a) same h.past;
       state = ap (λ (es : List Entry). (told (homes a) es).state) (f.others a n).0 ∙ h.state;
       unsaid = ap (λ (es : List Entry). (told (homes a) es).out) (f.others a n).0 ∙ (h.unsaid ∙ ap (λ (es : List Entry). (told (homes a) es).out ++ s.unsaid) (sym same));
-      doors = doors_later homes rests w v a s.doors f h.doors;
+      doors = doors_still homes w v a s.doors f.grows (f.others a n).0 h.doors;
       in_time = h.in_time;
     }
 

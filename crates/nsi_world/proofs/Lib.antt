@@ -3,6 +3,7 @@ mod Given
 pub mod Later
 mod DoorSteps
 mod Steps
+pub mod RestartSteps
 mod Receipts
 mod TurnSteps
 mod NetSteps

@@ -67,6 +67,7 @@ seat_stands t routes plans a wf lt = record {
   agent = is_agent t routes a wf lt;
   journal = refl;
   synced = refl;
+  past = refl;
   state = refl;
   unsaid = refl;
   doors = no_doors (home_in t routes) (plans a) a (others_of t a);

@@ -17,17 +17,18 @@ use Rattle.nsi_world.specs.Nets.{AllStand, NetGoesOn}
 use Rattle.nsi_world.proofs.ScriptLemmas.{RiseFrom}
 use Rattle.nsi_world.proofs.Given.{Given}
 use Rattle.nsi_world.proofs.Later.{free_append, after_append}
+use Rattle.nsi_world.proofs.Steps.{later_goes}
 use Rattle.nsi_world.proofs.NetSteps.{Goes, step_goes, round_goes}
 use Rattle.nsi_world.proofs.ActSteps.{MayAct, goes_ticked, goes_does}
 
-net_twice : (homes : Homes) (clock : ℕ) (w : World) (x y z : Net) (es fs : List Event) → NetGoesOn homes clock w x es y → NetGoesOn homes clock (world_after w es) y fs z → NetGoesOn homes clock w x (es ++ fs) z
+pub net_twice : (homes : Homes) (clock : ℕ) (w : World) (x y z : Net) (es fs : List Event) → NetGoesOn homes clock w x es y → NetGoesOn homes clock (world_after w es) y fs z → NetGoesOn homes clock w x (es ++ fs) z
 net_twice homes clock w x y z es fs p q = record {
   free = free_append homes w es fs p.free q.free;
   numbers = q.numbers ∙ p.numbers;
   stand = subst (λ v. AllStand homes clock v z) (sym (after_append w es fs)) q.stand;
 }
 
-net_none : (homes : Homes) (clock : ℕ) (w : World) (x : Net) → AllStand homes clock w x → NetGoesOn homes clock w x [] x
+pub net_none : (homes : Homes) (clock : ℕ) (w : World) (x : Net) → AllStand homes clock w x → NetGoesOn homes clock w x [] x
 unfolding world_after AreFree
 net_none homes clock w x h = record { free = tt; numbers = refl; stand = h }
 
@@ -54,26 +55,26 @@ settles_come homes given clock w (suc most) x h = elim (cases_Bool (all_quiet ho
 
 ---- Acts
 
-any_does : (homes : Homes) (clock : ℕ) (act : Act) (count : ℕ) (net : Net) → MayAct homes act → All (Goes homes clock (does act count homes)) net
-any_does homes clock act count [] may = All-nil (Goes homes clock (does act count homes))
-any_does homes clock act count (s ∷ ss) may = All-cons (Goes homes clock (does act count homes)) s ss (λ w h fair. goes_does homes clock act count w s may h fair) (any_does homes clock act count ss may)
+any_does : (homes : Homes) → Given homes → (clock : ℕ) (act : Act) (count : ℕ) (net : Net) → MayAct homes act → All (Goes homes clock (does act count homes)) net
+any_does homes given clock act count [] may = All-nil (Goes homes clock (does act count homes))
+any_does homes given clock act count (s ∷ ss) may = All-cons (Goes homes clock (does act count homes)) s ss (λ w h fair. goes_does homes given clock act count w s may h fair) (any_does homes given clock act count ss may)
 
-acts_come : (homes : Homes) (clock : ℕ) (w : World) (todo : List Act) (count : ℕ) (x : Net) → All (MayAct homes) todo → AllStand homes clock w x → Comes homes clock w x (acts todo count homes x)
-acts_come homes clock w [] count x may h = subst (Comes homes clock w x) (sym (acts_none count homes x)) (net_none homes clock w x h)
-acts_come homes clock w (a ∷ rest) count x may h =
+acts_come : (homes : Homes) → Given homes → (clock : ℕ) (w : World) (todo : List Act) (count : ℕ) (x : Net) → All (MayAct homes) todo → AllStand homes clock w x → Comes homes clock w x (acts todo count homes x)
+acts_come homes given clock w [] count x may h = subst (Comes homes clock w x) (sym (acts_none count homes x)) (net_none homes clock w x h)
+acts_come homes given clock w (a ∷ rest) count x may h =
     let y : Net = acted a count homes x in
     let z : Net = emptied y in
     let n : ℕ = count + asks_in a in
-    let r = step_goes homes clock (does a count homes) w x (any_does homes clock a count x (All-head (MayAct homes) a rest may)) h in
+    let r = step_goes homes clock (does a count homes) w x (any_does homes given clock a count x (All-head (MayAct homes) a rest may)) h in
     subst (Comes homes clock w x) (sym (acts_cons a rest count homes x))
     (net_twice homes clock w x z (acts rest n homes z).net (events_of y) (acts rest n homes z).events r
-    (acts_come homes clock (world_after w (events_of y)) rest n z (All-tail (MayAct homes) a rest may) r.stand))
+    (acts_come homes given clock (world_after w (events_of y)) rest n z (All-tail (MayAct homes) a rest may) r.stand))
 
 ---- Groups
 
 any_ticked : (homes : Homes) → Given homes → (clock : ℕ) (net : Net) → All (Goes homes clock (ticked_in clock homes)) net
 any_ticked homes given clock [] = All-nil (Goes homes clock (ticked_in clock homes))
-any_ticked homes given clock (s ∷ ss) = All-cons (Goes homes clock (ticked_in clock homes)) s ss (λ w h fair. goes_ticked homes given clock w s h fair) (any_ticked homes given clock ss)
+any_ticked homes given clock (s ∷ ss) = All-cons (Goes homes clock (ticked_in clock homes)) s ss (λ w h fair. later_goes homes clock w s (ticked_in clock homes s) (goes_ticked homes given clock w s h fair)) (any_ticked homes given clock ss)
 
 begun : (homes : Homes) (w : World) (g : Group) (count : ℕ) (x : Net)
     → NetGoesOn homes g.at w x (events_of (map (ticked_in g.at homes) x) ++ (acts g.acts count homes (emptied (map (ticked_in g.at homes) x))).events) (acts g.acts count homes (emptied (map (ticked_in g.at homes) x))).net
@@ -89,7 +90,7 @@ group_comes homes given w most g count x may h =
     let es : List Event = events_of y in
     let b : Played = begins g count homes x in
     let r = step_goes homes clock (ticked_in clock homes) w x (any_ticked homes given clock x) h in
-    let a = acts_come homes clock (world_after w es) g.acts count z may r.stand in
+    let a = acts_come homes given clock (world_after w es) g.acts count z may r.stand in
     let c : NetGoesOn homes clock w x b.events b.net = begun homes w g count x (net_twice homes clock w x z (acts g.acts count homes z).net es (acts g.acts count homes z).events r a) in
     subst (Comes homes clock w x) (sym (group_is most g count homes x))
     (net_twice homes clock w x b.net (settles most homes b.net).net b.events (settles most homes b.net).events c (settles_come homes given clock (world_after w b.events) most b.net c.stand))
@@ -99,14 +100,14 @@ pub stand_longer : (homes : Homes) (c d : ℕ) (w : World) (x : Net) → c ≤ d
 stand_longer homes c d w x le h = record { distinct = h.distinct; told = h.told; stand = All-weaker (Stands homes c w) (Stands homes d w) later x h.stand; fair = h.fair }
   where
     later : (s : Seat) → Stands homes c w s → Stands homes d w s
-    later s k = record { agent = k.agent; journal = k.journal; synced = k.synced; state = k.state; unsaid = k.unsaid; doors = k.doors; in_time = let n = k.in_time in omega (arith, n, le) }
+    later s k = record { agent = k.agent; journal = k.journal; synced = k.synced; past = k.past; state = k.state; unsaid = k.unsaid; doors = k.doors; in_time = let n = k.in_time in omega (arith, n, le) }
 
 ---- Plays
 
 abbrev pub MayActAll : Homes → Group → Type 0
 MayActAll homes g = All (MayAct homes) g.acts
 
-goes_longer : (homes : Homes) (c d : ℕ) (w : World) (x y : Net) (es : List Event) → c ≤ d → NetGoesOn homes c w x es y → NetGoesOn homes d w x es y
+pub goes_longer : (homes : Homes) (c d : ℕ) (w : World) (x y : Net) (es : List Event) → c ≤ d → NetGoesOn homes c w x es y → NetGoesOn homes d w x es y
 goes_longer homes c d w x y es le p = record { free = p.free; numbers = p.numbers; stand = stand_longer homes c d (world_after w es) y le p.stand }
 
 pub first_second : (c : ℕ) (g : Group) (gs : List Group) → RiseFrom c (g ∷ gs) → c ≤ g.at

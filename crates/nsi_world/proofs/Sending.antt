@@ -33,7 +33,7 @@ restart_grows w a n low high b = let js : List Entry = w.journal a in elim (case
   | inr m ↦ ([], ap (λ k. take k (at a (take n js) w.journal b)) (at_other a b n w.synced m) ∙ (ap (take (w.synced b)) (at_other a b (take n js) w.journal m) ∙ sym (append-nil (synced_part w b))))
 ]
 
-fair_restart : (homes : Homes) (w : World) (a n : ℕ) → w.synced a ≤ n → n ≤ length (w.journal a) → IsFair homes w → IsFair homes (happens_at w a (Happening.Restart n))
+pub fair_restart : (homes : Homes) (w : World) (a n : ℕ) → w.synced a ≤ n → n ≤ length (w.journal a) → IsFair homes w → IsFair homes (happens_at w a (Happening.Restart n))
 fair_restart homes w a n low high fair =
     let js : List Entry = w.journal a in
     let v : World = happens_at w a (Happening.Restart n) in

@@ -1,5 +1,5 @@
 -- What an agent does is allowed: an entry, a change at its doors, a sync.
-use Rattle.std.proofs.Common.{ℕ, ◌+◌, ◌≤◌, ◌≡◌, Bool, true, false, List, [], ◌∷◌, ◌++◌, refl, sym, ap, ◌∙◌, subst, arith, length, take, append_assoc, append-nil, length-append}
+use Rattle.std.proofs.Common.{ℕ, ◌+◌, ◌≤◌, ◌≡◌, Bool, true, false, List, [], ◌∷◌, ◌++◌, refl, sym, ap, ◌∙◌, subst, arith, length, take, append_assoc, append-nil, length-append, Option, Some, None, IfSome}
 use Rattle.std.specs.List.{All, Contains}
 use Rattle.std.proofs.lemmas.List.{take-append-le, take_all, length-take-le}
 use Rattle.std.proofs.lemmas.List.Elements.{All-weaker, All-contains_itself, Contains-append_right}
@@ -15,13 +15,13 @@ use Rattle.nsi_agent.specs.Told.{told}
 use Rattle.nsi_agent.proofs.Staying.{entries_are_taken, others_are_left_out}
 use Rattle.agent_node.specs.Doors.{Door}
 use Rattle.agent_node.specs.Seat.{Seat, enters}
-use Rattle.agent_node.specs.Turns.{sync_event, syncs}
+use Rattle.agent_node.specs.Turns.{adds, sync_event, syncs}
 use Rattle.nsi_world.specs.Worlds.{Homes, World, synced_part, said, IsSaidBy}
 use Rattle.nsi_world.specs.Runs.{MayCome, IsInTime, IsEntered, happens_at, world_after}
 use Rattle.nsi_world.specs.Heard.{WasSent, IsFair}
-use Rattle.nsi_world.specs.Seats.{IsDoor, Stands, AreFree, Not, Follows, GoesOn}
+use Rattle.nsi_world.specs.Seats.{IsDoor, Stands, AreFree, Not, Follows, GoesOn, GoesLater}
 use Rattle.nsi_world.proofs.Given.{Given}
-use Rattle.nsi_world.proofs.Later.{told_state, told_out, at_same, follows_none, follows_twice, follows_entry, follows_sync, doors_later, fair_entry, fair_sync, free_append, after_append}
+use Rattle.nsi_world.proofs.Later.{told_state, told_out, at_same, follows_none, follows_twice, follows_entry, follows_sync, later_follows, doors_later, past_as, fair_entry, fair_sync, free_append, after_append}
 use Rattle.nsi_world.proofs.DoorSteps.{doors_say}
 
 pub goes_none : (homes : Homes) (clock : ℕ) (w : World) (s : Seat) → Stands homes clock w s → IsFair homes w → GoesOn homes clock w s s
@@ -41,6 +41,18 @@ goes_twice homes clock w s u v p q =
       stands = subst (λ z. Stands homes clock z v) (sym (after_append w p.own q.own)) q.stands;
       fair = subst (λ z. IsFair homes z) (sym (after_append w p.own q.own)) q.fair;
     }
+
+-- where nothing of its own is gone
+pub later_goes : (homes : Homes) (clock : ℕ) (w : World) (s u : Seat) → GoesOn homes clock w s u → GoesLater homes clock w s u
+later_goes homes clock w s u p = record {
+  own = p.own;
+  events = p.events;
+  free = p.free;
+  later = later_follows (Not s.number) w (world_after w p.own) p.follows;
+  number = p.number;
+  stands = p.stands;
+  fair = p.fair;
+}
 
 ---- An entry
 
@@ -92,6 +104,7 @@ enters_here homes clock w e s h fair c =
         agent = h.agent;
         journal = here ∙ (ap (λ es. es ++ e ∷ []) h.journal ∙ (append_assoc (synced_part w a) s.fresh (e ∷ []) ∙ ap (λ es. es ++ (s.fresh ++ e ∷ [])) (sym part)));
         synced = h.synced;
+        past = past_as s.past (synced_part w a) (synced_part v a) part h.past;
         state = ap (λ (es : List Entry). (told (homes a) es).state) here ∙ (told_state (homes a) js e ∙ ap (λ z. (after (homes a) z e).state) h.state);
         unsaid = ap (λ (es : List Entry). (told (homes a) es).out) here ∙ (told_out (homes a) js e
             ∙ (ap (λ z. (told (homes a) js).out ++ (after (homes a) z e).out) h.state
@@ -116,11 +129,15 @@ goes_doors homes clock w s ds h fair d = record {
   free = tt;
   follows = follows_none (Not s.number) w;
   number = refl;
-  stands = record { agent = h.agent; journal = h.journal; synced = h.synced; state = h.state; unsaid = h.unsaid; doors = d; in_time = h.in_time };
+  stands = record { agent = h.agent; journal = h.journal; synced = h.synced; past = h.past; state = h.state; unsaid = h.unsaid; doors = d; in_time = h.in_time };
   fair = fair;
 }
 
 ---- A sync
+
+past_adds : (o : Option (List Entry)) (fresh xs ys : List Entry) → ys ≡ xs ++ fresh → IfSome o (λ es. es ≡ xs) → IfSome (adds fresh o) (λ es. es ≡ ys)
+past_adds None fresh xs ys e h = tt
+past_adds (Some es) fresh xs ys e h = ap (λ zs. zs ++ fresh) h ∙ sym e
 
 syncs_here : (homes : Homes) → Given homes → (clock : ℕ) (w : World) (s : Seat) → Stands homes clock w s → IsFair homes w → GoesOn homes clock w s (syncs (homes s.number) s)
 unfolding world_after AreFree
@@ -145,6 +162,7 @@ syncs_here homes given clock w s h fair =
         agent = h.agent;
         journal = sym whole ∙ sym (append-nil (synced_part v a));
         synced = at_same a n w.synced;
+        past = past_adds s.past s.fresh (synced_part w a) (synced_part v a) (whole ∙ h.journal) h.past;
         state = h.state;
         unsaid = out ∙ sym (append-nil (said homes v a));
         doors = doors_say homes given v a s.unsaid s.doors (All-weaker (Contains s.unsaid) (IsSaidBy homes v a) spoken s.unsaid (All-contains_itself s.unsaid)) (doors_later homes (Not a) w v a s.doors f h.doors);

@@ -15,7 +15,7 @@ use Rattle.nsi_agent.specs.Told.{told}
 use Rattle.nsi_agent.proofs.SeenGot.{seen_was_got}
 use Rattle.agent_node.specs.Doors.{queue_at, lying, clears, pushes}
 use Rattle.agent_node.specs.Seat.{Seat, now_at, enters, enters_now, enters_if, queues}
-use Rattle.agent_node.specs.Turns.{cleared, takes, takes_all, work_then, works_off, worked, syncs_if, synced_all, pushed, turn_with, turned}
+use Rattle.agent_node.specs.Turns.{cleared, takes, takes_all, work_then, works_off, worked, syncs_if, synced_all, pushed, turn_with, turned, halted}
 use Rattle.nsi_world.specs.Worlds.{Homes, World, synced_part, IsSaidBy, IsTo, IsTaken}
 use Rattle.nsi_world.specs.Runs.{is_provider, world_after}
 use Rattle.nsi_world.specs.Heard.{IsFair}
@@ -131,6 +131,22 @@ goes_pushed : (homes : Homes) (clock : ℕ) (w : World) (s : Seat) → Stands ho
 goes_pushed homes clock w s h fair e =
     let whole : w.journal s.number ≡ synced_part w s.number = h.journal ∙ (ap (λ es. synced_part w s.number ++ es) e ∙ append-nil (synced_part w s.number)) in
     goes_doors homes clock w s (map pushes s.doors) h fair (doors_push homes w s.number s.doors whole h.doors)
+
+-- a turn that ends where the disk stops
+pub goes_halted : (homes : Homes) → Given homes → (clock : ℕ) (w : World) (s : Seat) → Stands homes clock w s → IsFair homes w → GoesOn homes clock w s (halted (homes s.number) s)
+goes_halted homes given clock w s h fair =
+    let n : ℕ = s.number in
+    let home : Home = homes n in
+    let a : Seat = cleared s in
+    let p = goes_doors homes clock w s (map clears s.doors) h fair (doors_clear homes w n s.doors h.doors) in
+    let w1 : World = world_after w p.own in
+    let lie = lying_later homes (Not n) w w1 n (lying s.doors) p.follows (doors_lying homes w n s.doors h.doors) in
+    let b : Seat = takes_all home (lying s.doors) a in
+    let q = goes_takes_all homes given clock w1 n (lying s.doors) a refl p.stands p.fair lie in
+    let w2 : World = world_after w1 q.own in
+    let c : Seat = worked home b in
+    let r = goes_works homes clock w2 n (works_left home.role b.state) b q.number q.stands q.fair in
+    goes_twice homes clock w s a c p (goes_twice homes clock w1 a b c q r)
 
 pub goes_turned : (homes : Homes) → Given homes → (clock : ℕ) (w : World) (s : Seat) → Stands homes clock w s → IsFair homes w → GoesOn homes clock w s (turned (homes s.number) s)
 unfolding turn_with

@@ -1,5 +1,5 @@
 -- An agent of a net as it stands in a world.
-use Rattle.std.specs.Prelude.{◌≡◌, ◌≤◌, ℕ, List, [], ◌∷◌, ◌++◌, length}
+use Rattle.std.specs.Prelude.{◌≡◌, ◌≤◌, ℕ, List, [], ◌∷◌, ◌++◌, length, IfSome}
 use Rattle.std.specs.List.{All}
 use Rattle.nsi_primitive.specs.Messages.{identity}
 use Rattle.nsi_primitive.specs.declared.entry.Entry.{Entry}
@@ -30,11 +30,12 @@ pub record IsDoor (homes : Homes) (w : World) (a : ℕ) (d : Door) : Type 0 wher
 
 ---- Seats
 
--- it has the agent's journal, and what lies at its doors was said; its clock isn't past the second
+-- it has the agent's journal, what it tells of the synced entries is so, and what lies at its doors was said; its clock isn't past the second
 pub record Stands (homes : Homes) (clock : ℕ) (w : World) (s : Seat) : Type 0 where
   pub agent : IsAgent homes s.number
   pub journal : w.journal s.number ≡ synced_part w s.number ++ s.fresh
   pub synced : w.synced s.number ≡ s.synced
+  pub past : IfSome s.past (λ es. es ≡ synced_part w s.number)
   pub state : (told (homes s.number) (w.journal s.number)).state ≡ s.state
   pub unsaid : (told (homes s.number) (w.journal s.number)).out ≡ said homes w s.number ++ s.unsaid
   pub doors : All (IsDoor homes w s.number) s.doors
@@ -68,6 +69,23 @@ pub record GoesOn (homes : Homes) (clock : ℕ) (w : World) (old new : Seat) : T
   pub events : new.events ≡ old.events ++ own
   pub free : AreFree homes w own
   pub follows : Follows (Not old.number) w (world_after w own)
+  pub number : new.number ≡ old.number
+  pub stands : Stands homes clock (world_after w own) new
+  pub fair : IsFair homes (world_after w own)
+
+---- What a restart leaves
+
+-- a later world: more is synced, at some agents nothing has happened, and entries that weren't synced may be gone
+pub record Later (rests : ℕ → Type 0) (w v : World) : Type 0 where
+  pub grows : (a : ℕ) → (more : List Entry) × (synced_part v a ≡ synced_part w a ++ more)
+  pub others : (a : ℕ) → rests a → (v.journal a ≡ w.journal a) × (v.synced a ≡ w.synced a)
+
+-- the same of an agent that perhaps goes on from what its journal has
+pub record GoesLater (homes : Homes) (clock : ℕ) (w : World) (old new : Seat) : Type 0 where
+  pub own : List Event
+  pub events : new.events ≡ old.events ++ own
+  pub free : AreFree homes w own
+  pub later : Later (Not old.number) w (world_after w own)
   pub number : new.number ≡ old.number
   pub stands : Stands homes clock (world_after w own) new
   pub fair : IsFair homes (world_after w own)

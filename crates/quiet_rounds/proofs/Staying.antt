@@ -1,16 +1,19 @@
 -- What happens to the agents of a play keeps their net bounded, and it begins so.
-use Rattle.std.proofs.Common.{ℕ, ◌+◌, ◌≡◌, ◌≢◌, ◌==◌, Bool, true, false, cond, List, [], ◌∷◌, refl, sym, ap, ◌∙◌, subst, arith, length, map, zero-le}
+use Rattle.std.proofs.Common.{ℕ, ◌+◌, ◌≡◌, ◌≢◌, ◌==◌, Bool, true, false, cond, List, [], ◌∷◌, Option, Some, None, refl, sym, ap, ◌∙◌, subst, arith, length, map, zero-le}
 use Rattle.std.specs.List.{All, AllPairs, Contains, range_with_len}
 use Rattle.std.proofs.lemmas.List.Elements.{All-nil, All-cons, All-head, All-tail, All-map, All-filter, All-contains_itself}
 use Rattle.std.proofs.lemmas.List.FromFn.{get_or-range_with_len, length-range_with_len}
 use Rattle.std.proofs.lemmas.List.Kept.{AllPairs-filter}
+use Rattle.nsi_primitive.specs.declared.entry.Entry.{Entry}
 use Rattle.nsi_primitive.specs.declared.entry.Input.{Input}
 use Rattle.stp_topology.specs.declared.network.Network.{Network}
 use Rattle.nsi_script.specs.declared.script.Act.{Act}
 use Rattle.nsi_agent.specs.Homes.{Home}
-use Rattle.agent_node.specs.Doors.{HasMet, others}
+use Rattle.nsi_agent.specs.Told.{told}
+use Rattle.agent_node.specs.Doors.{Door, HasMet, others}
 use Rattle.agent_node.specs.Seat.{Seat, now_at, enters}
 use Rattle.agent_node.specs.Acts.{overdue, ticked, asked, forced}
+use Rattle.agent_node.specs.Restarts.{drops, reads, reads_past, restarted}
 use Rattle.agent_link.specs.Plans.{Plan}
 use Rattle.agent_node.specs.Openings.{agents, are_linked, others_of, opened, seat_of}
 use Rattle.nsi_play.specs.Openings.{Plans, opening}
@@ -19,7 +22,7 @@ use Rattle.nsi_play.specs.Rounds.{Net, Homes, tells, emptied}
 use Rattle.quiet_rounds.specs.Bounded.{numbers, IsFew, LeadsTo, IsBoundedIn, IsBounded}
 use Rattle.quiet_rounds.specs.Laws.{StepsKeepBounds, OpeningsAreBounded}
 use Rattle.quiet_rounds.proofs.Bounding.{round_bounded}
-use Rattle.quiet_rounds.proofs.Ends.{HasSameEnds, same_ends, same_enters, bare_said, bounded_same}
+use Rattle.quiet_rounds.proofs.Ends.{HasSameEnds, bare, same_ends, same_enters, bare_said, bounded_same}
 
 ---- Ticks and acts
 
@@ -31,10 +34,22 @@ same_if : (b : Bool) (s u : Seat) → HasSameEnds s u → HasSameEnds s (cond b 
 same_if true s u h = h
 same_if false s u h = same_ends s
 
+bare_dropped : (ds : List Door) → map bare (map drops ds) ≡ map bare ds
+bare_dropped [] = refl
+bare_dropped (d ∷ ds) = ap (λ (es : List Door). bare d ∷ es) (bare_dropped ds)
+
+same_reads : (h : Home) (tries : ℕ) (es : List Entry) (s : Seat) → HasSameEnds s (reads h tries es s)
+unfolding reads
+same_reads h tries es s = record { number = refl; ends = bare_said h.agent_of (told h es).state.base.waiting (map drops s.doors) ∙ bare_dropped s.doors }
+
+same_past : (o : Option (List Entry)) (h : Home) (tries : ℕ) (s : Seat) → HasSameEnds s (reads_past o h tries s)
+same_past None h tries s = same_ends s
+same_past (Some es) h tries s = same_reads h tries es s
+
 same_does : (act : Act) (count : ℕ) (homes : Homes) (s : Seat) → HasSameEnds s (does act count homes s)
 same_does (Act.Ask a ask) count homes s = same_if (s.number == a) s (asked (homes a) count ask s) (same_enters (homes a) (now_at s (Input.Ask count ask)) s)
 same_does (Act.Force a n) count homes s = same_if (s.number == a) s (forced (homes a) n s) (same_enters (homes a) (now_at s (Input.Force n)) s)
-same_does (Act.Restart a) count homes s = same_ends s
+same_does (Act.Restart a) count homes s = same_if (s.number == a) s (restarted (homes a) s) (same_past s.past (homes a) 0 s)
 
 same_tells : (s : Seat) → HasSameEnds s (tells s)
 same_tells s = record { number = refl; ends = refl }

@@ -1,4 +1,4 @@
-use Rattle.std.proofs.Common.{rules, ◌≡◌, ◌+◌, ◌∙◌, ◌++◌, ◌∷◌, [], ap, sym, subst, length, ℕ, List, Option}
+use Rattle.std.proofs.Common.{rules, ◌≡◌, ◌+◌, ◌∙◌, ◌++◌, ◌∷◌, [], ap, sym, subst, length, ℕ, List, Option, None}
 use Rattle.stp_topology.specs.Network.{agent_of}
 use Rattle.nsi_agent.specs.Homes.{home_in}
 use Rattle.agent_node.specs.Doors.{says_all}
@@ -13,7 +13,7 @@ pub returns-clause-ok : goal.returns-clause-ok
 returns-clause-ok c =
     let i = c.self.inside in
     let s = seat_by i.synced i.fresh i.unsaid i.events i.links.doors i.agent in
-    let new : Seat = record { number = i.agent.number; state = i.agent.state; synced = c.in-Some.count; fresh = c.clear.new.self; unsaid = c.take_all-said.new.self; events = c.push_sync.new.self; doors = c.say_all.new.self.doors } in
+    let new : Seat = record { number = i.agent.number; state = i.agent.state; past = None; synced = c.in-Some.count; fresh = c.clear.new.self; unsaid = c.take_all-said.new.self; events = c.push_sync.new.self; doors = c.say_all.new.self.doors } in
     let n : c.in-Some.count ≡ i.synced + length i.fresh = search rules in
     let events : c.push_sync.new.self ≡ i.events ++ sync_event i.agent.number c.in-Some.count ∷ [] = search rules in
     let said : c.say_all.new.self.doors ≡ says_all (agent_of i.topology.now) i.unsaid i.links.doors = search rules in
