@@ -1,9 +1,10 @@
 -- A circuit, computed: a requester reserves and commits a connection through an aggregator over two providers, over the legs of the least paths;
 -- it is a run. And what is no circuit: the same where one provider didn't take its commit.
-use Rattle.std.proofs.Common.{ℕ, zero, suc, ◌≡◌, ◌<◌, ◌∙◌, inl, inr, Bool, true, List, [], ◌∷◌, ◌++◌, length, map, get_or, Contains, Option, Some, None, slice_get, refl, sym, ap, subst, arith}
+use Rattle.std.proofs.Common.{ℕ, zero, suc, ◌≡◌, ◌<◌, ◌∙◌, inl, inr, ◌&&◌, ◌==◌, Bool, true, List, [], ◌∷◌, ◌++◌, length, map, get_or, bytes_eq, Contains, Option, Some, None, slice_get, refl, sym, ap, subst, arith}
 use Rattle.std.specs.Prelude.{codes}
 use Rattle.std.proofs.lemmas.List.{get_or_default}
 use Rattle.std.proofs.lemmas.List.Elements.{Contains-get_or}
+use Rattle.std.proofs.lemmas.List.Quantifiers.{position-Some}
 use Rattle.std.proofs.lemmas.Option.{get_or_from_slice_get, slice_get_within}
 use Rattle.nsi_primitive.specs.Ids.{id_of}
 use Rattle.nsi_primitive.specs.Kinds.{kind_number}
@@ -57,7 +58,7 @@ use Rattle.nsi_world.specs.Runs.{world_after, happens, AreAllowed, Wish, IsRun, 
 use Rattle.run_growth.specs.Cuts.{IsCutOf, state_of_cut, synced_state}
 use Rattle.run_growth.specs.InStep.{versions_of}
 use Rattle.circuit_pairs.specs.Minding.{view_in}
-use Rattle.circuit_laws.specs.Backed.{leg_in, IsLeastWay, IsChildOf, IsBackedIn, HasView, EachViewIsBacked, LivesIn, IsCircuit, EachCircuitStands}
+use Rattle.circuit_laws.specs.Backed.{leg_in, IsLeastWay, IsChildOf, IsBackedIn, HasView, EachViewIsBacked, LivesIn, IsBetweenIn, IsCircuit, EachCircuitStands}
 use Rattle.least_routes.specs.Laws.{LeastPathOrNone}
 use Rattle.circuit_laws.specs.Laws.{IsCircuitRun}
 use Rattle.circuit_laws.proofs.Leading.{got_at}
@@ -214,6 +215,22 @@ has_none (r ∷ []) e zero = cc
 has_none (r ∷ []) e (suc n) = refl
 has_none (r ∷ (q ∷ rs)) e n = absurd (cc)
 
+abbrev source_of : Record → List ℕ
+source_of r = r.service.source
+
+abbrev dest_of : Record → List ℕ
+dest_of r = r.service.dest
+
+-- the one record is between a view's points
+abbrev AreBetween : ChildConnection → List Record → Type 0
+AreBetween x rs = (map source_of rs ≡ x.source ∷ []) × (map dest_of rs ≡ x.dest ∷ [])
+
+all_same : (f : Record → List ℕ) (rs : List Record) (p : List ℕ) → map f rs ≡ p ∷ [] → (n : ℕ) → n < length rs → f (record_at n rs) ≡ p
+all_same f [] p e n l = absurd (cc)
+all_same f (r ∷ []) p e zero l = cc
+all_same f (r ∷ []) p e (suc n) l = absurd (omega (arith, l))
+all_same f (r ∷ (q ∷ rs)) p e n l = absurd (cc)
+
 abbrev lives_still : Record → Bool
 lives_still r = is_live r.lsm
 
@@ -276,6 +293,7 @@ module _ (given : Routes) (search : LeastPathOrNone) where
     pub of_the_first_provider : IsChildOf topology homes 2 (view whole 0).child 0
     pub which_has_it : IsBackedIn homes whole 2 0 (view whole 0) 0 (id_of 2 4)
     pub its_record_lives : map lives_still (synced_state homes whole 0).base.records ≡ true ∷ []
+    pub and_is_between_its_points : AreBetween (view whole 0) (synced_state homes whole 0).base.records
     pub it_has_a_record : length (joint whole).base.records ≡ 1
     pub by_all_that_is_synced : IsCutOf whole 2 8
 
@@ -304,6 +322,7 @@ module _ (given : Routes) (search : LeastPathOrNone) where
           stands = there_at (versions_of (record_at 0 (synced_state homes whole 0).base.records)) 0 1 0 refl (omega arith) refl;
         };
         its_record_lives = refl;
+        and_is_between_its_points = (refl, refl);
         it_has_a_record = refl;
         by_all_that_is_synced = record { synced = let e : whole.synced 2 ≡ 8 = refl in omega (arith, e); within = let e : length (whole.journal 2) ≡ 8 = refl in omega (arith, e) };
       }
@@ -312,6 +331,7 @@ module _ (given : Routes) (search : LeastPathOrNone) where
     pub the_second_provider : IsChildOf topology homes 2 (view whole 1).child 1
     pub has_it_by_another_commit : IsBackedIn homes whole 2 1 (view whole 1) 0 (id_of 2 5)
     pub its_record_lives : map lives_still (synced_state homes whole 1).base.records ≡ true ∷ []
+    pub and_is_between_its_points : AreBetween (view whole 1) (synced_state homes whole 1).base.records
 
   pub second_row : IsSecondRow
   unfolding kind_number connection_of named_connection reservation_row provision_row lifecycle_row status joined announces is_heard with_heard is_old saw is_taken with_taken lack_at first_from first_lack_by places asks_child request_about reserve_for child_hears is_kind open_request reservation_closing provision_closing closes moves requested provided is_terminating record_waits record_work tells_plane record_tells demand provision_event provisions lifecycle_event lives event_of is_live is_working record_worked record_reserves has_row is_in_place unnamed_refusal modification_refusal refusal lacks_among capacities_among works provider_receives provider_step provider_after find_view requester_answers asks_at asks_new asks_found reserves asked_of requester_asked hears_if requester_step requester_after asks_if_free asks_if_known next_after asked_view next_behind each request_if may_abort reserve_if passed_on views_of with_path is_held checked reservation_verdict reservation_due provision_verdict provision_due settles_reservation settles_provision closes_unless settles settle tell_joined pass_on takes turn_by_request request_turn is_timed_out is_ended hold_end_by force_by hold_ends force_ends heard_by turn_by_answer answer_turn spoken due_for request_at answers pass_then hear_all part_of hears receives step after home_in after_as goes_on world_after
@@ -329,6 +349,7 @@ module _ (given : Routes) (search : LeastPathOrNone) where
           stands = there_at (versions_of (record_at 0 (synced_state homes whole 1).base.records)) 0 1 0 refl (omega arith) refl;
         };
         its_record_lives = refl;
+        and_is_between_its_points = (refl, refl);
       }
 
   -- the requester's view of the aggregator
@@ -383,10 +404,16 @@ module _ (given : Routes) (search : LeastPathOrNone) where
   ---- A circuit
 
   abbrev StandsBelow : ChildConnection → Type 0
-  StandsBelow x = Contains x.committed 0 × (b : ℕ) × (c : ℕ) × IsChildOf topology homes 2 x.child b × IsBackedIn homes whole 2 b x 0 c × LivesIn homes whole 2 b (own whole) x 0
+  StandsBelow x = Contains x.committed 0 × (b : ℕ) × (c : ℕ) × IsChildOf topology homes 2 x.child b × IsBackedIn homes whole 2 b x 0 c × LivesIn homes whole 2 b (own whole) x 0 × IsBetweenIn homes whole 2 b x 0
 
   lives_in : (b : ℕ) (x : ChildConnection) → map lives_still (synced_state homes whole b).base.records ≡ true ∷ [] → LivesIn homes whole 2 b (own whole) x 0
   lives_in b x e c backed live = all_live (synced_state homes whole b).base.records e backed.place
+
+  between_in : (b : ℕ) (x : ChildConnection) → AreBetween x (synced_state homes whole b).base.records → IsBetweenIn homes whole 2 b x 0
+  between_in b x are c backed =
+      let rs : List Record = (synced_state homes whole b).base.records in
+      let within = (position-Some (λ (r : Record). (backed.connection == r.id) && bytes_eq (homes 2).name r.owner) rs backed.place no_record backed.there).0 in
+      record { source = all_same source_of rs x.source are.0 backed.place within; dest = all_same dest_of rs x.dest are.1 backed.place within }
 
   this_way : (s d : ℕ) (ls : List Leg) → s ≡ 0 → d ≡ 3 → ls ≡ legs → IsLeastWay topology 2 s d ls
   this_way s d ls e f g = rw (e, f, g) (least_is_it search)
@@ -398,8 +425,8 @@ module _ (given : Routes) (search : LeastPathOrNone) where
         some = λ e. absurd (let n = ap length e in omega (arith, n, row.it_has_two_views));
         way = this_way (own whole).source (own whole).dest (map leg_in (views whole)) row.its_points.0 row.its_points.1 row.of_these_legs;
         each = each_of_two StandsBelow (views whole) (new_view [] [] []) row.it_has_two_views
-            (has.0, 0, id_of 2 4, row.of_the_first_provider, row.which_has_it, lives_in 0 (view whole 0) row.its_record_lives)
-            (has.1, 1, id_of 2 5, second_row.the_second_provider, second_row.has_it_by_another_commit, lives_in 1 (view whole 1) second_row.its_record_lives);
+            (has.0, 0, id_of 2 4, row.of_the_first_provider, row.which_has_it, lives_in 0 (view whole 0) row.its_record_lives, between_in 0 (view whole 0) row.and_is_between_its_points)
+            (has.1, 1, id_of 2 5, second_row.the_second_provider, second_row.has_it_by_another_commit, lives_in 1 (view whole 1) second_row.its_record_lives, between_in 1 (view whole 1) second_row.and_is_between_its_points);
         apart = λ i j b c d x y e f its other p q same. two_apart (views whole) (new_view [] [] []) row.it_has_two_views row.the_first_is_of row.the_second_is_of i j x y e f (its.named ∙ sym other.named);
       }
 
@@ -589,5 +616,5 @@ module _ (given : Routes) (search : LeastPathOrNone) where
       h 2 8 0 0 its_setting (own without) row.the_aggregator_is_an_agent row.it_aggregates row_without.by_all_that_is_synced
       (got_at (joint without).base.records 0 no_record (own without) (omega (arith, row_without.the_aggregator_has_a_record)) refl) (has_first 0 (versions_of (own without)) row_without.that_has_it)
       in
-      let (has, b, n, child, backed, lives) = c.each (view without 1) second_there in
+      let (has, b, n, child, backed, lives, between) = c.each (view without 1) second_there in
       unbacked b n (view without 1) (subst (λ (z : List ℕ). IsChildOf topology homes 2 z b) row_without.of_which_the_second child) backed

@@ -20,5 +20,10 @@ pub mod Attempts
 pub mod Opened
 pub mod Pointed
 pub mod Points
+pub mod Induct
+pub mod Turned
+pub mod Taught
+pub mod Learnt
+pub mod Between
 pub mod Standing
 pub mod Nothing

@@ -188,7 +188,7 @@ by_serving name input d new seen out (Serves.refuses m error is_new refused same
 by_serving name input d new seen out (Serves.takes m n side now is_new about turn) begun_by = Opening.none (ap length turn.records ∙ length-set d.records n turn.after)
 by_serving name input d new seen out (Serves.opens m id service source dest side now is_new first turn) begun_by = begun_by m first.reserve first.body first.unnamed is_new.got is_new.request
 
-entry_opens : (h : Home) → is_requester h.role ≡ false → (s : AgentState) (e : Entry) → Opening e.input s.base.records (after h s e).state.base.records
+pub entry_opens : (h : Home) → is_requester h.role ≡ false → (s : AgentState) (e : Entry) → Opening e.input s.base.records (after h s e).state.base.records
 entry_opens h asked s e =
     by_serving (name_in h.role) e.input (child_of s.base []) (after h s e).state.base.records (after h s e).state.base.seen (after h s e).out (serves_as h.role asked s e [])
     (λ m q body unnamed got asks. opening_of m q body unnamed h.role asked s e got asks)

@@ -86,14 +86,24 @@ leg_in x = record { child = x.child; source = x.source; dest = x.dest }
 abbrev pub LivesIn : Homes → World → (a b : ℕ) → Record → ChildConnection → ℕ → Type 0
 LivesIn homes w a b own x v = (c : ℕ) (backed : IsBackedIn homes w a b x v c) → is_live own.lsm ≡ true → is_live (record_at backed.place (synced_state homes w b).base.records).lsm ≡ true
 
+-- a record is between the two points of a view
+pub record IsBetween (x : ChildConnection) (r : Record) : Type 0 where
+  pub source : r.service.source ≡ x.source
+  pub dest : r.service.dest ≡ x.dest
+
+-- So is the record that a version of the view is backed by.
+abbrev pub IsBetweenIn : Homes → World → (a b : ℕ) → ChildConnection → ℕ → Type 0
+IsBetweenIn homes w a b x v = (c : ℕ) (backed : IsBackedIn homes w a b x v c) → IsBetween x (record_at backed.place (synced_state homes w b).base.records)
+
 -- A version of a connection that the agent a has made stands in each network on its way. Its children are the legs of the least path between its
 -- two points, of which there is one at least. The view of each has the version as committed, by a commit of its own that was sent and confirmed,
--- and its record has it by what is synced there; that record lives while the connection does. No two children have one record.
+-- and its record has it by what is synced there; that record lives while the connection does, and is between the two points of the leg. No two
+-- children have one record.
 pub record IsCircuit (t : Network) (homes : Homes) (w : World) (a : ℕ) (own : Record) (children : List ChildConnection) (v : ℕ) : Type 0 where
   pub some : children ≡ [] → ⊥
   pub way : IsLeastWay t a own.source own.dest (map leg_in children)
   pub each : (x : ChildConnection) → Contains children x →
-      Contains x.committed v × (b : ℕ) × (c : ℕ) × IsChildOf t homes a x.child b × IsBackedIn homes w a b x v c × LivesIn homes w a b own x v
+      Contains x.committed v × (b : ℕ) × (c : ℕ) × IsChildOf t homes a x.child b × IsBackedIn homes w a b x v c × LivesIn homes w a b own x v × IsBetweenIn homes w a b x v
   pub apart : (i j b c d : ℕ) (x y : ChildConnection) → slice_get children i ≡ Some x → slice_get children j ≡ Some y → IsChildOf t homes a x.child b → IsChildOf t homes a y.child b →
       (p : IsBackedIn homes w a b x v c) (q : IsBackedIn homes w a b y v d) → p.place ≡ q.place → i ≡ j
 
@@ -112,6 +122,13 @@ EachChildLives t homes w =
     slice_get (state_of_cut homes w a k).base.records n ≡ Some own → is_live own.lsm ≡ true → Contains (children_at n (state_of_cut homes w a k).children) x →
     IsChildOf t homes a x.child b → IsCutOf w b j → x.connection ≡ Some id → place_of id (homes a).name (state_of_cut homes w b j).base.records ≡ Some place →
     is_live (record_at place (state_of_cut homes w b j).base.records).lsm ≡ true
+
+-- Whatever a crash leaves of an aggregator and of a child: the child's record of a view that knows its connection is between the view's two points.
+abbrev pub EachChildIsBetween : Network → Homes → World → Type 0
+EachChildIsBetween t homes w =
+    (a b k j n id place : ℕ) (setting : AggregatorSetting) (x : ChildConnection) → IsAgent homes a → (homes a).role ≡ aggregates setting → IsCutOf w a k →
+    Contains (children_at n (state_of_cut homes w a k).children) x → IsChildOf t homes a x.child b → IsCutOf w b j → x.connection ≡ Some id →
+    place_of id (homes a).name (state_of_cut homes w b j).base.records ≡ Some place → IsBetween x (record_at place (state_of_cut homes w b j).base.records)
 
 -- Whatever a crash leaves of an aggregator: two of its views that are backed by one record are one, of whichever connections.
 abbrev pub NoRecordIsShared : Network → Homes → World → Type 0

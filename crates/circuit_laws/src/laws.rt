@@ -1,6 +1,6 @@
 //! The laws of circuits in runs. Each function is its contract.
 
-ghost use Rattle.circuit_laws.specs.Laws.{ViewsHavePhases, ChildrenHavePhases, ViewsAreInStep, ChildrenAreInStep, ViewsAreBacked, ChildrenAreBacked, ViewsKnowTheirOwn, ChildrenKnowTheirOwn, RunsAreBacked, ViewsRise, RecordsAreApart, ChildrenLive, CriteriaWereAskedFor, AttemptsWereAskedFor, RecordsWereOpened, RecordsHaveThePoints, CircuitsStand, CircuitsAreReached};
+ghost use Rattle.circuit_laws.specs.Laws.{ViewsHavePhases, ChildrenHavePhases, ViewsAreInStep, ChildrenAreInStep, ViewsAreBacked, ChildrenAreBacked, ViewsKnowTheirOwn, ChildrenKnowTheirOwn, RunsAreBacked, ViewsRise, RecordsAreApart, ChildrenLive, CriteriaWereAskedFor, AttemptsWereAskedFor, RecordsWereOpened, RecordsHaveThePoints, ChildrenAreBetween, CircuitsStand, CircuitsAreReached};
 
 use child_connection::laws::places;
 use least_routes::laws::{least_path_or_none, routes_exist};
@@ -64,10 +64,11 @@ pub fn attempts()
 }
 
 /// Each record was opened by a first reserve of its owner that was sent, and has that reserve's service: its two points, and all else. Where the
-/// owner is an aggregator, these are the points of a view that it has of that agent.
+/// owner is an aggregator, these are the points of a view that it has of that agent; and where a view knows its connection, they are its own.
 pub fn opened()
     ensures by { RecordsWereOpened }
     ensures points { RecordsHaveThePoints }
+    ensures between { ChildrenAreBetween }
 {
     sent();
 }
@@ -81,13 +82,14 @@ pub fn living()
 
 /// What an aggregator's own record has as committed stands in each network on the least path between its points, by what that network has synced: a
 /// circuit that is confirmed from end to end is there, whatever was lost, came twice or came late, and whoever began again from what was synced.
-/// Each leg of that path is of a child with a record of its own, which lives while the circuit does.
+/// Each leg of that path is of a child with a record of its own between the leg's points, which lives while the circuit does.
 pub fn circuits()
     ensures { CircuitsStand }
 {
     least_path_or_none();
     views();
     living();
+    opened();
     sent();
     agents();
 }
