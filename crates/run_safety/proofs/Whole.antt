@@ -6,8 +6,8 @@ use Rattle.nsi_agent.specs.Homes.{Routes, home_in}
 use Rattle.nsi_world.specs.Worlds.{World, empty}
 use Rattle.nsi_world.specs.Runs.{world_after, AreAllowed, asks_of, numbered}
 use Rattle.run_growth.proofs.Worlds.{allowed_front}
-use Rattle.safe_runs.specs.Laws.{EveryRunIsSafe as EachAgentIsSafe}
-use Rattle.safe_runs.specs.Safe.{InEachWorld}
+use Rattle.run_growth.specs.SafeLaws.{EveryRunIsSafe as EachAgentIsSafe}
+use Rattle.run_growth.specs.Safe.{InEachWorld}
 use Rattle.circuit_laws.specs.Backed.{EachViewIsBacked, EachViewRises, EachCircuitStands, EachChildLives, NoRecordIsShared, EachCriteriaWasAskedFor}
 use Rattle.circuit_laws.specs.Laws.{RunsAreBacked, ViewsRise, RecordsAreApart, CriteriaWereAskedFor, ChildrenLive, CircuitsStand}
 use Rattle.circuit_laws.proofs.Nothing.{nothing_is_unbacked, nothing_falls, no_circuit_lacks, no_child_ends, nothing_is_shared, nothing_lacks_an_ask}

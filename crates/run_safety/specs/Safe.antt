@@ -4,7 +4,7 @@ use Rattle.nsi_primitive.specs.declared.entry.Event.{Event}
 use Rattle.stp_topology.specs.declared.network.Network.{Network}
 use Rattle.nsi_agent.specs.Homes.{Routes, home_in}
 use Rattle.nsi_world.specs.Runs.{IsRun}
-use Rattle.safe_runs.specs.Safe.{InEachWorld, IsSafeAtEachAgent}
+use Rattle.run_growth.specs.Safe.{InEachWorld, IsSafeAtEachAgent}
 use Rattle.circuit_laws.specs.Backed.{EachViewIsBacked, EachViewRises, EachCircuitStands, EachChildLives, NoRecordIsShared, EachCriteriaWasAskedFor}
 
 -- Events that are a run, which is safe: at each agent; and, in each world that a front of them makes, whatever a crash leaves of an agent: what a

@@ -3,7 +3,7 @@
 ghost use Rattle.run_safety.specs.Laws.{EveryRunIsSafe, NothingIsSafe};
 
 use circuit_laws::laws::{asked_for, circuits, known, living, views};
-use safe_runs::laws::every_run_safe_at_each_agent;
+use run_growth::laws::every_run_safe_at_each_agent;
 
 /// Whatever is lost, comes twice or comes late, and whoever begins again from what was synced: in every world of every run no load passes a
 /// capacity, refusals for bandwidth are honest, committed versions rise, and what is synced stays; and what a parent has as committed its child
