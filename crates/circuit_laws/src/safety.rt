@@ -1,8 +1,8 @@
 //! Every run is safe. Each function is its contract.
 
-ghost use Rattle.run_safety.specs.Laws.{EveryRunIsSafe, NothingIsSafe};
+ghost use Rattle.circuit_laws.specs.SafeLaws.{EveryRunIsSafe, NothingIsSafe};
 
-use circuit_laws::laws::{asked_for, circuits, known, living, views};
+use crate::laws::{asked_for, circuits, known, living, views};
 use run_growth::laws::every_run_safe_at_each_agent;
 
 /// Whatever is lost, comes twice or comes late, and whoever begins again from what was synced: in every world of every run no load passes a

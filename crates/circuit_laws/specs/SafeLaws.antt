@@ -6,7 +6,7 @@ use Rattle.stp_topology.specs.Sound.{IsSound}
 use Rattle.stp_topology.specs.declared.network.Network.{Network}
 use Rattle.nsi_agent.specs.Homes.{Routes, AreRoutes, home_in}
 use Rattle.nsi_world.specs.Runs.{IsRun}
-use Rattle.run_safety.specs.Safe.{IsSafeRun}
+use Rattle.circuit_laws.specs.Safe.{IsSafeRun}
 
 -- in a topology that a text gives, whatever is lost, comes twice or comes late, and whoever begins again from what was synced
 abbrev pub EveryRunIsSafe : Type 0

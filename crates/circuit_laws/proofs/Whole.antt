@@ -11,7 +11,7 @@ use Rattle.run_growth.specs.Safe.{InEachWorld}
 use Rattle.circuit_laws.specs.Backed.{EachViewIsBacked, EachViewRises, EachCircuitStands, EachChildLives, NoRecordIsShared, EachCriteriaWasAskedFor}
 use Rattle.circuit_laws.specs.Laws.{RunsAreBacked, ViewsRise, RecordsAreApart, CriteriaWereAskedFor, ChildrenLive, CircuitsStand}
 use Rattle.circuit_laws.proofs.Nothing.{nothing_is_unbacked, nothing_falls, no_circuit_lacks, no_child_ends, nothing_is_shared, nothing_lacks_an_ask}
-use Rattle.run_safety.specs.Laws.{EveryRunIsSafe, NothingIsSafe}
+use Rattle.circuit_laws.specs.SafeLaws.{EveryRunIsSafe, NothingIsSafe}
 
 -- the laws of runs
 pub record AreLaws : Type 0 where

@@ -1,5 +1,5 @@
-use Rattle.run_safety.proofs.Whole.{every_run_is_safe}
-use Rattle.run_safety.proofs.laws.every_run_safe.Goals as goal
+use Rattle.circuit_laws.proofs.Whole.{every_run_is_safe}
+use Rattle.circuit_laws.proofs.safety.every_run_safe.Goals as goal
 
 pub returns : goal.returns
 returns c =
