@@ -21,4 +21,5 @@ pub mod Opened
 pub mod Pointed
 pub mod Points
 pub mod Standing
+mod Whole
 pub mod Nothing

@@ -17,7 +17,7 @@ use Rattle.fault_lines.specs.Lines.{topology_fault, script_fault, long_line}
 use Rattle.agent_threads.specs.Reports.{written}
 use Rattle.run_totals.specs.declared.report.Report.{Report}
 use Rattle.agent_threads.specs.declared.report.RunOptions.{RunOptions}
-use Rattle.run_safety.specs.Laws.{NothingIsSafe}
+use Rattle.circuit_laws.specs.SafeLaws.{NothingIsSafe}
 use Rattle.run_command.specs.declared.command.RunEnd.{RunEnd}
 use Rattle.run_command.specs.declared.reading.Declared.{Declared}
 use Rattle.run_command.specs.Reading.{IsDeclared}

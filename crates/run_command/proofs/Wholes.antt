@@ -15,8 +15,8 @@ use Rattle.nsi_agent.specs.Homes.{Routes, AreRoutes}
 use Rattle.nsi_play.specs.Openings.{plans_of}
 use Rattle.nsi_play.specs.Play.{IsPlay}
 use Rattle.nsi_world.specs.Laws.{PlayIsRun, PlayRests, AsksWhole}
-use Rattle.run_safety.specs.Safe.{IsSafeRun}
-use Rattle.run_safety.specs.Laws.{EveryRunIsSafe}
+use Rattle.circuit_laws.specs.Safe.{IsSafeRun}
+use Rattle.circuit_laws.specs.SafeLaws.{EveryRunIsSafe}
 use Rattle.settled_play.specs.Settled.{PlaySettles, PlayLeavesNone}
 use Rattle.run_command.specs.Runs.{IsWholeRun}
 

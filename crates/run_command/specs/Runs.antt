@@ -18,7 +18,7 @@ use Rattle.nsi_world.specs.Worlds.{empty, said}
 use Rattle.nsi_world.specs.Runs.{world_after, asks_of, numbered}
 use Rattle.nsi_world.specs.Scripts.{wishes_of}
 use Rattle.nsi_world.specs.Rest.{IsAtRest}
-use Rattle.run_safety.specs.Safe.{IsSafeRun}
+use Rattle.circuit_laws.specs.Safe.{IsSafeRun}
 use Rattle.settled_play.specs.Settled.{LeavesOnlyLost, LoseNothing, GoesOn, IsDone}
 use Rattle.run_totals.specs.Totals.{totals_of}
 use Rattle.run_totals.specs.declared.totals.Totals.{Totals}
