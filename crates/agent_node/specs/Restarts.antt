@@ -53,3 +53,9 @@ restarted h s = reads_past s.past h 0 s
 abbrev pub cut_past : (keeps : Bool) → Seat → Option (List Entry)
 cut_past true s = adds s.fresh s.past
 cut_past false s = s.past
+
+---- Where a journal is not asked
+
+-- the same agent, where it isn't told which entries are synced
+abbrev pub untold : Seat → Seat
+untold s = record s { past = None }

@@ -14,6 +14,8 @@ use Rattle.agent_threads.specs.Made.{Does, Drained, tells_at, part_in}
 use Rattle.agent_threads.specs.Coming.{IsTold}
 use Rattle.agent_threads.proofs.Places.{each_map}
 use Rattle.agent_threads.proofs.Same.{does_net, does_same}
+use Rattle.agent_threads.specs.Promise.{CanBeDone}
+use Rattle.stp_topology.specs.declared.network.Network.{Network}
 
 pub told_next : (ks : List Kept) (i : ℕ) (d : Kept) (es fs : List Event) → i < length ks → fs ≡ es ++ (get_or ks i d).seat.events → fs ++ events_of (seats (drop (i + 1) ks)) ≡ es ++ events_of (seats (drop i ks))
 told_next ks i d es fs h e =
@@ -65,17 +67,17 @@ is_told net mids news before events e d t = record {
 
 ---- Acts
 
-part_does : (act : Act) (n : ℕ) (homes : Homes) (s : Seat) → part_in act n (homes s.number) s ≡ does act n homes s
-part_does (Act.Ask a ask) n homes s = elim (cases_eq s.number a) [
+part_does : (t : Network) (act : Act) → CanBeDone t act → (n : ℕ) (homes : Homes) (s : Seat) → part_in act n (homes s.number) s ≡ does act n homes s
+part_does t (Act.Ask a ask) can n homes s = elim (cases_eq s.number a) [
   | inl e ↦ ap (λ (k : ℕ). changes a (asked (homes k) n ask) s) e
   | inr m ↦ ap (λ b. cond b (asked (homes s.number) n ask s) s) (ne_eqb s.number a m) ∙ sym (ap (λ b. cond b (asked (homes a) n ask s) s) (ne_eqb s.number a m))
 ]
-part_does (Act.Force a k) n homes s = elim (cases_eq s.number a) [
+part_does t (Act.Force a k) can n homes s = elim (cases_eq s.number a) [
   | inl e ↦ ap (λ (b : ℕ). changes a (forced (homes b) k) s) e
   | inr m ↦ ap (λ b. cond b (forced (homes s.number) k s) s) (ne_eqb s.number a m) ∙ sym (ap (λ b. cond b (forced (homes a) k s) s) (ne_eqb s.number a m))
 ]
-part_does (Act.Restart a) n homes s = refl
+part_does t (Act.Restart a) can n homes s = absurd can
 
-pub parts_acted : (act : Act) (n : ℕ) (homes : Homes) (net : Net) → map (λ s. part_in act n (homes s.number) s) net ≡ acted act n homes net
-parts_acted act n homes [] = refl
-parts_acted act n homes (s ∷ ss) = ap₂ ◌∷◌ (part_does act n homes s) (parts_acted act n homes ss)
+pub parts_acted : (t : Network) (act : Act) → CanBeDone t act → (n : ℕ) (homes : Homes) (net : Net) → map (λ s. part_in act n (homes s.number) s) net ≡ acted act n homes net
+parts_acted t act can n homes [] = refl
+parts_acted t act can n homes (s ∷ ss) = ap₂ ◌∷◌ (part_does t act can n homes s) (parts_acted t act can n homes ss)

@@ -19,11 +19,11 @@ use Rattle.run_totals.specs.declared.totals.Totals.{Totals}
 
 ---- What is asked of a script
 
--- a requester asks
+-- a requester asks; nobody is restarted
 abbrev pub CanBeDone : Network → Act → Type 0
 CanBeDone t (Act.Ask a ask) = IsRequester t a × IsPrintableAsk ask
 CanBeDone t (Act.Force a n) = Unit {0}
-CanBeDone t (Act.Restart a) = Unit {0}
+CanBeDone t (Act.Restart a) = ⊥
 
 abbrev pub AllCanBeDone : Network → List Act → Type 0
 AllCanBeDone t [] = Unit {0}

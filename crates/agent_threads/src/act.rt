@@ -76,7 +76,7 @@ fn act_one<'t, J: Journal + Drop>(
             agent,
             number: connection,
         } => force_one(alloc, node, *agent, *connection),
-        Act::Restart(_) => Ok(()),
+        Act::Restart(_) => unreachable!(),
     }
 }
 

@@ -26,8 +26,8 @@ use Rattle.nsi_world.specs.Laws.{HeardWasSent}
 use Rattle.run_growth.specs.Cuts.{IsCutOf, state_of_cut, synced_state}
 use Rattle.run_growth.specs.InStep.{InStepRises}
 use Rattle.run_growth.specs.Laws.{RunsAreRising}
-use Rattle.run_identities.specs.Cuts.{IsPlaceOf}
-use Rattle.run_identities.proofs.Sent.{given_in}
+use Rattle.run_growth.specs.WorldCuts.{IsPlaceOf}
+use Rattle.run_growth.proofs.Sent.{given_in}
 use Rattle.circuit_link.specs.Children.{record_of}
 use Rattle.circuit_laws.specs.Backed.{IsChildOf, AreBackedIn, HasView}
 use Rattle.circuit_laws.specs.Laws.{child_at, IsInStep, Steps, RunsAreBacked, ViewsRise}

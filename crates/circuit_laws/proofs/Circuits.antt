@@ -35,10 +35,10 @@ use Rattle.nsi_world.specs.Heard.{IsHeard, IsFair as IsFairWorld}
 use Rattle.agent_speech.specs.Laws.{RequestCame, IsEven}
 use Rattle.agent_speech.proofs.Every.{blank_is_even}
 use Rattle.agent_speech.proofs.Spoken.{answers_were_asked}
-use Rattle.run_identities.specs.Cuts.{IsPlaceOf, cut, told_to, all_synced, IsGrown, begins, grows}
-use Rattle.run_identities.proofs.Grown.{at_same, gets_more, AreGrown, run_grown}
-use Rattle.run_identities.proofs.Sent.{Given, agents_same, front, got_sent, to_requester, request_by, request_asks, answer_asks}
-use Rattle.run_identities.proofs.Worlds.{grown_fair, synced_cut, cut_at}
+use Rattle.run_growth.specs.WorldCuts.{IsPlaceOf, cut, told_to, all_synced, IsGrown, begins, grows}
+use Rattle.run_growth.proofs.Grown.{at_same, gets_more, AreGrown, run_grown}
+use Rattle.run_growth.proofs.Sent.{Given, agents_same, front, got_sent, to_requester, request_by, request_asks, answer_asks}
+use Rattle.run_growth.proofs.WorldCuts.{grown_fair, synced_cut, cut_at}
 use Rattle.circuit_link.specs.Children.{Child, about, header_of, IsFair}
 use Rattle.circuit_link.specs.Serving.{child_of}
 use Rattle.circuit_link.proofs.Hearing.{rows_unheard}

@@ -18,10 +18,10 @@ use Rattle.nsi_world.specs.Runs.{is_requester, world_after, AreAllowed, at}
 use Rattle.nsi_world.specs.Heard.{IsFair as IsFairWorld}
 use Rattle.agent_speech.specs.Laws.{RequestCame}
 use Rattle.agent_speech.proofs.Spoken.{answers_were_asked}
-use Rattle.run_identities.specs.Cuts.{IsPlaceOf, cut, told_to}
-use Rattle.run_identities.proofs.Grown.{at_same, at_other, front_of, says_more, gets_more, AreGrown, run_grown}
-use Rattle.run_identities.proofs.Sent.{Given, agents_same, front, got_sent, request_by, request_asks}
-use Rattle.run_identities.proofs.Worlds.{synced_cut, cut_at}
+use Rattle.run_growth.specs.WorldCuts.{IsPlaceOf, cut, told_to}
+use Rattle.run_growth.proofs.Grown.{at_same, at_other, front_of, says_more, gets_more, AreGrown, run_grown}
+use Rattle.run_growth.proofs.Sent.{Given, agents_same, front, got_sent, request_by, request_asks}
+use Rattle.run_growth.proofs.WorldCuts.{synced_cut, cut_at}
 use Rattle.circuit_link.specs.Children.{Child, header_of}
 use Rattle.circuit_link.specs.Serving.{child_of}
 use Rattle.circuit_link.proofs.Abouts.{same_header, IsSaidUnder, said_under}

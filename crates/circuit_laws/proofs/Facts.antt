@@ -18,9 +18,9 @@ use Rattle.agent_speech.proofs.Counting.{tally_in}
 use Rattle.agent_speech.proofs.Every.{nothing_is_said_twice}
 use Rattle.agent_speech.proofs.Fair.{unsaid, unowed, ids_apart}
 use Rattle.agent_speech.proofs.Spoken.{asked_by, request_once, taken_came}
-use Rattle.run_identities.specs.Cuts.{all_synced, IsGrown}
-use Rattle.run_identities.proofs.Sent.{Given, agents_same, got_sent, request_by, answer_by, to_requester, request_asks, answer_asks}
-use Rattle.run_identities.proofs.Worlds.{synced_whole, grown_fair}
+use Rattle.run_growth.specs.WorldCuts.{all_synced, IsGrown}
+use Rattle.run_growth.proofs.Sent.{Given, agents_same, got_sent, request_by, answer_by, to_requester, request_asks, answer_asks}
+use Rattle.run_growth.proofs.WorldCuts.{synced_whole, grown_fair}
 use Rattle.circuit_link.specs.Children.{about, header_of, MayReach, IsFair}
 use Rattle.circuit_link.specs.Serving.{child_of}
 use Rattle.circuit_link.proofs.Answering.{none_there}

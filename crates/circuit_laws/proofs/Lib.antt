@@ -26,4 +26,5 @@ pub mod Taught
 pub mod Learnt
 pub mod Between
 pub mod Standing
+mod Whole
 pub mod Nothing

@@ -14,8 +14,8 @@ use Rattle.nsi_agent.specs.Laws.{WhatIsSaidIsItsOwn}
 use Rattle.nsi_agent.specs.Told.{Told, name_in}
 use Rattle.nsi_world.specs.Worlds.{Homes, World, empty}
 use Rattle.nsi_world.specs.Runs.{world_after}
-use Rattle.run_identities.specs.Cuts.{IsPlaceOf, told_to}
-use Rattle.run_identities.proofs.Sent.{Given, given_in}
+use Rattle.run_growth.specs.WorldCuts.{IsPlaceOf, told_to}
+use Rattle.run_growth.proofs.Sent.{Given, given_in}
 use Rattle.circuit_link.specs.Children.{Child, IsFair}
 use Rattle.circuit_pairs.specs.Pairs.{IsPair}
 use Rattle.circuit_pairs.specs.Minding.{no_child, mine}

@@ -27,9 +27,9 @@ use Rattle.provider_agent.specs.Setting.{Setting as ProviderSetting}
 use Rattle.provider_agent.specs.Steps.{with_new as provider_new, opens_between as provider_between, opens as provider_opens, accepts as provider_accepts, answers as provider_answers, serves as provider_serves_by, receives as provider_receives, step as provider_step, after_if as provider_if, after as provider_after, may_take as provider_may}
 use Rattle.aggregator_agent.specs.Setting.{Setting as AggregatorSetting}
 use Rattle.aggregator_agent.specs.Steps.{sees, is_seen, children_for, request_at, with_new, opens_between, opens, accepts, answers, serves, receives, step, after_if, after as aggregator_after, may_take}
-use Rattle.agent_growth.specs.Growth.{Stay}
-use Rattle.agent_growth.proofs.Roles.{entries_grow}
-use Rattle.agent_growth.proofs.Turned.{request_later}
+use Rattle.run_growth.specs.Growth.{Stay}
+use Rattle.run_growth.proofs.Roles.{entries_grow}
+use Rattle.run_growth.proofs.Turned.{request_later}
 use Rattle.nsi_agent.specs.Homes.{Role, provides, aggregates, requests, Home}
 use Rattle.nsi_agent.specs.Steps.{after, after_as}
 use Rattle.nsi_agent.specs.Told.{told, goes_on, name_in}

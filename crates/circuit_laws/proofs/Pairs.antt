@@ -14,8 +14,8 @@ use Rattle.nsi_agent.proofs.Telling.{telling_is_in_parts}
 use Rattle.nsi_world.specs.Worlds.{Homes, IsAgent, IsSent, IsTo}
 use Rattle.nsi_world.specs.Runs.{is_requester, MayCome}
 use Rattle.agent_speech.proofs.Every.{blank_is_even}
-use Rattle.run_identities.specs.Cuts.{all_synced, IsGrown, begins, grows}
-use Rattle.run_identities.proofs.Sent.{Given}
+use Rattle.run_growth.specs.WorldCuts.{all_synced, IsGrown, begins, grows}
+use Rattle.run_growth.proofs.Sent.{Given}
 use Rattle.circuit_link.specs.Serving.{child_of}
 use Rattle.circuit_pairs.specs.Pairs.{IsPair}
 use Rattle.circuit_pairs.specs.Minding.{no_child}

@@ -44,8 +44,8 @@ use Rattle.aggregator_agent.specs.Settling.{settle}
 use Rattle.aggregator_agent.specs.Steps.{sees, is_seen, children_for, request_at, with_new, opens_between, opens, request_to, accepts, answers, opens_query, asks_below, asks_if_own, place_named, queries, serves, Passed, pass_then, hear_all, hears, receives, ticks, step, after_if, after, may_take}
 use Rattle.aggregator_agent.proofs.Queried.{reply_asks_nothing}
 use Rattle.aggregator_agent.specs.Turns.{takes, tell_joined, pass_on, turn_by_request, request_turn, spoken, late_terminate, hear_one, hear_each, hold_ends, force_ends, heard_by, turn_by_answer, answer_turn}
-use Rattle.agent_growth.specs.Growth.{Stay, IsLaterView}
-use Rattle.agent_growth.proofs.Roles.{entries_grow}
+use Rattle.run_growth.specs.Growth.{Stay, IsLaterView}
+use Rattle.run_growth.proofs.Roles.{entries_grow}
 use Rattle.agent_speech.specs.Laws.{IsEven}
 use Rattle.agent_speech.proofs.Every.{blank_is_even, entries_keep_even}
 use Rattle.nsi_agent.specs.Homes.{Role, aggregates, Home}

@@ -11,7 +11,7 @@ use Rattle.nsi_agent.specs.Homes.{home_in}
 use Rattle.nsi_world.specs.Worlds.{Homes, World, empty, synced_part, IsSaidBy, IsTo}
 use Rattle.nsi_world.specs.Runs.{world_after}
 use Rattle.nsi_world.specs.Laws.{HeardWasSent}
-use Rattle.run_identities.proofs.Sent.{Given, given_in, agents_same, request_by, request_asks}
+use Rattle.run_growth.proofs.Sent.{Given, given_in, agents_same, request_by, request_asks}
 use Rattle.circuit_laws.specs.Backed.{WasOpenedBy}
 use Rattle.circuit_laws.specs.Laws.{RecordsHaveThePoints}
 use Rattle.circuit_laws.proofs.Opened.{records_were_opened}

@@ -14,8 +14,8 @@ use Rattle.nsi_agent.specs.Told.{name_in}
 use Rattle.nsi_world.specs.Worlds.{Homes, IsAgent, World, empty}
 use Rattle.nsi_world.specs.Runs.{is_requester, world_after, AreAllowed}
 use Rattle.nsi_world.specs.Laws.{HeardWasSent}
-use Rattle.run_identities.specs.Cuts.{IsPlaceOf, told_to}
-use Rattle.run_identities.proofs.Sent.{given_in}
+use Rattle.run_growth.specs.WorldCuts.{IsPlaceOf, told_to}
+use Rattle.run_growth.proofs.Sent.{given_in}
 use Rattle.circuit_pairs.specs.Minding.{no_view_of, no_child}
 use Rattle.circuit_pairs.proofs.Minding.{alike_self}
 use Rattle.circuit_laws.specs.Backed.{AreBackedIn}

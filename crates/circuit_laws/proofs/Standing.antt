@@ -21,8 +21,8 @@ use Rattle.nsi_world.specs.Worlds.{Homes, World, empty}
 use Rattle.nsi_world.specs.Runs.{world_after}
 use Rattle.nsi_world.specs.Laws.{HeardWasSent}
 use Rattle.run_growth.specs.Cuts.{state_of_cut, synced_state}
-use Rattle.run_identities.specs.Cuts.{told_to}
-use Rattle.run_identities.proofs.Sent.{given_in}
+use Rattle.run_growth.specs.WorldCuts.{told_to}
+use Rattle.run_growth.proofs.Sent.{given_in}
 use Rattle.circuit_fit.specs.Fits.{committed_of, IsCommittedBelow, Fits}
 use Rattle.least_routes.specs.Laws.{LeastPathOrNone}
 use Rattle.circuit_laws.specs.Backed.{leg_in, IsLeastWay, IsChildOf, IsBackedIn, HasView, LivesIn, IsBetweenIn}

@@ -34,8 +34,8 @@ use Rattle.aggregator_agent.specs.Turns.{tell_joined, pass_on, takes, turn_by_re
 use Rattle.nsi_agent.specs.Homes.{Role, aggregates, Home}
 use Rattle.nsi_agent.specs.Steps.{after as any_after, after_as}
 use Rattle.nsi_agent.specs.Told.{goes_on, told}
-use Rattle.agent_growth.proofs.Aggregators.{aggregator_grows}
-use Rattle.agent_growth.proofs.Turned.{request_later}
+use Rattle.run_growth.proofs.Aggregators.{aggregator_grows}
+use Rattle.run_growth.proofs.Turned.{request_later}
 use Rattle.agent_speech.specs.Laws.{IsEven}
 use Rattle.agent_speech.proofs.Every.{blank_is_even, entries_keep_even}
 use Rattle.circuit_laws.specs.Backed.{leg_in}

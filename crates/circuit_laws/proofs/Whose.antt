@@ -18,7 +18,7 @@ use Rattle.nsi_agent.proofs.AggregatorSays.{IsHeld, step_saying as aggregator_sa
 use Rattle.nsi_agent.proofs.Staying.{left_out_by}
 use Rattle.nsi_world.specs.Worlds.{Homes, World}
 use Rattle.nsi_world.specs.Heard.{WasSent, IsHeard, IsFair}
-use Rattle.run_identities.proofs.Sent.{Given}
+use Rattle.run_growth.proofs.Sent.{Given}
 
 ---- One entry
 

@@ -18,7 +18,7 @@ use Rattle.path_segments.specs.declared.path.Segment.{Segment}
 use Rattle.path_segments.specs.Paths.{IsLeastPath}
 use Rattle.aggregator_agent.specs.Setting.{Setting as AggregatorSetting, legs_of}
 use Rattle.nsi_agent.specs.Homes.{Role, provides, aggregates, requests}
-use Rattle.nsi_agent.specs.Laws.{IsAskedBy}
+use Rattle.nsi_agent.specs.Asked.{IsAskedBy}
 use Rattle.nsi_world.specs.Worlds.{Homes, IsAgent, World, IsSent, IsTo}
 use Rattle.nsi_world.specs.Runs.{is_requester}
 use Rattle.run_growth.specs.Cuts.{IsCutOf, state_of_cut, synced_state}

@@ -18,7 +18,7 @@ use Rattle.nsi_world.specs.Worlds.{Homes, IsAgent, World, empty}
 use Rattle.nsi_world.specs.Runs.{is_requester, world_after, AreAllowed, IsRun}
 use Rattle.run_growth.specs.Cuts.{IsCutOf, state_of_cut}
 use Rattle.run_growth.specs.InStep.{versions_of}
-use Rattle.run_identities.specs.Cuts.{IsPlaceOf, told_to}
+use Rattle.run_growth.specs.WorldCuts.{IsPlaceOf, told_to}
 use Rattle.circuit_link.specs.Sides.{standing_of}
 use Rattle.circuit_link.specs.Links.{InStep, Stands, Waits}
 use Rattle.circuit_link.specs.Children.{Child, record_of, side_of}

@@ -1,2 +1,4 @@
 pub mod Backed
+pub mod Safe
+pub mod SafeLaws
 pub mod Laws

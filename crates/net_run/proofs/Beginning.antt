@@ -13,6 +13,7 @@ use Rattle.agent_threads.specs.Nets.{seats, numbers, AreOf, AreUsable, IsAbsent,
 use Rattle.net_run.specs.declared.joints.Joint.{Joint}
 use Rattle.net_run.specs.Joints.{wires, ArePaired, IsPlannedJoint, ArePlannable, AreOwn}
 use Rattle.net_run.specs.Begun.{IsBegun, IsFresh, AreBegun, AreListed, AreOpened, faults_among, stops_among}
+use Rattle.nsi_play.specs.Play.{untold_net}
 
 pub begun_of : (t : Network) (a : ℕ) (outs : List OutHalf) (incs : List Half) (rest left all : List Joint) (k : Kept) → AreOwn t a outs incs rest left → ((b : ℕ) → wires a b left ≡ wires a b all)
     → ((plans : Plans) → All (IsPlannedJoint plans) all → All (IsPlannedJoint plans) left) → ArePlannable all
@@ -37,9 +38,9 @@ number_is t all a k b = b.number
 
 ---- All of them
 
-seats_are : (t : Network) (plans : Plans) (all : List Joint) (a : ℕ) (ks : List Kept) → All (IsPlannedJoint plans) all → AreBegun t all a ks → seats ks ≡ map (seat_of t plans) (range_with_len a (length ks))
+seats_are : (t : Network) (plans : Plans) (all : List Joint) (a : ℕ) (ks : List Kept) → All (IsPlannedJoint plans) all → AreBegun t all a ks → seats ks ≡ untold_net (map (seat_of t plans) (range_with_len a (length ks)))
 seats_are t plans all a [] p bs = refl
-seats_are t plans all a (k ∷ ks) p bs = ap₂ (λ (s : Seat) (ss : List Seat). s ∷ ss) (bs.0.seat plans p) (seats_are t plans all (suc a) ks p bs.1 ∙ ap (λ n. map (seat_of t plans) (range_with_len n (length ks))) (sym (add-one a)))
+seats_are t plans all a (k ∷ ks) p bs = ap₂ (λ (s : Seat) (ss : List Seat). s ∷ ss) (bs.0.seat plans p) (seats_are t plans all (suc a) ks p bs.1 ∙ ap (λ n. untold_net (map (seat_of t plans) (range_with_len n (length ks)))) (sym (add-one a)))
 
 of_are : (t : Network) (all : List Joint) (a : ℕ) (ks : List Kept) → AreBegun t all a ks → AreOf t ks
 of_are t all a [] bs = tt
@@ -90,7 +91,7 @@ wired_are t all a (k ∷ ks) p bs = (linked_all t all a (suc a) k ks p bs.0 bs.1
 
 pub opened_are : (t : Network) (plans : Plans) (all : List Joint) (ks : List Kept) → ArePaired all → All (IsPlannedJoint plans) all → AreBegun t all 0 ks → length ks ≡ length t.agents → AreOpened t plans ks
 opened_are t plans all ks p q bs e = record {
-  seats = seats_are t plans all 0 ks q bs ∙ ap (λ n. map (seat_of t plans) (range_with_len 0 n)) e;
+  seats = seats_are t plans all 0 ks q bs ∙ ap (λ n. untold_net (map (seat_of t plans) (range_with_len 0 n))) e;
   net = record { usable = usable_are t all 0 ks bs; apart = apart_are t plans all 0 ks q bs; wired = wired_are t all 0 ks p bs };
   of = of_are t all 0 ks bs;
   faults = none_failed t all 0 ks bs;

@@ -18,9 +18,9 @@ use Rattle.nsi_agent.specs.Homes.{home_in}
 use Rattle.agent_node.specs.Openings.{Plans, seat_of}
 use Rattle.agent_node.specs.Kept.{Kept, IsSameAgent}
 use Rattle.nsi_play.specs.Rounds.{Net, events_of}
-use Rattle.nsi_play.specs.Play.{IsPlayFrom}
+use Rattle.nsi_play.specs.Play.{IsPlayFrom, RestartNobody, untold_net}
 use Rattle.nsi_play.specs.Openings.{opening}
-use Rattle.nsi_play.specs.Laws.{OnePlay}
+use Rattle.nsi_play.specs.Laws.{OnePlay, PlayNeedsNoPast}
 use Rattle.least_routes.specs.Laws.{RoutesExist}
 use Rattle.nsi_world.specs.Worlds.{World, empty}
 use Rattle.nsi_world.specs.Runs.{happens, world_after}
@@ -67,15 +67,15 @@ journal_is a es on = journals empty a es on
 
 ---- Before anything has happened
 
-none_told : (t : Network) (plans : Plans) (ns : List ℕ) → events_of (map (seat_of t plans) ns) ≡ []
+none_told : (t : Network) (plans : Plans) (ns : List ℕ) → events_of (untold_net (map (seat_of t plans) ns)) ≡ []
 none_told t plans [] = refl
 none_told t plans (n ∷ ns) = none_told t plans ns
 
-none_fresh : (t : Network) (plans : Plans) (ns : List ℕ) → AllSynced (map (seat_of t plans) ns)
+none_fresh : (t : Network) (plans : Plans) (ns : List ℕ) → AllSynced (untold_net (map (seat_of t plans) ns))
 none_fresh t plans [] = tt
 none_fresh t plans (n ∷ ns) = (refl, none_fresh t plans ns)
 
-numbers_are : (t : Network) (plans : Plans) (ns : List ℕ) → numbers (map (seat_of t plans) ns) ≡ ns
+numbers_are : (t : Network) (plans : Plans) (ns : List ℕ) → numbers (untold_net (map (seat_of t plans) ns)) ≡ ns
 numbers_are t plans [] = refl
 numbers_are t plans (n ∷ ns) = ap (λ (xs : List ℕ). n ∷ xs) (numbers_are t plans ns)
 
@@ -191,17 +191,18 @@ module _ (t : Network) (plans : Plans) (old new : List ℕ → Option (List ℕ)
       let held : HoldsAt t new events a = held_at t new events (length t.agents) 0 a (subst (AllHeld t new events) are (all_held t new events news kept read)) (omega arith) (omega (arith, h)) in
       (held.0, held.1, held.2 ∙ ap (λ (es : List Entry). Ok es) (sym (journal_is a events taken.on)))
 
-  holds_journals : OnePlay → RoutesExist → (script : List Group) → KeepPlay script olds news → HoldsJournals t plans script old new
-  holds_journals one exist script p = λ events last play told.
+  holds_journals : OnePlay → PlayNeedsNoPast → RoutesExist → (script : List Group) → RestartNobody script → KeepPlay script olds news → HoldsJournals t plans script old new
+  holds_journals one needs exist script nobody p = λ events play told.
       let r = exist t in
       let k = p.2 t opened.of r.0 r.1 in
       let start : events_of (seats olds) ≡ [] = ap events_of opened.seats ∙ none_told t plans (range_with_len 0 (length t.agents)) in
       let synced : AllSynced (seats olds) = subst AllSynced (sym opened.seats) (none_fresh t plans (range_with_len 0 (length t.agents))) in
-      let played : IsPlayFrom script (home_in t r.0) (opening t plans) p.0 p.1 = subst (λ (net : Net). IsPlayFrom script (home_in t r.0) net p.0 p.1) opened.seats k.0 in
-      let same : p.0 ≡ events = (one script (home_in t r.0) (opening t plans) p.0 events p.1 last played (play r.0 r.1)).0 in
+      let played = needs script (home_in t r.0) (opening t plans) p.0 p.1 nobody (subst (λ (net : Net). IsPlayFrom script (home_in t r.0) net p.0 p.1) opened.seats k.0) in
+      let given = play r.0 r.1 in
+      let same : p.0 ≡ events = (one script (home_in t r.0) (opening t plans) p.0 events played.0 given.0 played.1 given.1).0 in
       subst (λ (es : List Event). HoldsOf t new es) same (holds_of p.0 (k.1 start) (k.2 synced) told)
 
-pub run_holds : OnePlay → RoutesExist → (t : Network) (plans : Plans) (old new : List ℕ → Option (List ℕ)) (listed : List ℕ → Bool) (gs hs : List Group) (olds news : List Kept) (r : Result Totals RunFault) → hs ≡ gs → IsWellFormed t → AreOpened t plans olds → AreListed listed t olds → AreEmpty t old olds
+pub run_holds : OnePlay → PlayNeedsNoPast → RoutesExist → (t : Network) (plans : Plans) (old new : List ℕ → Option (List ℕ)) (listed : List ℕ → Bool) (gs hs : List Group) (olds news : List Kept) (r : Result Totals RunFault) → hs ≡ gs → RestartNobody hs → IsWellFormed t → AreOpened t plans olds → AreListed listed t olds → AreEmpty t old olds
     → EachIs IsSameAgent olds news → (AreToReturn t news → AreRead t new news) → OnOk r (AreUsable news) → OnOk r (KeepPlay hs olds news) → OnOk r (HoldsJournals t plans gs old new)
-run_holds one exist t plans old new listed gs hs olds news (Ok n) e formed opened named none same returned usable p = subst (λ (xs : List Group). HoldsJournals t plans xs old new) e (holds_journals t plans old new listed olds news formed opened named none usable same returned one exist hs p)
-run_holds one exist t plans old new listed gs hs olds news (Err f) e formed opened named none same returned usable p = tt
+run_holds one needs exist t plans old new listed gs hs olds news (Ok n) e nobody formed opened named none same returned usable p = subst (λ (xs : List Group). HoldsJournals t plans xs old new) e (holds_journals t plans old new listed olds news formed opened named none usable same returned one needs exist hs nobody p)
+run_holds one needs exist t plans old new listed gs hs olds news (Err f) e nobody formed opened named none same returned usable p = tt

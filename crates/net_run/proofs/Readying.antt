@@ -6,22 +6,27 @@ use Rattle.agent_node.specs.Seat.{Seat}
 use Rattle.agent_node.specs.Openings.{Plans, agents, seat_of}
 use Rattle.agent_node.specs.Kept.{Kept}
 use Rattle.nsi_play.specs.Rounds.{Net, events_of}
-use Rattle.quiet_rounds.specs.Bounded.{IsBounded}
+use Rattle.quiet_rounds.specs.Bounded.{IsBoundedIn, IsBounded, numbers as bounded_numbers}
 use Rattle.quiet_rounds.specs.Laws.{OpeningsAreBounded}
 use Rattle.agent_threads.specs.Nets.{seats}
 use Rattle.agent_threads.specs.Bounds.{AreUpTo, AreUnder, AreNumbered, AreReady}
 use Rattle.net_run.specs.Begun.{AreOpened, AreListed}
+use Rattle.nsi_play.specs.Play.{untold_net}
+use Rattle.agent_node.specs.Restarts.{untold}
+use Rattle.nsi_play.specs.Openings.{opening}
+use Rattle.std.specs.List.{All}
+use Rattle.std.proofs.lemmas.List.Elements.{All-map, All-weaker}
 
 record AreBlank (ks : List Kept) : Type 0 where
   none : AreUnder 0 ks
   clocks : AreUpTo 0 ks
   told : events_of (seats ks) ≡ []
 
-blank_seats : (t : Network) (plans : Plans) (ns : List ℕ) (ks : List Kept) → seats ks ≡ map (seat_of t plans) ns → AreBlank ks
+blank_seats : (t : Network) (plans : Plans) (ns : List ℕ) (ks : List Kept) → seats ks ≡ untold_net (map (seat_of t plans) ns) → AreBlank ks
 blank_seats t plans ns [] e = record { none = tt; clocks = tt; told = refl }
 blank_seats t plans [] (k ∷ ks) e = absurd (cc)
 blank_seats t plans (n ∷ ns) (k ∷ ks) e =
-    let is : k.seat ≡ seat_of t plans n = cc in
+    let is : k.seat ≡ untold (seat_of t plans n) = cc in
     let rest = blank_seats t plans ns ks (cc) in
     let taken : k.seat.state.base.taken ≡ 0 = ap (λ (s : Seat). s.state.base.taken) is in
     let now : k.seat.state.base.now ≡ 0 = ap (λ (s : Seat). s.state.base.now) is in
@@ -35,8 +40,18 @@ numbered : (listed : List ℕ → Bool) (t : Network) (ks : List Kept) → AreLi
 numbered listed t [] l = tt
 numbered listed t (k ∷ ks) l = (l.0.0, numbered listed t ks l.1)
 
+bounded_in : (ns : List ℕ) (net : Net) → All (IsBoundedIn ns) net → All (IsBoundedIn ns) (untold_net net)
+bounded_in ns net h = All-map (IsBoundedIn ns) untold net (All-weaker (IsBoundedIn ns) (λ s. IsBoundedIn ns (untold s)) (λ s b. record { met = b.met; few = b.few; apart = b.apart; lead = b.lead }) net h)
+
+same_numbers : (net : Net) → bounded_numbers (untold_net net) ≡ bounded_numbers net
+same_numbers [] = refl
+same_numbers (s ∷ ss) = ap (λ (ns : List ℕ). s.number ∷ ns) (same_numbers ss)
+
+untold_bounded : (net : Net) → IsBounded net → IsBounded (untold_net net)
+untold_bounded net h = subst (λ (ns : List ℕ). All (IsBoundedIn ns) (untold_net net)) (sym (same_numbers net)) (bounded_in (bounded_numbers net) net h)
+
 pub ready_of : OpeningsAreBounded → (listed : List ℕ → Bool) (t : Network) (plans : Plans) (ks : List Kept) → AreOpened t plans ks → AreListed listed t ks → AreReady t ks
 ready_of bounded listed t plans ks o l =
     let blank = blank_seats t plans (agents t) ks o.seats in
-    let few : IsBounded (seats ks) = subst (λ (net : Net). IsBounded net) (sym o.seats) (bounded t plans) in
+    let few : IsBounded (seats ks) = subst (λ (net : Net). IsBounded net) (sym o.seats) (untold_bounded (opening t plans) (bounded t plans)) in
     record { numbers = numbered listed t ks l; none = blank.none; clocks = blank.clocks; told = blank.told; bounded = few }

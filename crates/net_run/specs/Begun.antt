@@ -12,11 +12,13 @@ use Rattle.agent_threads.specs.Nets.{seats, AreOf, AreNet, IsAbsent}
 use Rattle.agent_threads.specs.declared.fault.RunFault.{RunFault}
 use Rattle.net_run.specs.declared.joints.Joint.{Joint}
 use Rattle.net_run.specs.Joints.{IsPlannedJoint, wires}
+use Rattle.agent_node.specs.Restarts.{untold}
+use Rattle.nsi_play.specs.Play.{untold_net}
 
 -- an agent that has taken nothing, with ends from among these
 pub record IsBegun (t : Network) (all : List Joint) (a : ℕ) (k : Kept) : Type 0 where
   pub number : k.seat.number ≡ a
-  pub seat : (plans : Plans) → All (IsPlannedJoint plans) all → k.seat ≡ seat_of t plans a
+  pub seat : (plans : Plans) → All (IsPlannedJoint plans) all → k.seat ≡ untold (seat_of t plans a)
   pub network : k.network ≡ t
   pub plugs : (b : ℕ) → plug k b ≡ wires a b all
   pub fault : k.fault ≡ None
@@ -46,7 +48,7 @@ stops_among (k ∷ ks) = k.meter.stops + stops_among ks
 
 -- all agents of a topology before anything has happened, where this is planned for their links
 pub record AreOpened (t : Network) (plans : Plans) (ks : List Kept) : Type 0 where
-  pub seats : seats ks ≡ opening t plans
+  pub seats : seats ks ≡ untold_net (opening t plans)
   pub net : AreNet ks
   pub of : AreOf t ks
   pub faults : faults_among ks ≡ 0
@@ -54,7 +56,7 @@ pub record AreOpened (t : Network) (plans : Plans) (ks : List Kept) : Type 0 whe
 
 -- an agent that has taken nothing, with these ends of its links and their wires
 pub record IsFresh (t : Network) (a : ℕ) (outs : List OutHalf) (made : List Plug) (k : Kept) : Type 0 where
-  pub seat : (plans : Plans) → ArePlanned (plans a) (others_of t a) outs → k.seat ≡ seat_of t plans a
+  pub seat : (plans : Plans) → ArePlanned (plans a) (others_of t a) outs → k.seat ≡ untold (seat_of t plans a)
   pub network : k.network ≡ t
   pub plugs : k.plugs ≡ made
   pub fault : k.fault ≡ None

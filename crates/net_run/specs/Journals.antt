@@ -9,7 +9,6 @@ use Rattle.stp_topology.specs.Network.{name_of}
 use Rattle.nsi_script.specs.declared.script.Group.{Group}
 use Rattle.agent_node.specs.Kept.{Kept}
 use Rattle.nsi_play.specs.Openings.{Plans}
-use Rattle.nsi_play.specs.Rounds.{Net}
 use Rattle.nsi_play.specs.Play.{IsPlay}
 use Rattle.nsi_world.specs.Worlds.{empty}
 use Rattle.nsi_world.specs.Runs.{world_after}
@@ -69,4 +68,4 @@ HoldsOf t holds events =
 
 -- Where the shelf told what it held, it holds each agent's journal of the play of the script.
 abbrev pub HoldsJournals : Network → Plans → List Group → (old new : List ℕ → Option (List ℕ)) → Type 0
-HoldsJournals t plans script old new = (events : List Event) (last : Net) → IsPlay t plans script events last → AreTold t old → HoldsOf t new events
+HoldsJournals t plans script old new = (events : List Event) → IsPlay t plans script events → AreTold t old → HoldsOf t new events

@@ -7,23 +7,22 @@ use Rattle.run_totals.specs.Totals.{totals_of}
 use Rattle.run_totals.specs.declared.totals.Totals.{Totals}
 use Rattle.nsi_script.specs.declared.script.Group.{Group}
 use Rattle.nsi_play.specs.Openings.{Plans}
-use Rattle.nsi_play.specs.Rounds.{Net}
 use Rattle.nsi_play.specs.Play.{IsPlay, Passes}
 use Rattle.agent_threads.specs.Reports.{written}
 use Rattle.agent_threads.specs.declared.report.RunOptions.{RunOptions}
 
 abbrev pub WritesPlay : Network → RunOptions → Plans → List Group → Option (List ℕ) → Option (List ℕ) → Totals → Type 0
 WritesPlay t options plans script old new totals =
-    (events : List Event) × (last : Net) × IsPlay t plans script events last × (totals ≡ totals_of t events) × (length events ≤ options.limit) × WritesAll old new (written options.report t events)
+    (events : List Event) × IsPlay t plans script events × (totals ≡ totals_of t events) × (length events ≤ options.limit) × WritesAll old new (written options.report t events)
 
 abbrev pub WritesTooLong : Network → RunOptions → Plans → List Group → Option (List ℕ) → Option (List ℕ) → Type 0
 WritesTooLong t options plans script old new =
-    (groups : ℕ) × (events : List Event) × (last : Net) × IsPlay t plans (take groups script) events last × (length events ≤ options.limit) × Passes options.limit t plans (take (groups + 1) script) × WritesAll old new (written options.report t events)
+    (groups : ℕ) × (events : List Event) × IsPlay t plans (take groups script) events × (length events ≤ options.limit) × Passes options.limit t plans (take (groups + 1) script) × WritesAll old new (written options.report t events)
 
 abbrev pub WritesGroups : Network → RunOptions → Plans → List Group → Option (List ℕ) → Option (List ℕ) → Type 0
 WritesGroups t options plans script old new =
-    (groups : ℕ) × (events : List Event) × (last : Net) × IsPlay t plans (take groups script) events last × (length events ≤ options.limit) × WritesAll old new (written options.report t events)
+    (groups : ℕ) × (events : List Event) × IsPlay t plans (take groups script) events × (length events ≤ options.limit) × WritesAll old new (written options.report t events)
 
 abbrev pub WritesSomeOfPlay : Network → RunOptions → Plans → List Group → Option (List ℕ) → Option (List ℕ) → Type 0
 WritesSomeOfPlay t options plans script old new =
-    (groups : ℕ) × (events : List Event) × (last : Net) × IsPlay t plans (take groups script) events last × (length events ≤ options.limit) × WritesFront old new (written options.report t events)
+    (groups : ℕ) × (events : List Event) × IsPlay t plans (take groups script) events × (length events ≤ options.limit) × WritesFront old new (written options.report t events)

@@ -13,7 +13,7 @@ use agent_threads::{Resources, RunFault, RunOptions, play_all};
 use least_routes::laws::routes_exist;
 use nsi_disk::Shelf;
 use nsi_outside::Sink;
-use nsi_play::laws::one_play;
+use nsi_play::laws::{needs_no_past, one_play};
 use nsi_script::Script;
 use quiet_rounds::laws::nets_are_bounded;
 use run_totals::Totals;
@@ -73,6 +73,7 @@ where
     topology.laws();
     routes_exist();
     one_play();
+    needs_no_past();
     nets_are_bounded();
     let mut nodes = match open_net(resources.alloc, topology, script.lose.items(), shelf) {
         Ok(nodes) => nodes,

@@ -18,7 +18,8 @@ use Rattle.aggregator_agent.specs.Setting.{leg_of, legs_of, AreLegs, agent_in, s
 use Rattle.requester_agent.specs.Setting.{asked_by}
 use Rattle.nsi_agent.specs.Homes.{aggregates, Routes, AreRoutes, role_in, home_in}
 use Rattle.nsi_agent.specs.Told.{Asks}
-use Rattle.nsi_agent.specs.Laws.{IsAskedBy, AsksGoAlongLinks}
+use Rattle.nsi_agent.specs.Asked.{IsAskedBy}
+use Rattle.nsi_agent.specs.Laws.{AsksGoAlongLinks}
 use Rattle.nsi_agent.proofs.Descending.{by_path}
 
 ---- The children of a path

@@ -1,5 +1,5 @@
 -- The laws of an agent of any kind.
-use Rattle.std.specs.Prelude.{◌≡◌, ◌≢◌, ◌<◌, ◌≤◌, ◌+◌, ◌++◌, ◌↔◌, ◌⊎◌, ℕ, true, false, List, [], ◌∷◌, Some, None}
+use Rattle.std.specs.Prelude.{◌≡◌, ◌≢◌, ◌<◌, ◌≤◌, ◌+◌, ◌++◌, ◌↔◌, ℕ, true, false, List, [], ◌∷◌, Some, None}
 use Rattle.std.specs.List.{All, Contains}
 use Rattle.nsi_primitive.specs.Messages.{is_request}
 use Rattle.nsi_primitive.specs.Printable.{IsPrintableInput, IsPrintableEntry}
@@ -7,9 +7,8 @@ use Rattle.nsi_primitive.specs.declared.entry.Entry.{Entry}
 use Rattle.nsi_primitive.specs.declared.entry.Input.{Input}
 use Rattle.nsi_primitive.specs.declared.message.Message.{Message}
 use Rattle.nsi_primitive.specs.declared.state.Machine.{Machine}
-use Rattle.stp_topology.specs.declared.network.AgentKind.{AgentKind}
 use Rattle.stp_topology.specs.declared.network.Network.{Network}
-use Rattle.stp_topology.specs.Network.{kind_of, name_of, children_of}
+use Rattle.stp_topology.specs.Network.{name_of}
 use Rattle.message_retry.specs.Retry.{without}
 use Rattle.agent_state.specs.State.{AgentState, AgentStepped, blank_agent, stays}
 use Rattle.agent_state.specs.Entries.{most_entries}
@@ -17,6 +16,7 @@ use Rattle.provider_agent.specs.Good.{IsGood as IsGoodProvider}
 use Rattle.aggregator_agent.specs.Good.{IsGood as IsGoodAggregator}
 use Rattle.aggregator_agent.specs.Laws.{AreDrawn}
 use Rattle.requester_agent.specs.Good.{IsGood as IsGoodRequester}
+use Rattle.nsi_agent.specs.Asked.{IsAskedBy}
 use Rattle.nsi_agent.specs.Homes.{Role, provides, aggregates, requests, Home, Routes, AreRoutes, home_in}
 use Rattle.nsi_agent.specs.Steps.{after, may_take_as, is_new, work_of, works_left}
 use Rattle.nsi_agent.specs.Told.{behind, goes_on, told, WasGot, name_in, drawer_of, HasAsked, Asks, IsSaid, IsForIn}
@@ -104,10 +104,6 @@ abbrev pub IsNamedAsDeclared : Type 0
 IsNamedAsDeclared =
     (t : Network) (routes : Routes) (a : ℕ) →
     (name_in (home_in t routes a).role ≡ (home_in t routes a).name) × (drawer_of (home_in t routes a).role ≡ (home_in t routes a).number)
-
--- an agent of the topology asks another one: a requester its provider, an aggregator its children
-abbrev pub IsAskedBy : Network → (a b : ℕ) → Type 0
-IsAskedBy t a b = (kind_of t a ≡ Some (AgentKind.Requester b)) ⊎ Contains (children_of t a) b
 
 -- whom an agent asks by the least paths of the topology is one of those
 abbrev pub AsksGoAlongLinks : Type 0

@@ -3,4 +3,5 @@ pub mod Steps
 pub mod Kinds
 pub mod Standing
 pub mod Told
+pub mod Asked
 pub mod Laws

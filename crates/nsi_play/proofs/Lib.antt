@@ -1,3 +1,4 @@
 pub mod Settling
 mod OnePlay
+mod Untold
 mod Rows

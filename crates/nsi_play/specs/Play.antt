@@ -1,5 +1,6 @@
 -- The play of a script: which run it makes of a topology.
 use Rattle.std.specs.Prelude.{ℕ, zero, suc, ◌+◌, ◌<◌, ◌≡◌, ◌==◌, Bool, true, false, List, [], ◌∷◌, ◌++◌, length, map, if◌then◌else◌}
+use Rattle.std.specs.List.{All}
 use Rattle.nsi_primitive.specs.declared.entry.Event.{Event}
 use Rattle.stp_topology.specs.declared.network.Network.{Network}
 use Rattle.nsi_script.specs.declared.script.Act.{Act}
@@ -7,7 +8,7 @@ use Rattle.nsi_script.specs.declared.script.Group.{Group}
 use Rattle.nsi_agent.specs.Homes.{Routes, AreRoutes, home_in}
 use Rattle.agent_node.specs.Seat.{Seat}
 use Rattle.agent_node.specs.Acts.{asked, forced, ticked}
-use Rattle.agent_node.specs.Restarts.{restarted}
+use Rattle.agent_node.specs.Restarts.{restarted, untold}
 use Rattle.nsi_play.specs.Openings.{Plans, opening}
 use Rattle.nsi_play.specs.Rounds.{Net, Homes, round, events_of, emptied, all_quiet}
 
@@ -96,10 +97,27 @@ ended events net = record { events = events; net = net; is_over = true }
 abbrev pub IsPlayFrom : List Group → Homes → Net → List Event → Net → Type 0
 IsPlayFrom script homes net events last = (most : ℕ) × (plays most script 0 homes net ≡ ended events last)
 
--- these are the events of the play of the script, where this is planned for the links, and the agents in its end, whichever legs are those of the
--- least paths
-abbrev pub IsPlay : Network → Plans → List Group → List Event → Net → Type 0
-IsPlay t plans script events last = (routes : Routes) → AreRoutes t routes → IsPlayFrom script (home_in t routes) (opening t plans) events last
+-- these are the events of the play of the script, where this is planned for the links, whichever legs are those of the least paths
+abbrev pub IsPlay : Network → Plans → List Group → List Event → Type 0
+IsPlay t plans script events = (routes : Routes) → AreRoutes t routes → (last : Net) × IsPlayFrom script (home_in t routes) (opening t plans) events last
+
+---- Restarts
+
+-- an act that restarts nobody
+abbrev pub RestartsNone : Act → Type 0
+RestartsNone (Act.Restart a) = ⊥
+RestartsNone act = Unit {0}
+
+-- nobody is restarted in these groups
+abbrev pub RestartNobody : List Group → Type 0
+RestartNobody [] = Unit {0}
+RestartNobody (g ∷ gs) = All RestartsNone g.acts × RestartNobody gs
+
+-- the same agents, of none of whom it is told which entries are synced
+abbrev pub untold_net : Net → Net
+untold_net net = map untold net
+
+---- Limits
 
 -- some front of what these agents play has more events
 abbrev pub PassesFrom : ℕ → List Group → Homes → Net → Type 0

@@ -8,7 +8,7 @@ use Rattle.nsi_base.specs.Words.{words_of}
 use Rattle.nsi_program.specs.declared.asked.Ask.{Ask}
 use Rattle.nsi_program.specs.Asked.{ask_of, wanted_of}
 use Rattle.nsi_program.specs.Check.{path_line}
-use Rattle.nsi_program.specs.Lines.{as_line}
+use Rattle.fault_lines.specs.Lines.{as_line}
 
 abbrev joined : Network
 joined =

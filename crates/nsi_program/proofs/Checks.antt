@@ -4,13 +4,13 @@ use Rattle.std.specs.Prelude.{codes}
 use Rattle.nsi_base.specs.Lines.{lines_of, lines_to}
 use Rattle.stp_topology.specs.declared.network.Network.{Network}
 use Rattle.stp_topology.specs.Text.{topology_of}
-use Rattle.nsi_program.specs.Lines.{as_line}
-use Rattle.nsi_program.specs.Outcome.{topology_fault}
+use Rattle.fault_lines.specs.Lines.{as_line}
+use Rattle.fault_lines.specs.Lines.{topology_fault}
 use Rattle.nsi_program.specs.Check.{count_line, Answers, AnswersAll, AnswersUpTo, AnswersFront, Counts, Read, BeginsRead, BeginsIf, Begins}
 use Rattle.nsi_base.specs.Range.{greatest_input}
-use Rattle.nsi_program.specs.Promise.{Writes, WritesFront}
-use Rattle.nsi_program.specs.Writes.{WritesSome, WritesSomeFront}
-use Rattle.nsi_program.proofs.Written.{some_along, then_some, then_front, writes_some}
+use Rattle.provide_command.specs.Promise.{Writes, WritesFront}
+use Rattle.provide_command.specs.Writes.{WritesSome, WritesSomeFront}
+use Rattle.provide_command.proofs.Written.{some_along, then_some, then_front, writes_some}
 
 ---- Lines
 

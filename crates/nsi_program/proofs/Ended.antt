@@ -1,18 +1,20 @@
 -- How each command has ended, by what it has written.
 use Rattle.std.proofs.Common.{◌≡◌, ◌≤◌, ◌<◌, ℕ, ◌⊎◌, inl, inr, List, ◌++◌, length, leb, Bool, true, false, Option, Some, None, Result, Err, refl, sym, ap, ◌∙◌, subst, arith}
 use Rattle.std.specs.Prelude.{IfSome, codes}
-use Rattle.nsi_program.specs.declared.status.Status.{Status}
+use Rattle.provide_command.specs.declared.status.Status.{Status}
 use Rattle.command_words.specs.declared.command.Command.{Command}
 use Rattle.command_words.specs.declared.command.Load.{Load}
 use Rattle.command_words.specs.declared.command.Play.{Play}
 use Rattle.nsi_script.specs.Load.{load_of}
-use Rattle.nsi_program.specs.Lines.{as_line}
+use Rattle.fault_lines.specs.Lines.{as_line}
 use Rattle.nsi_program.specs.Check.{Checks, Begins}
-use Rattle.nsi_program.specs.Cut.{IsCutByFault}
-use Rattle.nsi_program.specs.Ends.{usage_promise, load_promise, WithReading, HasEnded, IsCut, IsBroken, IsCutShort, TellsDisks, Counts}
-use Rattle.nsi_program.specs.Phases.{Reading}
-use Rattle.nsi_program.specs.Promise.{Writes, WritesFront, is_told, read_fault_line, promise_of, IsKept, NamesFault}
-use Rattle.nsi_program.specs.Writes.{WritesSome, WritesSomeFront}
+use Rattle.provide_command.specs.Cut.{IsCutByFault}
+use Rattle.fault_lines.specs.Counts.{Counts}
+use Rattle.provide_command.specs.Ends.{WithReading}
+use Rattle.nsi_program.specs.Ends.{usage_promise, load_promise, HasEnded, IsCut, IsBroken, IsCutShort, TellsDisks}
+use Rattle.provide_command.specs.Phases.{Reading}
+use Rattle.provide_command.specs.Promise.{Writes, WritesFront, is_told, read_fault_line, promise_of, IsKept, NamesFault}
+use Rattle.provide_command.specs.Writes.{WritesSome, WritesSomeFront}
 use Rattle.nsi_program.proofs.Checks.{some_begins}
 use Rattle.agent_threads.specs.declared.report.RunOptions.{RunOptions}
 use Rattle.run_command.specs.declared.command.RunEnd.{RunEnd}
@@ -25,8 +27,8 @@ use Rattle.stp_topology.specs.declared.fault.TopologyFault.{TopologyFault}
 use Rattle.stp_topology.specs.declared.network.Network.{Network}
 use Rattle.stp_topology.specs.Network.{nothing}
 use Rattle.stp_topology.specs.Text.{read_lines}
-use Rattle.nsi_program.specs.Outcome.{topology_fault}
-use Rattle.nsi_program.proofs.Written.{nothing_some}
+use Rattle.fault_lines.specs.Lines.{topology_fault}
+use Rattle.provide_command.proofs.Written.{nothing_some}
 
 -- nothing was written for want of memory
 pub nothing_begun : (left old new : Option (List ℕ)) → new ≡ old → IfSome left (λ bytes. WritesSomeFront (Begins bytes) old new)

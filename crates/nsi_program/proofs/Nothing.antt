@@ -8,19 +8,20 @@ use Rattle.command_words.specs.declared.command.Command.{Command}
 use Rattle.line_reader.specs.Given.{Given}
 use Rattle.line_reader.specs.Held.{Held, rest_of, to_come}
 use Rattle.nsi_base.specs.Range.{greatest_input}
-use Rattle.nsi_program.specs.Backed.{Backs}
-use Rattle.nsi_program.specs.Cut.{IsStopped, StopsAt}
-use Rattle.nsi_program.specs.Ends.{Counts, IsCutShort}
-use Rattle.nsi_program.specs.Lines.{as_line}
-use Rattle.nsi_program.specs.Phases.{Phase, Reading, in_topology}
+use Rattle.provide_command.specs.Backed.{Backs}
+use Rattle.provide_command.specs.Cut.{IsStopped, StopsAt}
+use Rattle.fault_lines.specs.Counts.{Counts}
+use Rattle.nsi_program.specs.Ends.{IsCutShort}
+use Rattle.fault_lines.specs.Lines.{as_line}
+use Rattle.provide_command.specs.Phases.{Phase, Reading, in_topology}
 use Rattle.nsi_program.specs.RunsTo.{options_of}
 use Rattle.nsi_script.specs.Load.{load_of}
 use Rattle.run_command.specs.Ends.{WritesSomeFront}
 use Rattle.run_command.specs.Runs.{Begins}
 use Rattle.stp_topology.specs.Network.{nothing}
-use Rattle.nsi_program.proofs.Answered.{stopped, up_to_start}
-use Rattle.nsi_program.proofs.Backing.{unshelved_silent}
-use Rattle.nsi_program.proofs.Begun.{any_reading, nothing_front}
+use Rattle.provide_command.proofs.Answered.{stopped, up_to_start}
+use Rattle.provide_command.proofs.Backing.{unshelved_silent}
+use Rattle.provide_command.proofs.Begun.{any_reading, nothing_front}
 use Rattle.nsi_program.proofs.Ended.{nothing_begun}
 
 abbrev Holds : Type 0

@@ -5,7 +5,7 @@ use Rattle.stp_topology.specs.Text.{topology_of}
 use Rattle.path_segments.specs.declared.path.Segment.{Segment}
 use Rattle.nsi_program.specs.declared.asked.Ask.{Ask}
 use Rattle.nsi_program.specs.declared.asked.Wanted.{Wanted}
-use Rattle.nsi_program.specs.declared.status.Status.{Status}
+use Rattle.provide_command.specs.declared.status.Status.{Status}
 use Rattle.nsi_program.specs.Asked.{ask_of}
 use Rattle.nsi_program.specs.Check.{path_line, count_line, IsLeast, Tells, TellsPath, AnswersAll, Read, ChecksRead, ChecksIf, Checks, BeginsRead, BeginsIf, Begins}
 use Rattle.nsi_base.specs.Range.{greatest_input}

@@ -10,10 +10,10 @@ use Rattle.path_segments.specs.declared.path.Segment.{Segment}
 use Rattle.path_segments.specs.Paths.{IsPath, IsLess}
 use Rattle.nsi_program.specs.declared.asked.Ask.{Ask}
 use Rattle.nsi_program.specs.declared.asked.Wanted.{Wanted}
-use Rattle.nsi_program.specs.declared.status.Status.{Status}
+use Rattle.provide_command.specs.declared.status.Status.{Status}
 use Rattle.nsi_program.specs.Asked.{ask_of}
-use Rattle.nsi_program.specs.Lines.{as_line}
-use Rattle.nsi_program.specs.Outcome.{topology_fault}
+use Rattle.fault_lines.specs.Lines.{as_line}
+use Rattle.fault_lines.specs.Lines.{topology_fault}
 use Rattle.nsi_base.specs.Range.{greatest_input}
 
 ---- Lines

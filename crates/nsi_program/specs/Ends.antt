@@ -1,27 +1,23 @@
 -- How each command may end, and all that the sink has then.
-use Rattle.std.specs.Prelude.{◌≡◌, ◌≤◌, ◌<◌, ◌⊎◌, ⊤, ℕ, List, ◌++◌, length, take, codes, Option, Some, None, Ok, option_map, IfSome}
+use Rattle.std.specs.Prelude.{◌≡◌, ◌≤◌, ◌<◌, ◌⊎◌, ⊤, ℕ, List, ◌++◌, length, codes, Option, Some, None, Ok, option_map, IfSome}
 use Rattle.nsi_base.specs.Lines.{lines_of}
-use Rattle.journal_entry.specs.Payloads.{batch_of}
-use Rattle.journal_entry.specs.Journals.{recovers}
-use Rattle.line_reader.specs.Given.{given_of}
+use Rattle.nsi_base.specs.Range.{greatest_input}
 use Rattle.stp_topology.specs.declared.network.Network.{Network}
-use Rattle.stp_topology.specs.Network.{nothing, first_provider, name_of}
+use Rattle.stp_topology.specs.Network.{nothing}
 use Rattle.stp_topology.specs.Text.{read_lines}
-use Rattle.nsi_program.specs.declared.status.Status.{Status}
+use Rattle.fault_lines.specs.Counts.{Counts, HasDiskFault}
+use Rattle.fault_lines.specs.Lines.{as_line, read_fault_line}
 use Rattle.command_words.specs.declared.command.Command.{Command}
 use Rattle.command_words.specs.declared.command.Load.{Load}
-use Rattle.nsi_program.specs.Check.{Checks, Begins}
-pub use Rattle.run_command.specs.Ends.{Counts, counted, HasRisen, HasDiskFault}
-use Rattle.run_command.specs.Runs.{Begins as RunBegins, Breaks}
-use Rattle.nsi_program.specs.RunsTo.{RunsTo, options_of}
-use Rattle.nsi_program.specs.Lines.{as_line}
-use Rattle.nsi_program.specs.Phases.{Reading}
-use Rattle.nsi_program.specs.Outcome.{disk_fault_line}
-use Rattle.nsi_program.specs.Cut.{IsCutByFault, IsFrontOfCut, IsStopped, AnswersThen}
-use Rattle.nsi_base.specs.Range.{greatest_input}
-use Rattle.nsi_program.specs.Promise.{behind_content, promise_of, read_fault_line, Writes, WritesFront, IsKept}
-use Rattle.nsi_program.specs.Writes.{WritesSome, WritesSomeFront}
 use Rattle.nsi_script.specs.Load.{load_of}
+use Rattle.provide_command.specs.declared.status.Status.{Status}
+use Rattle.provide_command.specs.Cut.{IsCutByFault, IsFrontOfCut, IsStopped}
+use Rattle.provide_command.specs.Ends.{WithReading, IsBroken as IsProvideBroken, IsCutInDisk as IsProvideCutInDisk}
+use Rattle.provide_command.specs.Promise.{behind_content, promise_of, Writes, WritesFront, IsKept}
+use Rattle.provide_command.specs.Writes.{WritesSome, WritesSomeFront}
+use Rattle.run_command.specs.Runs.{Begins as RunBegins, Breaks}
+use Rattle.nsi_program.specs.Check.{Checks, Begins}
+use Rattle.nsi_program.specs.RunsTo.{RunsTo, options_of}
 
 -- words of no form are answered by a fault, whatever the input
 abbrev pub usage_promise : Option (List ℕ) → Option (Status × List ℕ)
@@ -36,23 +32,6 @@ abbrev pub Promises : (List ℕ → Status × List ℕ → Type 0) → Option (L
 Promises ends None left promise = promise ≡ None
 Promises ends (Some c) None promise = promise ≡ None
 Promises ends (Some c) (Some bytes) promise = (end : Status × List ℕ) × ends bytes end × (promise ≡ Some (behind_content c end))
-
----- Journals
-
--- the lines begin with a topology that has this provider
-abbrev pub Serves : List (List ℕ) → Network → ℕ → Type 0
-Serves lines t provider = (n : ℕ) × (read_lines nothing 0 lines ≡ Ok (t, n)) × (first_provider t ≡ Some provider)
-
--- where the shelf tells what it holds under the name of the first provider, its journal reads so
-abbrev pub IsReading : (List ℕ → Option (List ℕ)) → List (List ℕ) → Reading → Type 0
-IsReading holds lines read = (t : Network) (provider : ℕ) → Serves lines t provider → IfSome (holds (name_of t provider)) (λ file. recovers batch_of file ≡ read)
-
-abbrev pub lines_in : List ℕ → List (List ℕ)
-lines_in bytes = (given_of greatest_input bytes).lines
-
--- where the source tells: some reading of the journal has this
-abbrev pub WithReading : (List ℕ → Option (List ℕ)) → Option (List ℕ) → (Reading → Type 0) → Type 0
-WithReading holds left P = (read : Reading) × IfSome left (λ bytes. IsReading holds (lines_in bytes) read) × P read
 
 ---- Ends
 
@@ -79,9 +58,7 @@ IsCut (Some (Command.Generate load)) holds content left rest new = ⊥
 -- A disk failed or stopped. `provide` has answered some first lines, `run` has written some first groups, and behind them stands whose disk it was; no
 -- other command has a disk.
 abbrev pub IsBroken : Option Command → (List ℕ → Option (List ℕ)) → (content left new : Option (List ℕ)) → Type 0
-IsBroken (Some (Command.Provide most)) holds content left new =
-    WithReading holds left (λ read. IfSome content (λ c. IfSome left (λ bytes. (t : Network) × (provider : ℕ) × Serves (lines_in bytes) t provider
-    × (text : List ℕ) × AnswersThen read most (given_of greatest_input bytes) (disk_fault_line (name_of t provider)) text × (new ≡ Some (c ++ text)))))
+IsBroken (Some (Command.Provide most)) holds content left new = IsProvideBroken most holds content left new
 IsBroken (Some (Command.Run play)) holds content left new = IfSome left (λ bytes. WritesSome (Breaks (options_of play) bytes) content new)
 IsBroken _ holds content left new = ⊥
 
@@ -103,9 +80,7 @@ IsCutInFault (Some (Command.Generate load)) holds content left rest new = ⊥
 
 -- Writing was cut short within the line of a disk's fault.
 abbrev pub IsCutInDisk : Option Command → (List ℕ → Option (List ℕ)) → (content left new : Option (List ℕ)) → Type 0
-IsCutInDisk (Some (Command.Provide most)) holds content left new =
-    WithReading holds left (λ read. IfSome content (λ c. IfSome left (λ bytes. (t : Network) × (provider : ℕ) × Serves (lines_in bytes) t provider × (k : ℕ)
-    × (text : List ℕ) × AnswersThen read most (given_of greatest_input bytes) (take k (disk_fault_line (name_of t provider))) text × (new ≡ Some (c ++ text)))))
+IsCutInDisk (Some (Command.Provide most)) holds content left new = IsProvideCutInDisk most holds content left new
 IsCutInDisk (Some (Command.Run play)) holds content left new = IfSome left (λ bytes. WritesSomeFront (Breaks (options_of play) bytes) content new)
 IsCutInDisk _ holds content left new = ⊥
 

@@ -3,7 +3,7 @@ use Rattle.std.specs.Prelude.{◌≡◌, ℕ, List}
 use Rattle.agent_threads.specs.declared.report.RunOptions.{RunOptions}
 use Rattle.run_command.specs.declared.command.RunEnd.{RunEnd}
 use Rattle.run_command.specs.Runs.{Runs}
-use Rattle.nsi_program.specs.declared.status.Status.{Status}
+use Rattle.provide_command.specs.declared.status.Status.{Status}
 use Rattle.command_words.specs.declared.command.Play.{Play}
 
 abbrev pub status_of_run : RunEnd → Status

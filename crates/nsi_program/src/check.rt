@@ -4,19 +4,18 @@ ghost use Rattle.std.specs.Prelude.{◌≡◌, ◌<◌, ◌≤◌, ◌⊎◌, �
 ghost use Rattle.nsi_base.specs.Lines.{lines_of};
 ghost use Rattle.stp_topology.specs.Text.{topology_of};
 ghost use Rattle.nsi_program.specs.Check.{count_line, Answers, AnswersAll, AnswersFront, Counts, ChecksRead, Checks, BeginsRead, Begins};
-ghost use Rattle.nsi_program.specs.Lines.{as_line};
-ghost use Rattle.nsi_program.specs.Outcome.{topology_fault};
-ghost use Rattle.nsi_program.specs.Promise.{is_told, read_fault_line, Writes, WritesFront};
-ghost use Rattle.nsi_program.specs.Writes.{WritesSome, WritesSomeFront, CountsFaults, TellsFaults};
+ghost use Rattle.fault_lines.specs.Lines.{as_line};
+ghost use Rattle.fault_lines.specs.Lines.{topology_fault};
+ghost use Rattle.provide_command.specs.Promise.{is_told, read_fault_line, Writes, WritesFront};
+ghost use Rattle.provide_command.specs.Writes.{WritesSome, WritesSomeFront, CountsFaults, TellsFaults};
 
-use crate::output::{Fault, read_fault, write_text};
 use crate::paths::{answer, count_line};
-use crate::status::Status;
 use fault_lines::topology_fault;
 use line_reader::{ReadError, read_whole};
 use nsi_base::GREATEST_INPUT;
 use nsi_base::line::cut_line;
 use nsi_outside::{Sink, Source};
+use provide_command::{Fault, Status, read_fault, write_text};
 use std::alloc::Global;
 use stp_topology::{Topology, TopologyFault, TopologyRefusal, read_topology};
 

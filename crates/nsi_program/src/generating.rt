@@ -1,14 +1,13 @@
 //! The command `generate`.
 
 ghost use Rattle.std.specs.Prelude.{◌≡◌, ◌<◌, true, false};
-ghost use Rattle.nsi_program.specs.Promise.{is_told, Writes, WritesFront};
+ghost use Rattle.provide_command.specs.Promise.{is_told, Writes, WritesFront};
 ghost use Rattle.nsi_script.specs.Load.{load_of};
 
-use crate::output::{Fault, write_text};
-use crate::status::Status;
 use command_words::Load;
 use nsi_outside::Sink;
 use nsi_script::make_load;
+use provide_command::{Fault, Status, write_text};
 use std::alloc::Global;
 
 /// Writes a topology and a script that are drawn from a number. It reads nothing.

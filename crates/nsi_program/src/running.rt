@@ -4,16 +4,16 @@ ghost use Rattle.std.specs.Prelude.{◌≡◌, ◌<◌, ◌≤◌, ◌⊎◌, tr
 ghost use Rattle.run_command.specs.Ends.{IsCutShort as IsRunCutShort, is_told as is_told_end};
 ghost use Rattle.run_command.specs.Runs.{KeepsRun, Breaks as BreaksRun};
 ghost use Rattle.nsi_disk.specs.ShelfCounts.{Raised};
-ghost use Rattle.nsi_program.specs.Ends.{counted, HasDiskFault};
-ghost use Rattle.nsi_program.specs.Promise.{is_told, read_fault_line, Writes};
+ghost use Rattle.fault_lines.specs.Counts.{counted, HasDiskFault};
+ghost use Rattle.provide_command.specs.Promise.{is_told, read_fault_line, Writes};
 ghost use Rattle.nsi_program.specs.RunsTo.{RunsTo, options_of, status_of_run};
-ghost use Rattle.nsi_program.specs.Writes.{WritesSome};
+ghost use Rattle.provide_command.specs.Writes.{WritesSome};
 
-use crate::status::Status;
 use agent_threads::{Resources, RunOptions};
 use command_words::Play;
 use nsi_disk::Shelf;
 use nsi_outside::{Sink, Source};
+use provide_command::Status;
 use run_command::RunEnd;
 use std::alloc::Global;
 use std::thread::Threads;

@@ -2,26 +2,26 @@
 
 ghost use Rattle.std.specs.Prelude.{◌≡◌, ℕ, ◌<◌, ◌↔◌, ◌⊎◌, codes, map, string_bytes, true, false, None, Some, IfSome};
 ghost use Rattle.nsi_disk.specs.ShelfCounts.{Raised};
-ghost use Rattle.nsi_program.specs.Backed.{Backs};
-ghost use Rattle.nsi_program.specs.Lines.{as_line};
-ghost use Rattle.nsi_program.specs.Promise.{is_told, read_fault_line, Writes, WritesFront, IsComplete, IsSafe, NamesFault};
+ghost use Rattle.provide_command.specs.Backed.{Backs};
+ghost use Rattle.fault_lines.specs.Lines.{as_line};
+ghost use Rattle.provide_command.specs.Promise.{is_told, read_fault_line, Writes, WritesFront, IsComplete, IsSafe, NamesFault};
 ghost use Rattle.command_words.specs.Words.{command_of};
 ghost use Rattle.command_words.specs.declared.command.Command.TheVariants.{Provide as ProvideValue, Run as RunValue, Generate as GenerateValue};
 ghost use Rattle.command_words.specs.declared.command.Load.{Load};
 ghost use Rattle.command_words.specs.declared.command.Play.{Play};
 ghost use Rattle.nsi_script.specs.Load.{load_of};
 ghost use Rattle.run_command.specs.Runs.{KeepsRun};
-ghost use Rattle.nsi_program.specs.Ends.{HasEnded, IsChecked, IsCut, IsBroken, IsCutShort, WithReading, counted, HasDiskFault, ReadsTopology, TellsDisks};
+ghost use Rattle.fault_lines.specs.Counts.{counted, HasDiskFault};
+ghost use Rattle.provide_command.specs.Ends.{WithReading};
+ghost use Rattle.nsi_program.specs.Ends.{HasEnded, IsChecked, IsCut, IsBroken, IsCutShort, ReadsTopology, TellsDisks};
 
 use crate::check::check;
 use crate::generating::generate;
-use crate::output::{Fault, write_text};
-use crate::provide::provide;
 use crate::running::run;
-use crate::status::Status;
 use command_words::{Command, command_of};
 use nsi_disk::Shelf;
 use nsi_outside::{Sink, Source};
+use provide_command::{Fault, Status, provide, write_text};
 use run_command::begins_with_nothing;
 use std::alloc::Global;
 use std::thread::Threads;

@@ -1,18 +1,18 @@
-mod ScriptLemmas
-mod Given
+pub mod ScriptLemmas
+pub mod Given
 pub mod Later
 mod DoorSteps
 mod Steps
 pub mod RestartSteps
 mod Receipts
 mod TurnSteps
-mod NetSteps
-mod ActSteps
-mod PlaySteps
+pub mod NetSteps
+pub mod ActSteps
+pub mod PlaySteps
 pub mod Names
 mod Printing
 mod Room
-mod Opening
+pub mod Opening
 mod Asking
 mod PlayAsks
 pub mod Resting

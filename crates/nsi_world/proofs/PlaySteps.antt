@@ -55,7 +55,7 @@ settles_come homes given clock w (suc most) x h = elim (cases_Bool (all_quiet ho
 
 ---- Acts
 
-any_does : (homes : Homes) → Given homes → (clock : ℕ) (act : Act) (count : ℕ) (net : Net) → MayAct homes act → All (Goes homes clock (does act count homes)) net
+pub any_does : (homes : Homes) → Given homes → (clock : ℕ) (act : Act) (count : ℕ) (net : Net) → MayAct homes act → All (Goes homes clock (does act count homes)) net
 any_does homes given clock act count [] may = All-nil (Goes homes clock (does act count homes))
 any_does homes given clock act count (s ∷ ss) may = All-cons (Goes homes clock (does act count homes)) s ss (λ w h fair. goes_does homes given clock act count w s may h fair) (any_does homes given clock act count ss may)
 
@@ -72,7 +72,7 @@ acts_come homes given clock w (a ∷ rest) count x may h =
 
 ---- Groups
 
-any_ticked : (homes : Homes) → Given homes → (clock : ℕ) (net : Net) → All (Goes homes clock (ticked_in clock homes)) net
+pub any_ticked : (homes : Homes) → Given homes → (clock : ℕ) (net : Net) → All (Goes homes clock (ticked_in clock homes)) net
 any_ticked homes given clock [] = All-nil (Goes homes clock (ticked_in clock homes))
 any_ticked homes given clock (s ∷ ss) = All-cons (Goes homes clock (ticked_in clock homes)) s ss (λ w h fair. later_goes homes clock w s (ticked_in clock homes s) (goes_ticked homes given clock w s h fair)) (any_ticked homes given clock ss)
 

@@ -23,7 +23,7 @@ use Rattle.nsi_world.specs.Worlds.{Homes, World, synced_part}
 use Rattle.nsi_world.specs.Heard.{IsFair}
 use Rattle.nsi_world.specs.Seats.{Stands}
 use Rattle.nsi_world.specs.Nets.{numbers, AllStand}
-use Rattle.nsi_world.specs.Laws.{IsAtRest}
+use Rattle.nsi_world.specs.Rest.{IsAtRest}
 
 never : {X : Type 0} (b : Bool) → b ≡ false → b ≡ true → X
 never b p q = absurd (cc)

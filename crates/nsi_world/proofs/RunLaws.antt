@@ -9,8 +9,9 @@ use Rattle.nsi_play.specs.Openings.{opening}
 use Rattle.nsi_play.specs.Rounds.{all_quiet}
 use Rattle.nsi_play.specs.Play.{Played, plays}
 use Rattle.nsi_world.specs.Worlds.{empty}
+use Rattle.nsi_world.specs.Rest.{IsAtRest}
 use Rattle.nsi_world.specs.Runs.{world_after, IsRun, asks_of, numbered}
-use Rattle.nsi_world.specs.Laws.{RequestsAreOne, TurnRuns, RoundRuns, PlayRuns, PlayIsRun, StandInTheEnd, PlayStands, IsAtRest, PlayRests, AsksWhole}
+use Rattle.nsi_world.specs.Laws.{RequestsAreOne, TurnRuns, RoundRuns, PlayRuns, PlayIsRun, StandInTheEnd, PlayStands, PlayRests, AsksWhole}
 use Rattle.nsi_world.proofs.ScriptLemmas.{rise_from, groups_of}
 use Rattle.nsi_world.proofs.Given.{AreLaws}
 use Rattle.nsi_world.proofs.Names.{given_in}

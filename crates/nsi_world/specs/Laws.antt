@@ -1,5 +1,5 @@
 -- The laws of runs.
-use Rattle.std.specs.Prelude.{◌≡◌, ◌≤◌, ◌<◌, ◌++◌, ℕ, List, true, None, length}
+use Rattle.std.specs.Prelude.{◌≡◌, ◌≤◌, ◌<◌, ◌++◌, ℕ, List, true, length}
 use Rattle.std.specs.List.{All}
 use Rattle.nsi_primitive.specs.Messages.{is_request}
 use Rattle.nsi_primitive.specs.declared.entry.Event.{Event}
@@ -8,8 +8,6 @@ use Rattle.stp_topology.specs.Laws.{IsWellFormed}
 use Rattle.stp_topology.specs.declared.network.Network.{Network}
 use Rattle.agent_state.specs.Entries.{most_entries}
 use Rattle.nsi_agent.specs.Homes.{Routes, home_in}
-use Rattle.nsi_agent.specs.Steps.{work_of}
-use Rattle.nsi_agent.specs.Told.{told}
 use Rattle.nsi_script.specs.declared.script.Group.{Group}
 use Rattle.agent_node.specs.Openings.{agents}
 use Rattle.agent_node.specs.Seat.{Seat}
@@ -21,6 +19,7 @@ use Rattle.nsi_world.specs.Worlds.{Homes, World, empty, IsSent}
 use Rattle.nsi_world.specs.Runs.{world_after, AreAllowed, IsRun, asks_of, numbered}
 use Rattle.nsi_world.specs.Heard.{IsFair}
 use Rattle.nsi_world.specs.Seats.{Stands, GoesOn, AreFree}
+use Rattle.nsi_world.specs.Rest.{IsAtRest}
 use Rattle.nsi_world.specs.Nets.{numbers, AllStand, NetGoesOn}
 use Rattle.nsi_script.specs.Fits.{IsActOf, IsRising}
 use Rattle.nsi_script.specs.Scripts.{acts_of, seconds_of}
@@ -84,12 +83,7 @@ PlayStands =
     (t : Network) (routes : Routes) (plans : Plans) (groups : List Group) (events : List Event) (last : Net) → IsWellFormed t → IsRising (seconds_of groups) → All (IsActOf t) (acts_of groups) →
     IsPlayFrom groups (home_in t routes) (opening t plans) events last → StandInTheEnd t routes events last
 
--- its journal is synced whole, and no work waits
-pub record IsAtRest (homes : Homes) (w : World) (a : ℕ) : Type 0 where
-  pub synced : w.synced a ≡ length (w.journal a)
-  pub idle : work_of (homes a).role (told (homes a) (w.journal a)).state ≡ None
-
--- so is each agent at the end of a play
+-- each agent has nothing to do at the end of a play
 abbrev pub PlayRests : Type 0
 PlayRests =
     (t : Network) (routes : Routes) (plans : Plans) (groups : List Group) (events : List Event) (last : Net) → IsWellFormed t → IsRising (seconds_of groups) → All (IsActOf t) (acts_of groups) →

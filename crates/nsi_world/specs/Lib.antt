@@ -4,5 +4,6 @@ pub mod Runs
 pub mod Heard
 pub mod Seats
 pub mod Nets
+pub mod Rest
 pub mod Scripts
 pub mod Laws

@@ -17,7 +17,7 @@ use Rattle.fault_lines.specs.Lines.{topology_fault, script_fault, long_line}
 use Rattle.agent_threads.specs.Reports.{written}
 use Rattle.run_totals.specs.declared.report.Report.{Report}
 use Rattle.agent_threads.specs.declared.report.RunOptions.{RunOptions}
-use Rattle.run_safety.specs.Laws.{NothingIsSafe}
+use Rattle.circuit_laws.specs.SafeLaws.{NothingIsSafe}
 use Rattle.run_command.specs.declared.command.RunEnd.{RunEnd}
 use Rattle.run_command.specs.declared.reading.Declared.{Declared}
 use Rattle.run_command.specs.Reading.{IsDeclared}
@@ -113,7 +113,7 @@ none_written Report.Summary t = refl
 nothing_starts : NothingIsSafe → (options : RunOptions) (t : Network) (script : Script) → StartsPlay options t script no_text []
 unfolding plays
 nothing_starts none options t script =
-    record { groups = 0; events = []; first = record { last = opening t (plans_of script.lose); play = λ routes r. (0, refl); run = λ routes r. none t routes; within = omega arith }; spelled = none_written options.report t }
+    record { groups = 0; events = []; first = record { play = λ routes r. (opening t (plans_of script.lose), (0, refl)); run = λ routes r. none t routes; within = omega arith }; spelled = none_written options.report t }
 
 -- every input begins with some text
 pub some_begins : NothingIsSafe → (options : RunOptions) (bytes : List ℕ) → (text : List ℕ) × Begins options bytes text

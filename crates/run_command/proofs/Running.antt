@@ -138,22 +138,22 @@ module _ (t : Network) (options : RunOptions) (script : Script) (old mid new : O
       let base = written options.report t events in
       let line = closing_line options.report n in
       let is : Plays options t script RunEnd.Done (base ++ line) =
-      record { events = events; last = w.1; play = w.2; run = runs events w.1 w.2 w.4; within = w.4; spelled = ap (λ (x : Totals). base ++ closing_line options.report x) w.3 } in
-      told_run (Plays options t script) (BeginsPlay options t script) (BreaksPlay options t script) old mid new before after b a base line end w.5
+      record { events = events; play = w.1; run = runs events w.1 w.3; within = w.3; spelled = ap (λ (x : Totals). base ++ closing_line options.report x) w.2 } in
+      told_run (Plays options t script) (BeginsPlay options t script) (BreaksPlay options t script) old mid new before after b a base line end w.4
       RunEnd.Done (closes_from line RunEnd.Done k) refl is (inl (RunEnd.Done, is)) (λ _. q)
 
   pub too_long_run : FrontsRun options.limit t script → WritesTooLong t options (plans_of script.lose) script.groups old mid → Closes long_line RunEnd.Long end mid new m a → HasPlayed options t script old new before after b a end
   too_long_run fronts w k =
       let text = written options.report t w.1 ++ long_line in
-      let is : Plays options t script RunEnd.Long text = record { groups = w.0; events = w.1; first = record { last = w.2; play = w.3; run = fronts w.0 w.1 w.2 w.3 w.4; within = w.4 }; passes = w.5; spelled = refl } in
-      told_run (Plays options t script) (BeginsPlay options t script) (BreaksPlay options t script) old mid new before after b a (written options.report t w.1) long_line end w.6
+      let is : Plays options t script RunEnd.Long text = record { groups = w.0; events = w.1; first = record { play = w.2; run = fronts w.0 w.1 w.2 w.3; within = w.3 }; passes = w.4; spelled = refl } in
+      told_run (Plays options t script) (BeginsPlay options t script) (BreaksPlay options t script) old mid new before after b a (written options.report t w.1) long_line end w.5
       RunEnd.Long (closes_from long_line RunEnd.Long k) refl is (inl (RunEnd.Long, is)) (λ n. absurd (n refl))
 
   pub failed_run : FrontsRun options.limit t script → (agent : ℕ) → WritesGroups t options (plans_of script.lose) script.groups old mid → Closes (disk_fault_line (name_of t agent)) RunEnd.DiskFault end mid new m a → HasDiskFault before after → HasPlayed options t script old new before after b a end
   failed_run fronts agent w k d =
       let line = disk_fault_line (name_of t agent) in
-      let is : BreaksPlay options t script (written options.report t w.1 ++ line) = (agent, record { groups = w.0; events = w.1; first = record { last = w.2; play = w.3; run = fronts w.0 w.1 w.2 w.3 w.4; within = w.4 }; spelled = refl }) in
-      broken_run (Plays options t script) (BeginsPlay options t script) (BreaksPlay options t script) old mid new before after b a (written options.report t w.1) line end w.5
+      let is : BreaksPlay options t script (written options.report t w.1 ++ line) = (agent, record { groups = w.0; events = w.1; first = record { play = w.2; run = fronts w.0 w.1 w.2 w.3; within = w.3 }; spelled = refl }) in
+      broken_run (Plays options t script) (BeginsPlay options t script) (BreaksPlay options t script) old mid new before after b a (written options.report t w.1) line end w.4
       (closes_from line RunEnd.DiskFault k) is d
 
 ---- Plays that have failed
@@ -163,8 +163,8 @@ module _ (t : Network) (options : RunOptions) (script : Script) (old new : Optio
   begun_front : FrontsRun options.limit t script → WritesSomeOfPlay t options (plans_of script.lose) script.groups old new → WritesSomeFront (BeginsPlay options t script) old new
   begun_front fronts w =
       let text = written options.report t w.1 ++ no_text t in
-      let is : BeginsPlay options t script text = inr (record { groups = w.0; events = w.1; first = record { last = w.2; play = w.3; run = fronts w.0 w.1 w.2 w.3 w.4; within = w.4 }; spelled = refl }) in
-      some_front (BeginsPlay options t script) old new text is (subst (WritesFront old new) (sym (append-nil (written options.report t w.1))) w.5)
+      let is : BeginsPlay options t script text = inr (record { groups = w.0; events = w.1; first = record { play = w.2; run = fronts w.0 w.1 w.2 w.3; within = w.3 }; spelled = refl }) in
+      some_front (BeginsPlay options t script) old new text is (subst (WritesFront old new) (sym (append-nil (written options.report t w.1))) w.4)
 
   silent_run : FrontsRun options.limit t script → (end : RunEnd) → (end ≡ RunEnd.WriteFault → b < a) → ((end ≡ RunEnd.WriteFault → ⊥) → a ≡ b) → (end ≡ RunEnd.WriteFault) ⊎ (end ≡ RunEnd.NoMemory) → WritesSomeOfPlay t options (plans_of script.lose) script.groups old new
       → HasPlayed options t script old new before after b a end

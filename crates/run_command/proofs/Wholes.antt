@@ -13,18 +13,17 @@ use Rattle.nsi_script.specs.Fits.{Fits, IsActOf, IsRising}
 use Rattle.nsi_script.specs.Scripts.{acts_of, seconds_of}
 use Rattle.nsi_agent.specs.Homes.{Routes, AreRoutes}
 use Rattle.nsi_play.specs.Openings.{plans_of}
-use Rattle.nsi_play.specs.Rounds.{Net}
 use Rattle.nsi_play.specs.Play.{IsPlay}
 use Rattle.nsi_world.specs.Laws.{PlayIsRun, PlayRests, AsksWhole}
-use Rattle.run_safety.specs.Safe.{IsSafeRun}
-use Rattle.run_safety.specs.Laws.{EveryRunIsSafe}
+use Rattle.circuit_laws.specs.Safe.{IsSafeRun}
+use Rattle.circuit_laws.specs.SafeLaws.{EveryRunIsSafe}
 use Rattle.settled_play.specs.Settled.{PlaySettles, PlayLeavesNone}
 use Rattle.run_command.specs.Runs.{IsWholeRun}
 
 -- a play of no more events than that is such a run
 abbrev pub PlaysRun : ℕ → Network → Script → Type 0
 PlaysRun limit t script =
-    (events : List Event) (last : Net) → IsPlay t (plans_of script.lose) script.groups events last → length events ≤ limit → (routes : Routes) → AreRoutes t routes → IsWholeRun t routes script events
+    (events : List Event) → IsPlay t (plans_of script.lose) script.groups events → length events ≤ limit → (routes : Routes) → AreRoutes t routes → IsWholeRun t routes script events
 
 -- the laws of plays
 pub record PlayLaws : Type 0 where
@@ -36,14 +35,15 @@ pub record PlayLaws : Type 0 where
   pub over : PlayLeavesNone
 
 pub plays_run : PlayLaws → (limit : ℕ) (t : Network) (s : Script) → limit ≤ 2000000 → IsSound t → IsWellFormed t → Fits t s → PlaysRun limit t s
-plays_run laws limit t s few sound well fits = λ events last play within routes r.
+plays_run laws limit t s few sound well fits = λ events play within routes r.
+    let p = play routes r in
     record {
       run = laws.safe t routes events sound well r
-          (laws.is_run t routes (plans_of s.lose) s.groups events last well fits.rising fits.acts (play routes r) (omega (arith, few, within)));
-      asks = laws.asks t routes (plans_of s.lose) s.groups events last well fits.rising fits.acts (play routes r);
-      rests = laws.rests t routes (plans_of s.lose) s.groups events last well fits.rising fits.acts (play routes r);
-      left = laws.left t routes (plans_of s.lose) s.groups events last sound well r fits.rising fits.acts (play routes r);
-      over = λ none. laws.over t routes (plans_of s.lose) s.groups events last none sound well r fits.rising fits.acts (play routes r);
+          (laws.is_run t routes (plans_of s.lose) s.groups events p.0 well fits.rising fits.acts p.1 (omega (arith, few, within)));
+      asks = laws.asks t routes (plans_of s.lose) s.groups events p.0 well fits.rising fits.acts p.1;
+      rests = laws.rests t routes (plans_of s.lose) s.groups events p.0 well fits.rising fits.acts p.1;
+      left = laws.left t routes (plans_of s.lose) s.groups events p.0 sound well r fits.rising fits.acts p.1;
+      over = λ none. laws.over t routes (plans_of s.lose) s.groups events p.0 none sound well r fits.rising fits.acts p.1;
     }
 
 ---- Some first groups
@@ -68,11 +68,12 @@ module _ (P : Act → Type 0) where
 -- the play of some first groups is a safe run
 abbrev pub FrontsRun : ℕ → Network → Script → Type 0
 FrontsRun limit t script =
-    (groups : ℕ) (events : List Event) (last : Net) → IsPlay t (plans_of script.lose) (take groups script.groups) events last → length events ≤ limit → (routes : Routes) → AreRoutes t routes → IsSafeRun t routes events
+    (groups : ℕ) (events : List Event) → IsPlay t (plans_of script.lose) (take groups script.groups) events → length events ≤ limit → (routes : Routes) → AreRoutes t routes → IsSafeRun t routes events
 
 pub fronts_run : PlayLaws → (limit : ℕ) (t : Network) (s : Script) → limit ≤ 2000000 → IsSound t → IsWellFormed t → Fits t s → FrontsRun limit t s
-fronts_run laws limit t s few sound well fits = λ groups events last play within routes r.
+fronts_run laws limit t s few sound well fits = λ groups events play within routes r.
+    let p = play routes r in
     let rising = rising_take groups s.groups fits.rising in
     let acts = acts_take (IsActOf t) groups s.groups fits.acts in
     laws.safe t routes events sound well r
-    (laws.is_run t routes (plans_of s.lose) (take groups s.groups) events last well rising acts (play routes r) (omega (arith, few, within)))
+    (laws.is_run t routes (plans_of s.lose) (take groups s.groups) events p.0 well rising acts p.1 (omega (arith, few, within)))

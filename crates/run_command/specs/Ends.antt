@@ -5,6 +5,7 @@ use Rattle.nsi_outside.specs.Stream.{WritesAll, WritesFront}
 use Rattle.stp_topology.specs.declared.network.Network.{Network}
 use Rattle.stp_topology.specs.Network.{name_of}
 use Rattle.nsi_script.specs.declared.script.Script.{Script}
+pub use Rattle.fault_lines.specs.Counts.{Counts, counted, HasRisen, HasDiskFault}
 use Rattle.fault_lines.specs.Lines.{disk_fault_line, long_line, read_fault_line}
 use Rattle.agent_threads.specs.declared.fault.RunFault.{RunFault}
 use Rattle.agent_threads.specs.declared.report.RunOptions.{RunOptions}
@@ -26,25 +27,6 @@ WritesSome P old new = IfSome old (λ c. (text : List ℕ) × P text × (new ≡
 -- where the sink tells, a front of a text of which it holds was appended
 abbrev pub WritesSomeFront : (List ℕ → Type 0) → Option (List ℕ) → Option (List ℕ) → Type 0
 WritesSomeFront P old new = IfSome old (λ c. (text : List ℕ) × (k : ℕ) × P text × (new ≡ Some (c ++ take k text)))
-
----- Counts
-
--- the counts of a source, and of the disks of a shelf
-pub record Counts : Type 0 where
-  pub reads : ℕ
-  pub faults : ℕ
-  pub stops : ℕ
-
-abbrev pub counted : (reads faults stops : ℕ) → Counts
-counted reads faults stops = record { reads = reads; faults = faults; stops = stops }
-
--- a count was raised; one that reaches its type's end stands still there
-abbrev pub HasRisen : ℕ → ℕ → Type 0
-HasRisen old new = (by : ℕ) × (0 < by) × Raised old by new
-
--- a disk, or its shelf, has counted a fault or a stop
-abbrev pub HasDiskFault : Counts → Counts → Type 0
-HasDiskFault before after = HasRisen before.faults after.faults ⊎ HasRisen before.stops after.stops
 
 ---- Runs that were cut short
 

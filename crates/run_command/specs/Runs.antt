@@ -14,12 +14,11 @@ use Rattle.nsi_script.specs.Text.{script_of}
 use Rattle.nsi_agent.specs.Homes.{Routes, AreRoutes, home_in}
 use Rattle.nsi_play.specs.Openings.{plans_of}
 use Rattle.nsi_play.specs.Play.{IsPlay, Passes}
-use Rattle.nsi_play.specs.Rounds.{Net}
 use Rattle.nsi_world.specs.Worlds.{empty, said}
 use Rattle.nsi_world.specs.Runs.{world_after, asks_of, numbered}
 use Rattle.nsi_world.specs.Scripts.{wishes_of}
-use Rattle.nsi_world.specs.Laws.{IsAtRest}
-use Rattle.run_safety.specs.Safe.{IsSafeRun}
+use Rattle.nsi_world.specs.Rest.{IsAtRest}
+use Rattle.circuit_laws.specs.Safe.{IsSafeRun}
 use Rattle.settled_play.specs.Settled.{LeavesOnlyLost, LoseNothing, GoesOn, IsDone}
 use Rattle.run_totals.specs.Totals.{totals_of}
 use Rattle.run_totals.specs.declared.totals.Totals.{Totals}
@@ -48,8 +47,7 @@ closing_line Report.Summary n = summary_line n
 
 -- the play of some first groups of a script, which has no more events than that, and is such a run whichever legs are those of the least paths
 pub record IsTextOf (options : RunOptions) (t : Network) (script : Script) (groups : ℕ) (events : List Event) : Type 0 where
-  pub last : Net
-  pub play : IsPlay t (plans_of script.lose) (take groups script.groups) events last
+  pub play : IsPlay t (plans_of script.lose) (take groups script.groups) events
   pub run : (routes : Routes) → AreRoutes t routes → IsSafeRun t routes events
   pub within : length events ≤ options.limit
 
@@ -67,8 +65,7 @@ pub record IsWholeRun (t : Network) (routes : Routes) (script : Script) (events 
 -- what is wanted of the whole play, which is such a run whichever legs are those of the least paths, and behind it its numbers
 pub record IsSettled (options : RunOptions) (t : Network) (script : Script) (text : List ℕ) : Type 0 where
   pub events : List Event
-  pub last : Net
-  pub play : IsPlay t (plans_of script.lose) script.groups events last
+  pub play : IsPlay t (plans_of script.lose) script.groups events
   pub run : (routes : Routes) → AreRoutes t routes → IsWholeRun t routes script events
   pub within : length events ≤ options.limit
   pub spelled : text ≡ written options.report t events ++ closing_line options.report (totals_of t events)

@@ -15,6 +15,7 @@ ghost use Rattle.run_command.specs.Runs.{Runs, Begins, Breaks, KeepsRun, closing
 use crate::reading::{Declared, read_declared};
 use crate::texts::closing_line;
 use agent_threads::{Resources, RunFault, RunOptions};
+use circuit_laws::safety::{every_run_safe, nothing_safe};
 use fault_lines::{disk_fault_text, script_fault, topology_fault};
 use line_reader::{ReadError, read_whole};
 use net_run::run_world;
@@ -23,7 +24,6 @@ use nsi_disk::Shelf;
 use nsi_outside::{Sink, SinkError, Source, write_all};
 use nsi_script::{Script, ScriptFault, ScriptRefusal, read_script};
 use nsi_world::laws::{asks_whole, play_runs};
-use run_safety::laws::{every_run_safe, nothing_safe};
 use run_totals::{Report, Totals};
 use settled_play::laws::settled;
 use std::alloc::Global;

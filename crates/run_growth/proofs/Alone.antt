@@ -23,7 +23,7 @@ use Rattle.nsi_agent.specs.Laws.{WhatIsSaidIsItsOwn, IsNamedAsDeclared}
 use Rattle.nsi_agent.proofs.Telling.{telling_is_in_parts}
 use Rattle.nsi_world.specs.Worlds.{Homes, World, IsAgent, empty}
 use Rattle.nsi_world.specs.Runs.{world_after, AreAllowed}
-use Rattle.agent_growth.specs.Laws.{IsAlwaysGood}
+use Rattle.run_growth.specs.AgentLaws.{IsAlwaysGood}
 use Rattle.run_growth.specs.Cuts.{state_before}
 use Rattle.run_growth.specs.Kept.{IsCausedBy, IsCheckAt}
 use Rattle.run_growth.specs.Laws.{NothingElseRefuses}

@@ -6,8 +6,8 @@ use Rattle.nsi_primitive.specs.declared.entry.Event.{Event}
 use Rattle.nsi_agent.specs.Told.{told}
 use Rattle.nsi_world.specs.Worlds.{Homes, World, empty, synced_part}
 use Rattle.nsi_world.specs.Runs.{world_after, AreAllowed}
-use Rattle.agent_growth.specs.Growth.{HasGrown}
-use Rattle.agent_growth.specs.Laws.{EntriesLeaveAll}
+use Rattle.run_growth.specs.Growth.{HasGrown}
+use Rattle.run_growth.specs.AgentLaws.{EntriesLeaveAll}
 use Rattle.run_growth.specs.Cuts.{IsCutOf}
 use Rattle.run_growth.specs.Laws.{SyncedStays}
 use Rattle.run_growth.proofs.Worlds.{OfJournal, Keeps, by_journal, after_append, allowed_front, allowed_rest}

@@ -24,7 +24,7 @@ use Rattle.nsi_agent.specs.Told.{told}
 use Rattle.nsi_agent.specs.Laws.{IsGood}
 use Rattle.nsi_world.specs.Worlds.{World, empty}
 use Rattle.nsi_world.specs.Runs.{world_after}
-use Rattle.agent_growth.specs.Laws.{IsAlwaysGood}
+use Rattle.run_growth.specs.AgentLaws.{IsAlwaysGood}
 use Rattle.run_growth.specs.Cuts.{state_before}
 use Rattle.run_growth.specs.Laws.{RunsAreCapped, RunsAreHonest}
 use Rattle.run_growth.proofs.Entered.{IsEntry, AreEntries, entries_of}

@@ -4,7 +4,7 @@ use Rattle.std.proofs.lemmas.List.Elements.{All-take}
 use Rattle.nsi_primitive.specs.Printable.{IsPrintableEntry}
 use Rattle.nsi_world.specs.Worlds.{World, empty}
 use Rattle.nsi_world.specs.Runs.{world_after}
-use Rattle.agent_growth.specs.Laws.{RecordsRise}
+use Rattle.run_growth.specs.AgentLaws.{RecordsRise}
 use Rattle.run_growth.specs.Laws.{RunsAreRising}
 use Rattle.run_growth.proofs.Entered.{entries_of}
 

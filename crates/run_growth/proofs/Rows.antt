@@ -48,7 +48,7 @@ use Rattle.stp_topology.specs.Network.{capacity_of}
 use Rattle.agent_state.specs.declared.parent.View.{View}
 use Rattle.nsi_world.specs.Worlds.{World, empty, said}
 use Rattle.nsi_world.specs.Runs.{world_after, AreAllowed}
-use Rattle.agent_growth.specs.Growth.{HasGrown}
+use Rattle.run_growth.specs.Growth.{HasGrown}
 use Rattle.run_growth.specs.Cuts.{IsCutOf, state_of_cut, synced_state}
 
 abbrev t1 : Network

@@ -13,7 +13,7 @@ use Rattle.provider_agent.specs.Setting.{setting_of, own_stp}
 use Rattle.nsi_agent.specs.Homes.{Routes, home_in}
 use Rattle.nsi_agent.specs.Steps.{after}
 use Rattle.nsi_world.specs.Worlds.{Homes, World, IsAgent}
-use Rattle.agent_growth.specs.Growth.{HasGrown}
+use Rattle.run_growth.specs.Growth.{HasGrown}
 use Rattle.run_growth.specs.Cuts.{IsCutOf, state_of_cut, synced_state, state_before}
 
 ---- Capacities

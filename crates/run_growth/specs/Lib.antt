@@ -1,4 +1,10 @@
+pub mod Growth
+pub mod AgentLaws
 pub mod Cuts
 pub mod Kept
 pub mod InStep
 pub mod Laws
+pub mod Safe
+pub mod SafeLaws
+pub mod WorldCuts
+pub mod SentLaws

@@ -1,4 +1,5 @@
-//! What a single agent's journal keeps in every world of every run: capacities, honest refusals, versions that rise, and all that is synced.
+//! What every run keeps as it goes on: records and views stay, capacities hold, refusals for bandwidth are honest, committed versions
+//! rise, what is synced stays, and no two messages that were sent have one identity.
 #![tactic(auto)]
 
 pub mod laws;

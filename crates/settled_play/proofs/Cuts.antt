@@ -14,7 +14,7 @@ use Rattle.agent_node.specs.Acts.{asked, forced}
 use Rattle.agent_node.specs.Doors.{lying}
 use Rattle.agent_node.specs.Seat.{Seat, enters, enters_now, enters_if}
 use Rattle.agent_node.specs.Turns.{cleared, takes, takes_all, work_then, works_off, worked, sync_event, syncs_if, turn_entered, turn_with, turned}
-use Rattle.nsi_play.specs.Play.{changes, does}
+use Rattle.nsi_play.specs.Play.{changes, does, RestartsNone}
 use Rattle.nsi_play.specs.Rounds.{Net, Homes, events_of}
 use Rattle.settled_play.specs.Settled.{cuts_by, cuts_by_entry, cut_after, cut_off, IsNoRestart, GoesOn}
 use Rattle.settled_play.proofs.Finding.{first_there, later_there}
@@ -140,10 +140,10 @@ plain_changes c f k s p = by (s.number == c)
     by true = k s p
     by false = p
 
-pub plain_does : (act : Act) (count : ℕ) (homes : Homes) → KeepsPlain (does act count homes)
-plain_does (Act.Ask c ask) count homes = plain_changes c (asked (homes c) count ask) (λ s p. plain_entry (homes c) (Input.Ask count ask) s tt p)
-plain_does (Act.Force c n) count homes = plain_changes c (forced (homes c) n) (λ s p. plain_entry (homes c) (Input.Force n) s tt p)
-plain_does (Act.Restart c) count homes = λ s p. p
+pub plain_does : (act : Act) → RestartsNone act → (count : ℕ) (homes : Homes) → KeepsPlain (does act count homes)
+plain_does (Act.Ask c ask) none count homes = plain_changes c (asked (homes c) count ask) (λ s p. plain_entry (homes c) (Input.Ask count ask) s tt p)
+plain_does (Act.Force c n) none count homes = plain_changes c (forced (homes c) n) (λ s p. plain_entry (homes c) (Input.Force n) s tt p)
+plain_does (Act.Restart c) none count homes = absurd none
 
 -- what has happened in a net
 pub plain_net : (f : Seat → Seat) (net : Net) → ((s : Seat) → Contains net s → All IsPlain (f s).events) → All IsPlain (events_of (map f net))

@@ -14,7 +14,6 @@ use Rattle.nsi_primitive.specs.declared.message.Parcel.{Parcel}
 use Rattle.stp_topology.specs.Network.{agent_of}
 use Rattle.stp_topology.specs.declared.network.Network.{Network}
 use Rattle.nsi_agent.specs.Homes.{Routes, home_in}
-use Rattle.nsi_agent.specs.Laws.{WhatIsSaidIsItsOwn}
 use Rattle.nsi_agent.specs.Told.{told, WasGot}
 use Rattle.agent_link.specs.Plans.{parcel_number}
 use Rattle.agent_link.specs.declared.plan.ParcelKind.{ParcelKind}
@@ -27,9 +26,14 @@ use Rattle.nsi_world.specs.Worlds.{World, empty, IsTo, said}
 use Rattle.nsi_world.specs.Runs.{world_after}
 use Rattle.nsi_world.specs.Laws.{PlayStands, PlayRests}
 use Rattle.nsi_world.specs.Seats.{AreFree}
+use Rattle.nsi_world.specs.Nets.{AllStand}
 use Rattle.settled_play.specs.Settled.{AllBut, WasAcked, IsOf, IsHeard, IsOver, losses, cut_off, GoesOn, LeavesOnlyLost, PlaySettles, LoseNothing, IsDone, PlayLeavesNone}
 use Rattle.settled_play.proofs.Finding.{idle_door}
 use Rattle.nsi_world.proofs.Names.{home_name}
+use Rattle.nsi_world.proofs.Given.{AreLaws}
+use Rattle.nsi_world.proofs.Names.{given_in}
+use Rattle.nsi_world.proofs.ScriptLemmas.{rise_from, groups_of}
+use Rattle.nsi_world.proofs.Opening.{opening_stands, may_act_all}
 use Rattle.nsi_world.proofs.Resting.{opening_quiet}
 use Rattle.settled_play.proofs.Links.{Given, IsLinked, Way, agent_there, others_within, said_goes}
 use Rattle.settled_play.proofs.Pairs.{IsFor, IsEmpty, Pair, pair_heard, pair_acked}
@@ -190,13 +194,18 @@ settled_in t routes given law plans past net r quiet is =
           subst (AllBut (losses (ParcelKind.Message kind) (plans a b) + losses ParcelKind.Ack (plans b a)) (IsOver homes w a b kind)) (sym (said_is t routes past w a is la)) (over_but t routes given law plans past w is a b kind lb (left a b la lb cut));
     }
 
-pub play_settles : WhatIsSaidIsItsOwn → NothingIsSaidTwice → PlayStands → PlayRests → PlaySettles
-play_settles own once stands rests t routes plans groups events last sound formed routed rise may p =
-    let given : Given t routes = record { own = own; sound = sound; formed = formed; routed = routed } in
+nothing_yet : world_after empty [] ≡ empty
+unfolding world_after
+nothing_yet = refl
+
+pub play_settles : AreLaws → NothingIsSaidTwice → PlayStands → PlayRests → PlaySettles
+play_settles laws once stands rests t routes plans groups events last sound formed routed rise may p =
+    let given : Given t routes = record { own = laws.own; sound = sound; formed = formed; routed = routed } in
     let homes : Homes = home_in t routes in
     let free : AreFree homes empty (plays p.0 groups 0 homes (opening t plans)).events = subst (λ (z : Played). AreFree homes empty z.events) (sym p.1) (stands t routes plans groups events last formed rise may p).free in
     let e : Ends t routes plans [] (plays p.0 groups 0 homes (opening t plans)) =
-    plays_end t routes given [] p.0 groups 0 (opening t plans) (opening_rests t routes plans) (opening_quiet t routes plans) free (ap (λ (z : Played). z.is_over) p.1) in
+    plays_end t routes given (given_in laws t routes) [] p.0 groups 0 0 (opening t plans) (rise_from groups rise) (may_act_all t routes groups (groups_of t groups may))
+    (subst (λ (w : World). AllStand homes 0 w (opening t plans)) (sym nothing_yet) (opening_stands t routes plans formed)) (opening_rests t routes plans) (opening_quiet t routes plans) free (ap (λ (z : Played). z.is_over) p.1) in
     let end = subst (Ends t routes plans []) p.1 e in
     settled_in t routes given once plans events last end.rests end.quiet (record {
       journal = λ a. refl;
@@ -224,6 +233,6 @@ each_done t homes plans events nothing on h a lt k d within =
     let both = none_but (losses kind (plans a to.0) + losses ParcelKind.Ack (plans to.0 a)) (IsOver homes w a to.0 (kind_of m.body)) (said homes w a) none (h.acknowledged a to.0 (kind_of m.body) lt to.1 (none_cut a to.0 events on)) k d within (to.2, refl) in
     (to.0, to.1, to.2, both.0, both.1)
 
-pub play_leaves_none : WhatIsSaidIsItsOwn → NothingIsSaidTwice → PlayStands → PlayRests → PlayLeavesNone
-play_leaves_none own once stands rests t routes plans groups events last none sound formed routed rise may p on a lt =
-    each_done t (home_in t routes) plans events none on (play_settles own once stands rests t routes plans groups events last sound formed routed rise may p) a lt
+pub play_leaves_none : AreLaws → NothingIsSaidTwice → PlayStands → PlayRests → PlayLeavesNone
+play_leaves_none laws once stands rests t routes plans groups events last none sound formed routed rise may p on a lt =
+    each_done t (home_in t routes) plans events none on (play_settles laws once stands rests t routes plans groups events last sound formed routed rise may p) a lt

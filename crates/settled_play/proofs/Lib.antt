@@ -13,5 +13,6 @@ mod Journals
 mod Quiet
 mod Rounds
 mod Restarting
+mod RestartActs
 mod Plays
 mod Leaving

@@ -25,7 +25,7 @@ use Rattle.agent_node.specs.Openings.{empty_door, others_of}
 use Rattle.agent_node.specs.Seat.{Seat, now_at, enters, enters_if, queues}
 use Rattle.agent_node.specs.Turns.{cleared, takes, takes_all, work_then, works_off, worked, sync_event, syncs, syncs_if, synced_all, pushed, turn_entered, turn_with, turned}
 use Rattle.agent_node.specs.Acts.{asked, forced, is_overdue, overdue, tick_at, ticked}
-use Rattle.nsi_play.specs.Play.{changes, does}
+use Rattle.nsi_play.specs.Play.{changes, does, RestartsNone}
 use Rattle.settled_play.proofs.Finding.{door_to, none_there, first_there, later_there, first_or_later, change_doors, map_door, others_map, lies_there, with_leads, queued_there, queue_keeps, says_keeps, said_there, others_change}
 use Rattle.settled_play.proofs.Putting.{counted, counted_none, ahead, lost_in, passes_keep, passes_count}
 use Rattle.settled_play.proofs.Waiting.{acked_before}
@@ -396,9 +396,9 @@ stays_changed t routes a c f js s h g = elim (cases_eq s.number c) [
   | inr n ↦ subst (Stays t routes a js s) (sym (ap (λ b. cond b (f s) s) (ne_eqb s.number c n))) (record { moves = move_none t routes a js [] s h; out = λ b. refl })
 ]
 
-pub move_does : (t : Network) (routes : Routes) (a : ℕ) (act : Act) (count : ℕ) (js : List Entry) (s : Seat) → Sits t routes a js [] s → Stays t routes a js s (does act count (home_in t routes) s)
-move_does t routes a (Act.Ask c ask) count js s h = stays_changed t routes a c (asked (home_in t routes c) count ask) js s h
+pub move_does : (t : Network) (routes : Routes) (a : ℕ) (act : Act) → RestartsNone act → (count : ℕ) (js : List Entry) (s : Seat) → Sits t routes a js [] s → Stays t routes a js s (does act count (home_in t routes) s)
+move_does t routes a (Act.Ask c ask) none count js s h = stays_changed t routes a c (asked (home_in t routes c) count ask) js s h
     (λ e. subst (λ n. Stays t routes a js s (asked (home_in t routes n) count ask s)) e (stays_entry t routes a js (now_at s (Input.Ask count ask)) s tt h))
-move_does t routes a (Act.Force c n) count js s h = stays_changed t routes a c (forced (home_in t routes c) n) js s h
+move_does t routes a (Act.Force c n) none count js s h = stays_changed t routes a c (forced (home_in t routes c) n) js s h
     (λ e. subst (λ k. Stays t routes a js s (forced (home_in t routes k) n s)) e (stays_entry t routes a js (now_at s (Input.Force n)) s tt h))
-move_does t routes a (Act.Restart c) count js s h = record { moves = move_none t routes a js [] s h; out = λ b. refl }
+move_does t routes a (Act.Restart c) none count js s h = absurd none

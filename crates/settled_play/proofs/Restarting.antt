@@ -13,6 +13,7 @@ use Rattle.nsi_agent.specs.Told.{told}
 use Rattle.nsi_agent.proofs.Telling.{waiting_was_caused}
 use Rattle.agent_node.specs.Doors.{Door, others, says_all}
 use Rattle.agent_node.specs.Openings.{others_of}
+use Rattle.agent_node.specs.Restarts.{drops}
 use Rattle.agent_node.specs.Seat.{Seat}
 use Rattle.nsi_play.specs.Openings.{Plans}
 use Rattle.nsi_play.specs.Rounds.{Net, emptied}
@@ -33,10 +34,6 @@ use Rattle.settled_play.proofs.Cuts.{cut_append}
 use Rattle.settled_play.proofs.Rounds.{SitsIn, PairIn, PairIf, AllWithin, HasMetAll, Rests, sits_as, pair_as, same_numbers, told_all}
 
 ---- What a restart makes of an agent
-
--- nothing is to be pushed any more; what came lies there still
-abbrev pub drops : Door → Door
-drops d = record d { queue = [] }
 
 -- it has read these entries: all that waits is queued, and nothing else
 pub record HasRead (t : Network) (routes : Routes) (es : List Entry) (s u : Seat) : Type 0 where
@@ -114,7 +111,7 @@ one_cut b c past e = cut_append b c false past (e ∷ [])
 journal_one : (b : ℕ) (past : List Event) (e : Event) → journal_at b (past ++ e ∷ []) ≡ (happens (world_after empty past) e).journal b
 journal_one b past e = ap (λ (w : World). w.journal b) (after_append empty past (e ∷ []) ∙ one_after (world_after empty past) e)
 
-no_none : {X : Type 0} (x : X) (o : Option X) → o ≡ Some x → o ≡ None → ⊥
+pub no_none : {X : Type 0} (x : X) (o : Option X) → o ≡ Some x → o ≡ None → ⊥
 no_none x o p q = absurd (cc)
 
 same_some : {X : Type 0} (x y : X) → Some x ≡ Some y → x ≡ y
@@ -137,13 +134,13 @@ restarts_none past = record {
 abbrev pub with_read : ℕ → List Entry → Reads → Reads
 with_read a es reads b = cond (b == a) (Some es) (reads b)
 
-read_here : (a : ℕ) (es : List Entry) (reads : Reads) → with_read a es reads a ≡ Some es
+pub read_here : (a : ℕ) (es : List Entry) (reads : Reads) → with_read a es reads a ≡ Some es
 read_here a es reads = ap (λ z. cond z (Some es) (reads a)) (eq-eqb a a refl)
 
-read_else : (a b : ℕ) (es : List Entry) (reads : Reads) → b ≢ a → with_read a es reads b ≡ reads b
+pub read_else : (a b : ℕ) (es : List Entry) (reads : Reads) → b ≢ a → with_read a es reads b ≡ reads b
 read_else a b es reads n = ap (λ z. cond z (Some es) (reads b)) (ne_eqb b a n)
 
-not_here : (a b : ℕ) (es : List Entry) (reads : Reads) → with_read a es reads b ≡ None → b ≢ a
+pub not_here : (a b : ℕ) (es : List Entry) (reads : Reads) → with_read a es reads b ≡ None → b ≢ a
 not_here a b es reads q e = no_none es (with_read a es reads a) (read_here a es reads) (subst (λ k. with_read a es reads k ≡ None) e q)
 
 -- one restart more, with so many entries of those that its journal has then

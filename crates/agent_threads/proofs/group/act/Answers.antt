@@ -20,7 +20,7 @@ drain-requires-clause-usable g c = does_usable (part_in c.args.act.now c.args.nu
 pub returns-clause-ok : goal.returns-clause-ok
 returns-clause-ok g c = λ t o routes r.
     is_told (acted c.args.act.now c.args.number (home_in t routes) (seats c.args.nodes.now.items)) c.act_all.new.nodes.items c.drain.new.nodes.items c.args.events.now.items c.drain.new.events.items
-    (does_seats (part_in c.args.act.now c.args.number) c.args.nodes.now.items c.act_all.new.nodes.items c.in_ok-act_all.ensures.done t o routes r ∙ parts_acted c.args.act.now c.args.number (home_in t routes) (seats c.args.nodes.now.items))
+    (does_seats (part_in c.args.act.now c.args.number) c.args.nodes.now.items c.act_all.new.nodes.items c.in_ok-act_all.ensures.done t o routes r ∙ parts_acted c.requires.can.network c.args.act.now c.requires.can.can c.args.number (home_in t routes) (seats c.args.nodes.now.items))
     c.in_ok-drain.ensures.made c.in_ok-drain.ensures.events
 
 pub returns-in_err-drain-clause-agents : goal.returns-in_err-drain-clause-agents

@@ -1,7 +1,7 @@
 use Rattle.std.proofs.Common.{[], ◌∷◌, refl}
 use Rattle.nsi_program.specs.Check.{AnswersFront}
 use Rattle.nsi_program.proofs.Checks.{answer_front, answer_none}
-use Rattle.nsi_program.proofs.Written.{on_err, front_some, nothing_some}
+use Rattle.provide_command.proofs.Written.{on_err, front_some, nothing_some}
 use Rattle.nsi_program.proofs.check.answer_line.Goals as goal
 
 pub returns-in_default-clause-front : goal.returns-in_default-clause-front

@@ -1,7 +1,7 @@
 use Rattle.std.proofs.Common.{arith, ◌∙◌}
 use Rattle.nsi_base.specs.Lines.{lines_of}
 use Rattle.nsi_program.proofs.Checks.{answers_next, answers_cut, answers_end, lines_none}
-use Rattle.nsi_program.proofs.Written.{on_err}
+use Rattle.provide_command.proofs.Written.{on_err}
 use Rattle.nsi_program.proofs.check.answer_lines.Goals as goal
 
 pub returns-in_err-answer_line-clause-front : goal.returns-in_err-answer_line-clause-front

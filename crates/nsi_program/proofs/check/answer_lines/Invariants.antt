@@ -1,7 +1,7 @@
 use Rattle.std.proofs.Common.{◌≡◌, length}
 use Rattle.nsi_base.specs.Lines.{lines_of}
 use Rattle.nsi_program.specs.Check.{AnswersUpTo}
-use Rattle.nsi_program.specs.Writes.{WritesSome}
+use Rattle.provide_command.specs.Writes.{WritesSome}
 use Rattle.nsi_program.proofs.check.answer_lines.Given as goal
 
 abbrev pub decreases-lines : goal.decreases-lines

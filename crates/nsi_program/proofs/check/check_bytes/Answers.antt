@@ -2,7 +2,7 @@ use Rattle.std.proofs.Common.{refl}
 use Rattle.stp_topology.specs.Text.{topology_of}
 use Rattle.nsi_program.specs.Check.{BeginsRead}
 use Rattle.nsi_program.proofs.Checks.{read_begins}
-use Rattle.nsi_program.proofs.Written.{nothing_some}
+use Rattle.provide_command.proofs.Written.{nothing_some}
 use Rattle.nsi_program.proofs.check.check_bytes.Goals as goal
 
 pub returns-in-Err-NoMemory-clause-front : goal.returns-in-Err-NoMemory-clause-front

@@ -1,7 +1,7 @@
 use Rattle.nsi_base.specs.Lines.{lines_of}
 use Rattle.nsi_program.specs.Check.{AnswersFront}
 use Rattle.nsi_program.proofs.Checks.{counts_front, counts_cut}
-use Rattle.nsi_program.proofs.Written.{on_err}
+use Rattle.provide_command.proofs.Written.{on_err}
 use Rattle.nsi_program.proofs.check.write_answers.Goals as goal
 
 pub returns-in_err-write_counts-clause-front : goal.returns-in_err-write_counts-clause-front

@@ -3,8 +3,8 @@ use Rattle.std.specs.Prelude.{string_bytes}
 use Rattle.command_words.specs.declared.command.Command.{Command}
 use Rattle.nsi_program.specs.RunsTo.{options_of}
 use Rattle.command_words.specs.Words.{command_of}
-use Rattle.nsi_program.specs.Promise.{promise_of, IsKept, IsComplete, IsSafe}
-use Rattle.nsi_program.proofs.Declared.{is_complete, is_safe, names_fault}
+use Rattle.provide_command.specs.Promise.{promise_of, IsKept, IsComplete, IsSafe}
+use Rattle.provide_command.proofs.Declared.{is_complete, is_safe, names_fault}
 use Rattle.nsi_program.proofs.Ended.{provide_ended, with_reading, check_ended, usage_ended, provide_cut, provide_broken, provide_cut_short, check_cut, check_cut_short, usage_cut_short, generate_ended, generate_cut_short, generated_is, run_ended, run_cut, run_broken, run_cut_short, run_names_fault, tells_disks}
 use Rattle.command_words.proofs.FewEvents.{limit_few, limit_is}
 use Rattle.nsi_program.proofs.Nothing.{nothing_backs, nothing_cut_short}

@@ -1,9 +1,0 @@
-pub mod Staying
-pub mod Views
-pub mod Records
-pub mod Growing
-pub mod Providers
-pub mod Turned
-pub mod Aggregators
-pub mod Requesters
-pub mod Roles

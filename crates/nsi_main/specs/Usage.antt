@@ -1,9 +1,0 @@
--- When the words are refused.
-use Rattle.std.specs.Prelude.{◌≡◌, ◌↔◌, ℕ, List, None, true}
-use Rattle.nsi_program.specs.Promise.{is_told}
-use Rattle.command_words.specs.Words.{command_of}
-use Rattle.nsi_program.specs.declared.status.Status.{Status}
-
--- a status that is told is Usage exactly where the words name no command
-abbrev pub IsUsageAsNamed : List (List ℕ) → Status → Type 0
-IsUsageAsNamed words status = is_told status ≡ true → ((status ≡ Status.Usage) ↔ (command_of words ≡ None))

@@ -1,0 +1,14 @@
+pub mod Answered
+pub mod Promised
+pub mod Declared
+pub mod Served
+pub mod Serves
+pub mod Written
+pub mod Begun
+pub mod Provided
+pub mod Batches
+pub mod Started
+pub mod Stepping
+pub mod TopologyLines
+pub mod Kept
+pub mod Backing

@@ -1,5 +1,0 @@
-use Rattle.run_identities.proofs.Sent.{answers_are_of_requests}
-use Rattle.run_identities.proofs.laws.answers.Goals as goal
-
-pub returns : goal.returns
-returns c = answers_are_of_requests c.sent.ensures.heard

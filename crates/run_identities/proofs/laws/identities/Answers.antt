@@ -1,5 +1,0 @@
-use Rattle.run_identities.proofs.Sent.{identities_are_one}
-use Rattle.run_identities.proofs.laws.identities.Goals as goal
-
-pub returns : goal.returns
-returns c = identities_are_one c.sent.ensures.heard

@@ -1,5 +1,0 @@
-use Rattle.run_identities.proofs.Sent.{one_is_outstanding}
-use Rattle.run_identities.proofs.laws.outstanding.Goals as goal
-
-pub returns : goal.returns
-returns c = one_is_outstanding c.sent.ensures.heard

@@ -1,5 +1,0 @@
-use Rattle.run_safety.proofs.Whole.{nothing_is_safe}
-use Rattle.run_safety.proofs.laws.nothing_safe.Goals as goal
-
-pub returns : goal.returns
-returns c = nothing_is_safe c.every_run_safe_at_each_agent.ensures

@@ -1,2 +1,0 @@
-mod Together
-mod Plays
