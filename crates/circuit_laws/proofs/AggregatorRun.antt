@@ -221,9 +221,17 @@ source_of r = r.service.source
 abbrev dest_of : Record → List ℕ
 dest_of r = r.service.dest
 
--- the one record is between a view's points
-abbrev AreBetween : ChildConnection → List Record → Type 0
-AreBetween x rs = (map source_of rs ≡ x.source ∷ []) × (map dest_of rs ≡ x.dest ∷ [])
+-- the one record is between these points
+abbrev AreBetween : List ℕ → List ℕ → List Record → Type 0
+AreBetween source dest rs = (map source_of rs ≡ source ∷ []) × (map dest_of rs ≡ dest ∷ [])
+
+abbrev AreEnds : ChildConnection → List ℕ → List ℕ → Type 0
+AreEnds x source dest = (x.source ≡ source) × (x.dest ≡ dest)
+
+ends_of : (xs : List ChildConnection) (d : ChildConnection) → map leg_in xs ≡ legs → AreEnds (get_or xs 0 d) (codes "w:lab") (codes "w:east") × AreEnds (get_or xs 1 d) (codes "e:west") (codes "e:store")
+ends_of [] d e = absurd (cc)
+ends_of (x ∷ []) d e = absurd (cc)
+ends_of (x ∷ (y ∷ xs)) d e = ((cc, cc), (cc, cc))
 
 all_same : (f : Record → List ℕ) (rs : List Record) (p : List ℕ) → map f rs ≡ p ∷ [] → (n : ℕ) → n < length rs → f (record_at n rs) ≡ p
 all_same f [] p e n l = absurd (cc)
@@ -293,7 +301,7 @@ module _ (given : Routes) (search : LeastPathOrNone) where
     pub of_the_first_provider : IsChildOf topology homes 2 (view whole 0).child 0
     pub which_has_it : IsBackedIn homes whole 2 0 (view whole 0) 0 (id_of 2 4)
     pub its_record_lives : map lives_still (synced_state homes whole 0).base.records ≡ true ∷ []
-    pub and_is_between_its_points : AreBetween (view whole 0) (synced_state homes whole 0).base.records
+    pub which_is_between : AreBetween (codes "w:lab") (codes "w:east") (synced_state homes whole 0).base.records
     pub it_has_a_record : length (joint whole).base.records ≡ 1
     pub by_all_that_is_synced : IsCutOf whole 2 8
 
@@ -322,7 +330,7 @@ module _ (given : Routes) (search : LeastPathOrNone) where
           stands = there_at (versions_of (record_at 0 (synced_state homes whole 0).base.records)) 0 1 0 refl (omega arith) refl;
         };
         its_record_lives = refl;
-        and_is_between_its_points = (refl, refl);
+        which_is_between = (refl, refl);
         it_has_a_record = refl;
         by_all_that_is_synced = record { synced = let e : whole.synced 2 ≡ 8 = refl in omega (arith, e); within = let e : length (whole.journal 2) ≡ 8 = refl in omega (arith, e) };
       }
@@ -331,7 +339,7 @@ module _ (given : Routes) (search : LeastPathOrNone) where
     pub the_second_provider : IsChildOf topology homes 2 (view whole 1).child 1
     pub has_it_by_another_commit : IsBackedIn homes whole 2 1 (view whole 1) 0 (id_of 2 5)
     pub its_record_lives : map lives_still (synced_state homes whole 1).base.records ≡ true ∷ []
-    pub and_is_between_its_points : AreBetween (view whole 1) (synced_state homes whole 1).base.records
+    pub which_is_between : AreBetween (codes "e:west") (codes "e:store") (synced_state homes whole 1).base.records
 
   pub second_row : IsSecondRow
   unfolding kind_number connection_of named_connection reservation_row provision_row lifecycle_row status joined announces is_heard with_heard is_old saw is_taken with_taken lack_at first_from first_lack_by places asks_child request_about reserve_for child_hears is_kind open_request reservation_closing provision_closing closes moves requested provided is_terminating record_waits record_work tells_plane record_tells demand provision_event provisions lifecycle_event lives event_of is_live is_working record_worked record_reserves has_row is_in_place unnamed_refusal modification_refusal refusal lacks_among capacities_among works provider_receives provider_step provider_after find_view requester_answers asks_at asks_new asks_found reserves asked_of requester_asked hears_if requester_step requester_after asks_if_free asks_if_known next_after asked_view next_behind each request_if may_abort reserve_if passed_on views_of with_path is_held checked reservation_verdict reservation_due provision_verdict provision_due settles_reservation settles_provision closes_unless settles settle tell_joined pass_on takes turn_by_request request_turn is_timed_out is_ended hold_end_by force_by hold_ends force_ends heard_by turn_by_answer answer_turn spoken due_for request_at answers pass_then hear_all part_of hears receives step after home_in after_as goes_on world_after
@@ -349,7 +357,7 @@ module _ (given : Routes) (search : LeastPathOrNone) where
           stands = there_at (versions_of (record_at 0 (synced_state homes whole 1).base.records)) 0 1 0 refl (omega arith) refl;
         };
         its_record_lives = refl;
-        and_is_between_its_points = (refl, refl);
+        which_is_between = (refl, refl);
       }
 
   -- the requester's view of the aggregator
@@ -409,11 +417,11 @@ module _ (given : Routes) (search : LeastPathOrNone) where
   lives_in : (b : ℕ) (x : ChildConnection) → map lives_still (synced_state homes whole b).base.records ≡ true ∷ [] → LivesIn homes whole 2 b (own whole) x 0
   lives_in b x e c backed live = all_live (synced_state homes whole b).base.records e backed.place
 
-  between_in : (b : ℕ) (x : ChildConnection) → AreBetween x (synced_state homes whole b).base.records → IsBetweenIn homes whole 2 b x 0
-  between_in b x are c backed =
+  between_in : (b : ℕ) (x : ChildConnection) (source dest : List ℕ) → AreEnds x source dest → AreBetween source dest (synced_state homes whole b).base.records → IsBetweenIn homes whole 2 b x 0
+  between_in b x source dest ends are c backed =
       let rs : List Record = (synced_state homes whole b).base.records in
       let within = (position-Some (λ (r : Record). (backed.connection == r.id) && bytes_eq (homes 2).name r.owner) rs backed.place no_record backed.there).0 in
-      record { source = all_same source_of rs x.source are.0 backed.place within; dest = all_same dest_of rs x.dest are.1 backed.place within }
+      record { source = all_same source_of rs source are.0 backed.place within ∙ sym ends.0; dest = all_same dest_of rs dest are.1 backed.place within ∙ sym ends.1 }
 
   this_way : (s d : ℕ) (ls : List Leg) → s ≡ 0 → d ≡ 3 → ls ≡ legs → IsLeastWay topology 2 s d ls
   this_way s d ls e f g = rw (e, f, g) (least_is_it search)
@@ -421,12 +429,13 @@ module _ (given : Routes) (search : LeastPathOrNone) where
   pub the_connection_is_a_circuit : IsCircuit topology homes whole 2 (own whole) (views whole) 0
   the_connection_is_a_circuit =
       let has = both_have_it (views whole) (new_view [] [] []) row.that_have_it_too in
+      let ends = ends_of (views whole) (new_view [] [] []) row.of_these_legs in
       record {
         some = λ e. absurd (let n = ap length e in omega (arith, n, row.it_has_two_views));
         way = this_way (own whole).source (own whole).dest (map leg_in (views whole)) row.its_points.0 row.its_points.1 row.of_these_legs;
         each = each_of_two StandsBelow (views whole) (new_view [] [] []) row.it_has_two_views
-            (has.0, 0, id_of 2 4, row.of_the_first_provider, row.which_has_it, lives_in 0 (view whole 0) row.its_record_lives, between_in 0 (view whole 0) row.and_is_between_its_points)
-            (has.1, 1, id_of 2 5, second_row.the_second_provider, second_row.has_it_by_another_commit, lives_in 1 (view whole 1) second_row.its_record_lives, between_in 1 (view whole 1) second_row.and_is_between_its_points);
+            (has.0, 0, id_of 2 4, row.of_the_first_provider, row.which_has_it, lives_in 0 (view whole 0) row.its_record_lives, between_in 0 (view whole 0) (codes "w:lab") (codes "w:east") ends.0 row.which_is_between)
+            (has.1, 1, id_of 2 5, second_row.the_second_provider, second_row.has_it_by_another_commit, lives_in 1 (view whole 1) second_row.its_record_lives, between_in 1 (view whole 1) (codes "e:west") (codes "e:store") ends.1 second_row.which_is_between);
         apart = λ i j b c d x y e f its other p q same. two_apart (views whole) (new_view [] [] []) row.it_has_two_views row.the_first_is_of row.the_second_is_of i j x y e f (its.named ∙ sym other.named);
       }
 

@@ -1,5 +1,5 @@
 -- The record of a view is between the view's two points, in any two cuts of a run.
-use Rattle.std.proofs.Common.{ℕ, ◌≡◌, ◌<◌, ◌∙◌, ◌&&◌, ◌==◌, Bool, true, false, List, length, take, Contains, Option, Some, None, bytes_eq, eqb-true, refl, sym, ap, subst}
+use Rattle.std.proofs.Common.{ℕ, ◌≡◌, ◌<◌, ◌∙◌, ◌&&◌, ◌==◌, Bool, true, false, List, length, take, Contains, Option, Some, None, bytes_eq, eqb-true, refl, sym, ap, subst, arith}
 use Rattle.std.proofs.lemmas.List.Elements.{All-contains}
 use Rattle.std.proofs.lemmas.List.Quantifiers.{position-Some}
 use Rattle.nsi_primitive.specs.Messages.{has_rows, is_request, connection_of}
@@ -21,10 +21,10 @@ use Rattle.nsi_agent.specs.Told.{Told, told, name_in}
 use Rattle.nsi_world.specs.Heard.{WasSent, IsHeard, IsFair as IsFairWorld}
 use Rattle.nsi_world.specs.Runs.{is_requester, world_after, at}
 use Rattle.nsi_world.specs.Worlds.{Homes, IsAgent, World, empty, IsSent, IsTo}
-use Rattle.run_identities.specs.Cuts.{cut, all_synced, IsGrown}
-use Rattle.run_identities.proofs.Grown.{at_same, at_other, AreGrown, run_grown}
-use Rattle.run_identities.proofs.Sent.{Given, given_in}
-use Rattle.run_identities.proofs.Worlds.{grown_fair, synced_cut, cut_at}
+use Rattle.run_growth.specs.WorldCuts.{cut, all_synced, IsGrown}
+use Rattle.run_growth.proofs.Grown.{at_same, at_other, AreGrown, run_grown}
+use Rattle.run_growth.proofs.Sent.{Given, given_in}
+use Rattle.run_growth.proofs.WorldCuts.{grown_fair, synced_cut, cut_at}
 use Rattle.circuit_link.specs.Children.{about, header_of}
 use Rattle.circuit_laws.specs.Backed.{IsBetween}
 use Rattle.circuit_laws.specs.Laws.{ChildrenAreBetween}
@@ -33,16 +33,16 @@ use Rattle.circuit_laws.proofs.Learnt.{IsTaught, IsReserved, IsFirstBetween, IsM
 use Rattle.circuit_laws.proofs.Taught.{IsOf, CameOf, Teaches, IsTaughtBy, told_taught}
 
 -- a record of that owner has that id, and is between these points
-pub record IsThere (rs : List Record) (owner : List ℕ) (id : ℕ) (source dest : List ℕ) : Type 0 where
+pub record IsThere (rs : List Record) (owner : List ℕ) (id : ℕ) (from to : List ℕ) : Type 0 where
   pub place : ℕ
   pub within : place < length rs
   pub its_id : (record_at place rs).id ≡ id
-  pub source : (record_at place rs).service.source ≡ source
-  pub dest : (record_at place rs).service.dest ≡ dest
+  pub source : (record_at place rs).service.source ≡ from
+  pub dest : (record_at place rs).service.dest ≡ to
 
 -- what teaches a connection is an answer without rows
 teaching_answers : (b : Body) (id : ℕ) → teaches b ≡ Some id → (is_answering b ≡ true) × (has_rows b ≡ false)
-unfolding teaches is_answering is_asking is_noting has_rows
+unfolding teaches is_answering is_asking is_noting
 teaching_answers b id e = grind (arith, e)
 
 reserve_asks : (m : Message) (q : ReserveRequest) → m.body ≡ Body.Reserve q → is_request m.body ≡ true

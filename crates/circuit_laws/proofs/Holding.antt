@@ -20,10 +20,10 @@ use Rattle.nsi_agent.specs.Steps.{after}
 use Rattle.nsi_agent.specs.Told.{Told, told, name_in}
 use Rattle.nsi_world.specs.Runs.{is_requester, world_after, AreAllowed, at}
 use Rattle.nsi_world.specs.Worlds.{Homes, IsAgent, World, empty}
-use Rattle.run_identities.specs.Cuts.{IsPlaceOf, cut, IsGrown}
-use Rattle.run_identities.proofs.Grown.{at_same, at_other, AreGrown, run_grown}
-use Rattle.run_identities.proofs.Sent.{Given, given_in}
-use Rattle.run_identities.proofs.Worlds.{synced_cut, cut_at}
+use Rattle.run_growth.specs.WorldCuts.{IsPlaceOf, cut, IsGrown}
+use Rattle.run_growth.proofs.Grown.{at_same, at_other, AreGrown, run_grown}
+use Rattle.run_growth.proofs.Sent.{Given, given_in}
+use Rattle.run_growth.proofs.WorldCuts.{synced_cut, cut_at}
 use Rattle.circuit_link.specs.Children.{header_of, MayReach, IsFair}
 use Rattle.circuit_link.specs.Serving.{child_of}
 use Rattle.circuit_pairs.specs.Pairs.{IsPair, IsOnce}
@@ -37,7 +37,7 @@ use Rattle.circuit_laws.proofs.Leading.{AsksOthers, asks_others}
 use Rattle.circuit_laws.proofs.Learnt.{role_turns}
 use Rattle.circuit_laws.proofs.Pairs.{grown_pair}
 use Rattle.circuit_laws.proofs.Roles.{views_of, aggregates_keep, serves_as, even_from}
-use Rattle.circuit_laws.proofs.Tried.{is_busy, IsTriedBy, AllTried, busy_within, known_place, its_place, served_tried}
+use Rattle.circuit_laws.proofs.Tried.{is_busy, IsTriedBy, AllTried, busy_within, served_tried}
 use Rattle.circuit_laws.proofs.Trying.{turned_tried}
 
 module _ (own_law : WhatIsSaidIsItsOwn) (t : Network) (homes : Homes) (given : Given homes) (a b : ℕ) (agent : IsAgent homes a) (other : IsAgent homes b) (apart : b ≡ a → ⊥) (asked : is_requester (homes b).role ≡ false)

@@ -10,7 +10,7 @@ use Rattle.nsi_agent.specs.Steps.{after}
 use Rattle.nsi_agent.specs.Told.{Told, told}
 use Rattle.nsi_world.specs.Runs.{MayCome}
 use Rattle.nsi_world.specs.Worlds.{Homes, IsSent, IsTo}
-use Rattle.run_identities.specs.Cuts.{all_synced, IsGrown, begins, grows}
+use Rattle.run_growth.specs.WorldCuts.{all_synced, IsGrown, begins, grows}
 use Rattle.circuit_laws.proofs.Pairs.{told_none, told_more}
 
 -- what is kept and said behind one more entry

@@ -224,7 +224,7 @@ reserve_knowing es out parent criteria s c x (Some b) e said h =
     here = by (reserve_is criteria s x b e)
       where
         by : (q : ReserveRequest) × (b ≡ Body.Reserve q) × (IsFirstBetween x.source x.dest q ⊎ ((id : ℕ) × (x.connection ≡ Some id) × IsModification id q)) → IsAttempted es out x.child x.source x.dest c
-        by (q, is, inl first) = inl (record { message = to_child parent c x b; there = there; to = refl; under = refl; reserve = q; body = is; is = first })
+        by (q, is, inl new) = inl (record { message = to_child parent c x b; there = there; to = refl; under = refl; reserve = q; body = is; is = new })
         by (q, is, inr (id, known, named)) = inr (id, record { message = to_child parent c x b; there = there; to = refl; under = refl; reserve = q; body = is; is = named }, h.known id known)
 
 passed_knowing : (es : List Entry) (out : List Message) (parent : List ℕ) (body : Body) (own : Record) (c : ℕ) (x : ChildConnection) →
@@ -380,18 +380,18 @@ module _ (agent : Agent) (es : List Entry) (e : Entry) (before out more : List M
       (λ n i. said n (subst (λ (zs : List Message). Contains zs n) (sym w.1) i)))
 
   turned_knowing : (own own' : Record) (xs ys : List ChildConnection) → Turned agent e.input own xs own' ys more → All (IsKnowing es before) xs → All (IsKnowing fs out) ys
-  turned_knowing own own' xs ys (Turned.rests a same none) all = subst (All (IsKnowing fs out)) (sym same) (all_more xs all)
-  turned_knowing own own' xs ys (Turned.hears m now next got turn) all =
+  turned_knowing own own' xs ys (Turned.by_rest a same none) all = subst (All (IsKnowing fs out)) (sym same) (all_more xs all)
+  turned_knowing own own' xs ys (Turned.by_answer m now next got turn) all =
       let w = answer_views agent now m own xs next in
       subst (All (IsKnowing fs out)) (sym (turn.views ∙ w.0))
       (each_all (λ n x. hear_one (is_terminating own.lsm) m agent n x) (IsKnowing fs out) (IsKnowing fs out) out
       (λ n x h i.
       beside_knowing fs out (late_terminate (is_terminating own.lsm) m x) Kind.Terminate (id_of agent.number n) (hear m x).view (λ k. cc) (hear_knowing fs out e last m got x h)) next xs (all_more xs all)
       (λ n i. newer n (subst (λ (zs : List Message). Contains zs n) (sym (turn.asked ∙ w.1)) i)))
-  turned_knowing own own' xs ys (Turned.takes m now next legs got fine turn) all =
+  turned_knowing own own' xs ys (Turned.by_request m now next legs got fine turn) all =
       subst (All (IsKnowing fs out)) (sym turn.views)
       (request_knowing m now next own (with_path m.body xs legs) (λ n i. newer n (subst (λ (zs : List Message). Contains zs n) (sym turn.asked) i)) (path_knowing fs out m.body xs legs (all_more xs all)))
-  turned_knowing own own' xs ys (Turned.opens m q now next id source dest legs got body same none turn) all =
+  turned_knowing own own' xs ys (Turned.by_opening m q now next id source dest legs got body same none turn) all =
       subst (All (IsKnowing fs out)) (sym turn.views)
       (request_knowing m now next _ (with_path m.body [] legs) (λ n i. newer n (subst (λ (zs : List Message). Contains zs n) (sym turn.asked) i)) (path_knowing fs out m.body [] legs (All-nil (IsKnowing fs out))))
 

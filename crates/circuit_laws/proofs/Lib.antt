@@ -25,6 +25,10 @@ pub mod Turned
 pub mod Taught
 pub mod Learnt
 pub mod Between
+pub mod Viewed
+pub mod Tried
+pub mod Trying
+pub mod Holding
 pub mod Standing
 mod Whole
 pub mod Nothing

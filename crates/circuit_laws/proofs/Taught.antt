@@ -30,8 +30,8 @@ use Rattle.connection_record.proofs.Saying.{takes_speaks}
 use Rattle.child_connection.specs.Holding.{teaches}
 use Rattle.agent_state.specs.Entries.{error_reply}
 use Rattle.agent_state.specs.State.{AgentState, no_record, record_at, blank_agent}
-use Rattle.agent_growth.specs.Growth.{Stay}
-use Rattle.agent_growth.proofs.Roles.{entries_grow}
+use Rattle.run_growth.specs.Growth.{Stay}
+use Rattle.run_growth.proofs.Roles.{entries_grow}
 use Rattle.nsi_agent.specs.Homes.{Home}
 use Rattle.nsi_agent.specs.Steps.{after}
 use Rattle.nsi_agent.specs.Told.{Told, told, name_in}
@@ -228,17 +228,17 @@ module _ (name : List ℕ) (es : List Entry) (e : Entry) (m : Message) (side : S
           (course_says fs z.rec turn.after turn.said turn.course (taken_owes fs m side now r (all n) here) c b w.1)
 
 module _ (name : List ℕ) (es : List Entry) (e : Entry) (old new : List Record) (seen seen' : List Header) (before more : List Message) (opening : Opening e.input old new) (all : (n : ℕ) → Owes es (record_at n old)) where
-  abbrev after : List Entry
-  after = es ++ e ∷ []
+  abbrev gs : List Entry
+  gs = es ++ e ∷ []
 
   abbrev d : Child
   d = record { records = old; seen = seen; said = before }
 
-  all_more : (n : ℕ) → Owes after (record_at n old)
+  all_more : (n : ℕ) → Owes gs (record_at n old)
   all_more n c k l = came_more es (e ∷ []) c (record_at n old) (all n c k l)
 
   abbrev Says : Type 0
-  Says = (owner : List ℕ) (c id : ℕ) (b : Body) → Contains (about (header_of owner name c) more) b → teaches b ≡ Some id → IsTaughtBy after new owner c id
+  Says = (owner : List ℕ) (c id : ℕ) (b : Body) → Contains (about (header_of owner name c) more) b → teaches b ≡ Some id → IsTaughtBy gs new owner c id
 
   courses_say : TakeCourses name old new more → Says
   courses_say courses owner c id b i k =
@@ -246,8 +246,8 @@ module _ (name : List ℕ) (es : List Entry) (e : Entry) (old new : List Record)
       let r : Record = record_at n old in
       let a : IsAfter r (record_at n new) (courses.said n) = course_after r (record_at n new) (courses.said n) (courses.each n) in
       let w = said_counts c b (courses.said n) j in
-      taught_at after new n r (record_at n new) owner c id b (courses.said n) (omega (arith, courses.long, owing_within old n c w.0 (omega (arith, w.1, a.owes c w.0)))) refl a.later owned a.names j k
-      (course_says after r (record_at n new) (courses.said n) (courses.each n) (all_more n) c b j)
+      taught_at gs new n r (record_at n new) owner c id b (courses.said n) (omega (arith, courses.long, owing_within old n c w.0 (omega (arith, w.1, a.owes c w.0)))) refl a.later owned a.names j k
+      (course_says gs r (record_at n new) (courses.said n) (courses.each n) (all_more n) c b j)
 
   error_says : (m : Message) (error : ErrorName) → more ≡ error_reply name m error ∷ [] → Says
   unfolding teaches
@@ -256,14 +256,14 @@ module _ (name : List ℕ) (es : List Entry) (e : Entry) (old new : List Record)
       let one_said : s.message ≡ error_reply name m error = only_one (error_reply name m error) s.message (subst (λ (ms : List Message). Contains ms s.message) out s.there) in
       absurd (let q : None ≡ Some id = ap (λ (z : Message). teaches z.body) (sym one_said) ∙ (ap teaches s.body ∙ k) in cc)
 
-  rows_owe : (f : Record) → ((c k : ℕ) → owed c k f ≡ 0) → (n : ℕ) → Owes after (record_at n (old ++ f ∷ []))
+  rows_owe : (f : Record) → ((c k : ℕ) → owed c k f ≡ 0) → (n : ℕ) → Owes gs (record_at n (old ++ f ∷ []))
   rows_owe f none n = by_place (cases_eq n (length old))
     where
-      by_place : (n ≡ length old) ⊎ (n ≡ length old → ⊥) → Owes after (record_at n (old ++ f ∷ []))
-      by_place (inl q) c k l =
+      by_place : (n ≡ length old) ⊎ (n ≡ length old → ⊥) → Owes gs (record_at n (old ++ f ∷ []))
+      by_place (inl q) = λ c k l.
           let nothing : owed c k (record_at n (old ++ f ∷ [])) ≡ 0 = ap (λ (i : ℕ). owed c k (record_at i (old ++ f ∷ []))) q ∙ (ap (owed c k) (last_here old f no_record) ∙ none c k) in
           absurd (omega (arith, l, nothing))
-      by_place (inr q) = subst (Owes after) (sym (last_there old f no_record n q)) (all_more n)
+      by_place (inr q) = subst (Owes gs) (sym (last_there old f no_record n q)) (all_more n)
 
   -- the record that is opened is of the reserve's service
   first_of : (m : Message) (f q : Record) → e.input ≡ Input.Got m → f.owner ≡ m.header.requester → IsLater f q → record_at (length old) new ≡ q → length new ≡ suc (length old) → IsOf m f
@@ -284,11 +284,11 @@ module _ (name : List ℕ) (es : List Entry) (e : Entry) (old new : List Record)
           same_message : (a b : Message) → Input.Got a ≡ Input.Got b → a ≡ b
           same_message a b k = cc
 
-  entry_teaches : Serves name e.input d new seen' more → ((n : ℕ) → Owes after (record_at n new)) × Says
-  entry_teaches (Serves.acts same courses) = (λ n. course_owes after (record_at n old) (record_at n new) (courses.said n) (courses.each n) (all_more n), courses_say courses)
+  entry_teaches : Serves name e.input d new seen' more → ((n : ℕ) → Owes gs (record_at n new)) × Says
+  entry_teaches (Serves.acts same courses) = (λ n. course_owes gs (record_at n old) (record_at n new) (courses.said n) (courses.each n) (all_more n), courses_say courses)
   entry_teaches (Serves.leaves m is_new kind same silent) =
-      (λ n. subst (λ (rs : List Record). Owes after (record_at n rs)) (sym same) (all_more n), λ owner c id b i k. absurd (not_there (about (header_of owner name c) more) b (silent (header_of owner name c)) i))
-  entry_teaches (Serves.refuses m error is_new refused same out) = (λ n. subst (λ (rs : List Record). Owes after (record_at n rs)) (sym same) (all_more n), error_says m error out)
+      (λ n. subst (λ (rs : List Record). Owes gs (record_at n rs)) (sym same) (all_more n), λ owner c id b i k. absurd (not_there (about (header_of owner name c) more) b (silent (header_of owner name c)) i))
+  entry_teaches (Serves.refuses m error is_new refused same out) = (λ n. subst (λ (rs : List Record). Owes gs (record_at n rs)) (sym same) (all_more n), error_says m error out)
   entry_teaches (Serves.takes m n side now is_new about turn) =
       let of : IsOf m (record_at n old) = IsOf.named (about.names ∙ ap (λ (i : ℕ). Some i) (sym about.its_id)) in (
         turn_owes name es e m side now n old new more is_new.got is_new.request about.within (sym about.owner) of all_more turn,

@@ -207,7 +207,7 @@ module _ (I : Type 0) (parent child : List ℕ) (xs : I → ChildConnection) (as
   -- a request of the reservation that comes is a view's own
   pub record IsOwnOf (m : Message) : Type 0 where
     pub view : I
-    pub asked : (xs view).reserve_request ≡ Some (sent m.header.correlation (kind_of m.body))
+    pub waits : (xs view).reserve_request ≡ Some (sent m.header.correlation (kind_of m.body))
     pub connection : (xs view).connection ≡ connection_of m.body
     pub attempt : IsAttempt (kind_of m.body) m.header.correlation (xs view)
 
@@ -224,7 +224,7 @@ module _ (I : Type 0) (parent child : List ℕ) (xs : I → ChildConnection) (as
       let same : k ≡ kind_of m.body = sym s.is.0 ∙ sym (ap (λ (z : Message). kind_of z.body) one) in
       record {
         view = i;
-        asked = waits ∙ ap (λ (z : Kind). Some (sent c z)) same;
+        waits = waits ∙ ap (λ (z : Kind). Some (sent c z)) same;
         connection = sym s.is.1 ∙ sym (ap (λ (z : Message). connection_of z.body) one);
         attempt = subst (λ (z : Kind). IsAttempt z c (xs i)) same (link_asked parent child d (xs i) (side_of parent child (pair.place i) d) c k (pair.mates i).linked waits).1;
       }
@@ -235,6 +235,7 @@ module _ (I : Type 0) (parent child : List ℕ) (xs : I → ChildConnection) (as
     -- the record of a request that is taken
     taken_tried : (m : Message) (side : Side) (now : ℕ) (r : Record) → (is_reservation (kind_of m.body) ≡ true → IsOwnOf m) → (is_busy r.rsm ≡ true → IsTriedBy I xs r) →
         ((id : ℕ) → m.body ≡ Body.ReserveCommit id → is_busy r.rsm ≡ true → (t : IsTriedBy I xs r) → (xs t.view).connection ≡ Some r.id) → is_busy (taken_by side now m r).rec.rsm ≡ true → IsTriedBy I xs (taken_by side now m r).rec
+    unfolding is_reservation
     taken_tried m side now r own had commit busy = by (taken_busy m.body side c now r busy)
       where
         c : ℕ
@@ -276,12 +277,13 @@ module _ (I : Type 0) (parent child : List ℕ) (xs : I → ChildConnection) (as
       own_of m new from to kind = own_request once m (were m new.got new.request from) new.request from to kind new.untaken
 
       pub served_tried : Serves child input d records seen out → AllTried I parent xs records
-      served_tried (Serves.acts same courses) n owned busy =
+      unfolding is_reservation
+      served_tried (Serves.acts same courses) = λ n owned busy.
           let r : Record = record_at n d.records in
           course_tried r (record_at n records) (courses.said n) (courses.each n) (tried n (sym (course_after r (record_at n records) (courses.said n) (courses.each n)).later.owner ∙ owned)) busy
       served_tried (Serves.leaves m new kind same silent) = subst (AllTried I parent xs) (sym same) tried
-      served_tried (Serves.refuses m error new refused same one) = subst (AllTried I parent xs) (sym same) tried
-      served_tried (Serves.takes m n side now new about turn) k owned busy = by (cases_eq k n)
+      served_tried (Serves.refuses m error new refused same only) = subst (AllTried I parent xs) (sym same) tried
+      served_tried (Serves.takes m n side now new about turn) = λ k owned busy. by k owned busy (cases_eq k n)
         where
           r : Record
           r = record_at n d.records
@@ -308,14 +310,14 @@ module _ (I : Type 0) (parent child : List ℕ) (xs : I → ChildConnection) (as
                   let one : o.view ≡ t.view = pair.apart o.view t.view n (known_place o.view n about.within knows) (its_place n r_owned b t) in
                   ap (λ (i : I). (xs i).connection) (sym one) ∙ knows
 
-          by : (k ≡ n) ⊎ (k ≡ n → ⊥) → IsTriedBy I xs (record_at k records)
-          by (inl e) =
+          by : (k : ℕ) → (record_at k records).owner ≡ parent → is_busy (record_at k records).rsm ≡ true → (k ≡ n) ⊎ (k ≡ n → ⊥) → IsTriedBy I xs (record_at k records)
+          by k owned busy (inl e) =
               let here : record_at k records ≡ turn.after = ap (λ (z : ℕ). record_at z records) e ∙ at_place in
               subst (IsTriedBy I xs) (sym here) (its (sym (ap (λ (z : Record). z.owner) here) ∙ owned) (sym (ap (λ (z : Record). is_busy z.rsm) here) ∙ busy))
-          by (inr a) =
+          by k owned busy (inr a) =
               let there : record_at k records ≡ record_at k d.records = ap (record_at k) turn.records ∙ get_or-set_other d.records n k turn.after no_record a in
               subst (IsTriedBy I xs) (sym there) (tried k (sym (ap (λ (z : Record). z.owner) there) ∙ owned) (sym (ap (λ (z : Record). is_busy z.rsm) there) ∙ busy))
-      served_tried (Serves.opens m id service source dest side now new first turn) k owned busy = by (cases_eq k (length d.records))
+      served_tried (Serves.opens m id service source dest side now new first turn) = λ k owned busy. by k owned busy (cases_eq k (length d.records))
         where
           f : Record
           f = fresh id m.header.requester service source dest
@@ -350,10 +352,10 @@ module _ (I : Type 0) (parent child : List ℕ) (xs : I → ChildConnection) (as
               own : is_reservation (kind_of m.body) ≡ true → IsOwnOf m
               own kind = own_of m new (sym (ap (λ (z : Record). z.owner) is_fresh) ∙ r_owned) first.provider kind
 
-          by : (k ≡ n) ⊎ (k ≡ n → ⊥) → IsTriedBy I xs (record_at k records)
-          by (inl e) =
+          by : (k : ℕ) → (record_at k records).owner ≡ parent → is_busy (record_at k records).rsm ≡ true → (k ≡ n) ⊎ (k ≡ n → ⊥) → IsTriedBy I xs (record_at k records)
+          by k owned busy (inl e) =
               let here : record_at k records ≡ turn.after = ap (λ (z : ℕ). record_at z records) e ∙ at_place in
               subst (IsTriedBy I xs) (sym here) (its (sym (ap (λ (z : Record). z.owner) here) ∙ owned) (sym (ap (λ (z : Record). is_busy z.rsm) here) ∙ busy))
-          by (inr a) =
+          by k owned busy (inr a) =
               let there : record_at k records ≡ record_at k d.records = ap (record_at k) turn.records ∙ (get_or-set_other rows n k turn.after no_record a ∙ last_there d.records f no_record k a) in
               subst (IsTriedBy I xs) (sym there) (tried k (sym (ap (λ (z : Record). z.owner) there) ∙ owned) (sym (ap (λ (z : Record). is_busy z.rsm) there) ∙ busy))

@@ -37,10 +37,10 @@ use Rattle.circuit_fit.proofs.Turning.{spoken_asked}
 ---- One connection
 
 -- a connection's record, its views and what it asked of their children are those of a turn
-pub record IsTurn (t : Turn) (own : Record) (xs : List ChildConnection) (asked : List Message) : Type 0 where
-  pub own : own ≡ t.own
+pub record IsTurn (t : Turn) (r : Record) (xs : List ChildConnection) (ms : List Message) : Type 0 where
+  pub own : r ≡ t.own
   pub views : xs ≡ t.children
-  pub asked : asked ≡ t.asked
+  pub asked : ms ≡ t.asked
 
 turn_itself : (t : Turn) → IsTurn t t.own t.children t.asked
 turn_itself t = record { own = refl; views = refl; asked = refl }
@@ -48,11 +48,11 @@ turn_itself t = record { own = refl; views = refl; asked = refl }
 -- Its reservation and its views rest; or its views hear a message; or it takes a request, and a reserve looks for children where there are none; or a
 -- first reserve opens it.
 pub data Turned (agent : Agent) (input : Input) (own : Record) (xs : List ChildConnection) (own' : Record) (ys : List ChildConnection) (asked : List Message) : Type 0 where
-  rests : IsAsBefore own own' → ys ≡ xs → asked ≡ [] → Turned agent input own xs own' ys asked
-  hears : (m : Message) (now next : ℕ) → input ≡ Input.Got m → IsTurn (answer_turn agent now m own xs next) own' ys asked → Turned agent input own xs own' ys asked
-  takes : (m : Message) (now next : ℕ) (legs : List Leg) → input ≡ Input.Got m → record_refusal m.body own ≡ None →
+  by_rest : IsAsBefore own own' → ys ≡ xs → asked ≡ [] → Turned agent input own xs own' ys asked
+  by_answer : (m : Message) (now next : ℕ) → input ≡ Input.Got m → IsTurn (answer_turn agent now m own xs next) own' ys asked → Turned agent input own xs own' ys asked
+  by_request : (m : Message) (now next : ℕ) (legs : List Leg) → input ≡ Input.Got m → record_refusal m.body own ≡ None →
       IsTurn (request_turn agent now m own (with_path m.body xs legs) next) own' ys asked → Turned agent input own xs own' ys asked
-  opens : (m : Message) (q : ReserveRequest) (now next id source dest : ℕ) (legs : List Leg) → input ≡ Input.Got m → m.body ≡ Body.Reserve q → own ≡ no_record → xs ≡ [] →
+  by_opening : (m : Message) (q : ReserveRequest) (now next id source dest : ℕ) (legs : List Leg) → input ≡ Input.Got m → m.body ≡ Body.Reserve q → own ≡ no_record → xs ≡ [] →
       IsTurn (request_turn agent now m (fresh id m.header.requester (service_of q (name_or q.source) (name_or q.dest)) source dest) (with_path m.body [] legs) next) own' ys asked → Turned agent input own xs own' ys asked
 
 ---- All connections
@@ -70,7 +70,7 @@ beyond (x ∷ xs) d (suc n) f = beyond xs d n (λ l. f (omega (arith, l)))
 
 module _ (agent : Agent) (input : Input) where
   rest_turned : (rs rs' : List Record) (css css' : List (List ChildConnection)) (out : List Message) → ((n : ℕ) → IsAsBefore (record_at n rs) (record_at n rs')) → css' ≡ css → AreTurned agent input rs css rs' css' out
-  rest_turned rs rs' css css' out a e = record { more = λ n. []; each = λ n. Turned.rests (a n) (ap (children_at n) e) refl; said = λ n m i. absurd (nothing_in m i) }
+  rest_turned rs rs' css css' out a e = record { more = λ n. []; each = λ n. Turned.by_rest (a n) (ap (children_at n) e) refl; said = λ n m i. absurd (nothing_in m i) }
 
   beside_turned : (rs rs' : List Record) (css css' : List (List ChildConnection)) (out more : List Message) → AreTurned agent input rs css rs' css' out → AreTurned agent input rs css rs' css' (out ++ more)
   beside_turned rs rs' css css' out more t = record { more = t.more; each = t.each; said = λ n m i. Contains-append_left out more m (t.said n m i) }
@@ -106,7 +106,7 @@ module _ (agent : Agent) (input : Input) where
       each k (inl e) = subst (λ j. Turned agent input (record_at j rs) (children_at j css) (record_at j rs') (children_at j css') mine) (sym e) turn
       each k (inr e) =
           let w = others k e in
-          Turned.rests (subst (IsAsBefore (record_at k rs)) (sym w.0) (as_itself (record_at k rs))) w.1 refl
+          Turned.by_rest (subst (IsAsBefore (record_at k rs)) (sym w.0) (as_itself (record_at k rs))) w.1 refl
 
       says : (k : ℕ) (w : (k ≡ n) ⊎ (k ≡ n → ⊥)) (m : Message) → Contains (more k w) m → Contains front m
       says k (inl e) m i = said m i
@@ -121,7 +121,7 @@ heard_turned agent now m number next [] css = rest_turned agent (Input.Got m) []
 heard_turned agent now m number next (r ∷ rs) [] = rest_turned agent (Input.Got m) (r ∷ rs) (r ∷ rs) [] [] [] (λ n. as_itself (record_at n (r ∷ rs))) refl
 heard_turned agent now m number next (r ∷ rs) (xs ∷ css) =
     let t : Turn = answer_turn agent now m r xs next in
-    more_turned agent (Input.Got m) r t.own xs t.children t.asked (spoken agent t) rs _ css _ _ (Turned.hears m now next refl (turn_itself t)) (spoken_asked agent t) (heard_turned agent now m (number + 1) t.next rs css)
+    more_turned agent (Input.Got m) r t.own xs t.children t.asked (spoken agent t) rs _ css _ _ (Turned.by_answer m now next refl (turn_itself t)) (spoken_asked agent t) (heard_turned agent now m (number + 1) t.next rs css)
 
 ---- Time
 
@@ -173,7 +173,7 @@ module _ (setting : Setting) (s : AgentState) (m : Message) (even : length s.chi
   at_turned n l fine =
       placed_turned setting.agent (Input.Got m) s.base.records _ s.children _ n t.asked (spoken setting.agent t)
       (λ k a. (get_or-set_other s.base.records n k t.own no_record a, get_or-set_other s.children n k t.children [] a))
-      (Turned.takes m s.base.now s.base.next legs refl fine
+      (Turned.by_request m s.base.now s.base.next legs refl fine
       (record { own = get_or-set_same s.base.records n t.own no_record l; views = get_or-set_same s.children n t.children [] (omega (arith, l, even)); asked = refl }))
       (spoken_asked setting.agent t)
     where
@@ -194,7 +194,7 @@ module _ (setting : Setting) (s : AgentState) (m : Message) (even : length s.chi
         get_or-set_other (s.base.records ++ new ∷ []) n k t.own no_record a ∙ last_there s.base.records new no_record k a,
         get_or-set_other (s.children ++ none ∷ []) n k t.children [] a ∙ last_there s.children none [] k (λ w. a (w ∙ even)),
       ))
-      (Turned.opens m q s.base.now w.base.next (id_of setting.agent.number s.base.next) points.0 points.1 legs refl e (beyond s.base.records no_record n (λ l. omega (arith, l))) (beyond s.children [] n (λ l. omega (arith, l, even)))
+      (Turned.by_opening m q s.base.now w.base.next (id_of setting.agent.number s.base.next) points.0 points.1 legs refl e (beyond s.base.records no_record n (λ l. omega (arith, l))) (beyond s.children [] n (λ l. omega (arith, l, even)))
       (record {
         own = get_or-set_same (s.base.records ++ new ∷ []) n t.own no_record (omega (arith, length-append s.base.records (new ∷ []))) ∙ ap (λ (z : Turn). z.own) same;
         views = get_or-set_same (s.children ++ none ∷ []) n t.children [] (omega (arith, length-append s.children (none ∷ []), even)) ∙ ap (λ (z : Turn). z.children) same;

@@ -64,31 +64,31 @@ same_view x y e = cc
 
 -- a view y is what a view x of the connection has become
 pub data ViewTurned (agent : Agent) (input : Input) (own own' : Record) (more : List Message) (x y : ChildConnection) : Type 0 where
-  rests : IsAsBefore own own' → y ≡ x → ViewTurned agent input own own' more x y
-  hears : (m : Message) (now next c : ℕ) (xs : List ChildConnection) → input ≡ Input.Got m → own' ≡ (answer_turn agent now m own xs next).own →
+  by_rest : IsAsBefore own own' → y ≡ x → ViewTurned agent input own own' more x y
+  by_answer : (m : Message) (now next c : ℕ) (xs : List ChildConnection) → input ≡ Input.Got m → own' ≡ (answer_turn agent now m own xs next).own →
       y ≡ asked_view (late_terminate (is_terminating own.lsm) m x) Kind.Terminate c (hear m x).view → ViewTurned agent input own own' more x y
-  takes : (m : Message) (now next c : ℕ) (zs : List ChildConnection) → input ≡ Input.Got m → record_refusal m.body own ≡ None → own' ≡ (request_turn agent now m own zs next).own →
+  by_request : (m : Message) (now next c : ℕ) (zs : List ChildConnection) → input ≡ Input.Got m → record_refusal m.body own ≡ None → own' ≡ (request_turn agent now m own zs next).own →
       y ≡ asked_view (passed_on m.body (takes m now own).rec x) (kind_of m.body) c x →
       ((z : Message) → Contains (option_to_list (request_of (passed_on m.body (takes m now own).rec x) agent.name c x)) z → Contains more z) → ViewTurned agent input own own' more x y
 
 -- a view that is there has become the one at its place
 pub view_turned : (agent : Agent) (input : Input) (own own' : Record) (xs ys : List ChildConnection) (more : List Message) → Turned agent input own xs own' ys more → (i : ℕ) (x : ChildConnection) → slice_get xs i ≡ Some x →
     (y : ChildConnection) × (slice_get ys i ≡ Some y) × ViewTurned agent input own own' more x y
-view_turned agent input own own' xs ys more (Turned.rests a same none) i x e = (x, ap (λ (zs : List ChildConnection). slice_get zs i) same ∙ e, ViewTurned.rests a refl)
-view_turned agent input own own' xs ys more (Turned.hears m now next got turn) i x e =
+view_turned agent input own own' xs ys more (Turned.by_rest a same none) i x e = (x, ap (λ (zs : List ChildConnection). slice_get zs i) same ∙ e, ViewTurned.by_rest a refl)
+view_turned agent input own own' xs ys more (Turned.by_answer m now next got turn) i x e =
     let w = answer_views agent now m own xs next in
     let (n, there, said) = each_at (λ n x. hear_one (is_terminating own.lsm) m agent n x) next xs i x e in
-    ((hear_one (is_terminating own.lsm) m agent n x).child, ap (λ (zs : List ChildConnection). slice_get zs i) (turn.views ∙ w.0) ∙ there, ViewTurned.hears m now next (id_of agent.number n) xs got turn.own refl)
-view_turned agent input own own' xs ys more (Turned.takes m now next legs got fine turn) i x e =
+    ((hear_one (is_terminating own.lsm) m agent n x).child, ap (λ (zs : List ChildConnection). slice_get zs i) (turn.views ∙ w.0) ∙ there, ViewTurned.by_answer m now next (id_of agent.number n) xs got turn.own refl)
+view_turned agent input own own' xs ys more (Turned.by_request m now next legs got fine turn) i x e =
     let zs : List ChildConnection = with_path m.body xs legs in
     let r : Record = (takes m now own).rec in
     let w = request_views agent now m own zs next in
     let (n, there, said) = each_at (λ n x. pass_one m agent r n x) next zs i x (path_at m.body xs legs i x e) in (
       (pass_one m agent r n x).child,
       ap (λ (us : List ChildConnection). slice_get us i) (turn.views ∙ w.0) ∙ there,
-      ViewTurned.takes m now next (id_of agent.number n) zs got fine turn.own refl (λ z j. subst (λ (us : List Message). Contains us z) (sym (turn.asked ∙ w.1)) (said z j)),
+      ViewTurned.by_request m now next (id_of agent.number n) zs got fine turn.own refl (λ z j. subst (λ (us : List Message). Contains us z) (sym (turn.asked ∙ w.1)) (said z j)),
     )
-view_turned agent input own own' xs ys more (Turned.opens m q now next id source dest legs got body same none turn) i x e =
+view_turned agent input own own' xs ys more (Turned.by_opening m q now next id source dest legs got body same none turn) i x e =
     absurd (let z : None ≡ Some x = sym (ap (λ (zs : List ChildConnection). slice_get zs i) none) ∙ e in cc)
 
 path_known : (agent : Agent) (now : ℕ) (m : Message) (own : Record) (xs : List ChildConnection) (legs : List Leg) (next i : ℕ) (y : ChildConnection) → slice_get (request_turn agent now m own (with_path m.body xs legs) next).children i ≡ Some y →
@@ -125,15 +125,15 @@ view_was agent input own own' xs ys more turned i y e = by turned
         (x, here, subst (λ (v : ChildConnection). ViewTurned agent input own own' more x v) (same_view z y (sym there ∙ e)) t)
 
     by : Turned agent input own xs own' ys more → ((x : ChildConnection) × (slice_get xs i ≡ Some x) × ViewTurned agent input own own' more x y) ⊎ (y.connection ≡ None)
-    by (Turned.rests a same none) = inl (found (y, ap (λ (zs : List ChildConnection). slice_get zs i) (sym same) ∙ e))
-    by (Turned.hears m now next got turn) =
+    by (Turned.by_rest a same none) = inl (found (y, ap (λ (zs : List ChildConnection). slice_get zs i) (sym same) ∙ e))
+    by (Turned.by_answer m now next got turn) =
         inl (found (each_of (λ n x. hear_one (is_terminating own.lsm) m agent n x) next xs i y
         (ap (λ (zs : List ChildConnection). slice_get zs i) (sym (turn.views ∙ (answer_views agent now m own xs next).0)) ∙ e)))
-    by (Turned.takes m now next legs got fine turn) = elim (path_known agent now m own xs legs next i y (ap (λ (zs : List ChildConnection). slice_get zs i) (sym turn.views) ∙ e)) [
+    by (Turned.by_request m now next legs got fine turn) = elim (path_known agent now m own xs legs next i y (ap (λ (zs : List ChildConnection). slice_get zs i) (sym turn.views) ∙ e)) [
       | inl w ↦ inl (found w)
       | inr n ↦ inr n
     ]
-    by (Turned.opens m q now next id source dest legs got body same none turn) = elim (path_known agent now m _ [] legs next i y (ap (λ (zs : List ChildConnection). slice_get zs i) (sym turn.views) ∙ e)) [
+    by (Turned.by_opening m q now next id source dest legs got body same none turn) = elim (path_known agent now m _ [] legs next i y (ap (λ (zs : List ChildConnection). slice_get zs i) (sym turn.views) ∙ e)) [
       | inl w ↦ absurd (let z : None ≡ Some w.0 = w.1 in cc)
       | inr n ↦ inr n
     ]
