@@ -228,10 +228,16 @@ AreBetween source dest rs = (map source_of rs ≡ source ∷ []) × (map dest_of
 abbrev AreEnds : ChildConnection → List ℕ → List ℕ → Type 0
 AreEnds x source dest = (x.source ≡ source) × (x.dest ≡ dest)
 
+abbrev no_leg : Leg
+no_leg = record { child = []; source = []; dest = [] }
+
 ends_of : (xs : List ChildConnection) (d : ChildConnection) → map leg_in xs ≡ legs → AreEnds (get_or xs 0 d) (codes "w:lab") (codes "w:east") × AreEnds (get_or xs 1 d) (codes "e:west") (codes "e:store")
 ends_of [] d e = absurd (cc)
 ends_of (x ∷ []) d e = absurd (cc)
-ends_of (x ∷ (y ∷ xs)) d e = ((cc, cc), (cc, cc))
+ends_of (x ∷ (y ∷ xs)) d e = (
+  (ap (λ (ls : List Leg). (get_or ls 0 no_leg).source) e, ap (λ (ls : List Leg). (get_or ls 0 no_leg).dest) e),
+  (ap (λ (ls : List Leg). (get_or ls 1 no_leg).source) e, ap (λ (ls : List Leg). (get_or ls 1 no_leg).dest) e),
+)
 
 all_same : (f : Record → List ℕ) (rs : List Record) (p : List ℕ) → map f rs ≡ p ∷ [] → (n : ℕ) → n < length rs → f (record_at n rs) ≡ p
 all_same f [] p e n l = absurd (cc)
