@@ -98,7 +98,7 @@ taught_more : (es fs : List Entry) (child : List ℕ) (c id : ℕ) → IsTaught 
 taught_more es fs child c id t = record { entry = t.entry; there = Contains-append_left es fs t.entry t.there; message = t.message; got = t.got; from = t.from; under = t.under; teaches = t.teaches }
 
 module _ (out more : List Message) (said : (m : Message) → Contains out m → Contains more m) where
-  reserved_more : (child : List ℕ) (c : ℕ) (P : ReserveRequest → Type 0) → IsReserved out child c P → IsReserved more child c P
+  pub reserved_more : (child : List ℕ) (c : ℕ) (P : ReserveRequest → Type 0) → IsReserved out child c P → IsReserved more child c P
   reserved_more child c P r = record { message = r.message; there = said r.message r.there; to = r.to; under = r.under; reserve = r.reserve; body = r.body; is = r.is }
 
   learnt_more : (es fs : List Entry) (child source dest : List ℕ) (id : ℕ) → IsLearnt es out child source dest id → IsLearnt (es ++ fs) more child source dest id

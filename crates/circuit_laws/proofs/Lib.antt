@@ -29,6 +29,7 @@ pub mod Viewed
 pub mod Tried
 pub mod Trying
 pub mod Holding
+pub mod Meant
 pub mod Standing
 mod Whole
 pub mod Nothing
