@@ -30,6 +30,8 @@ pub mod Tried
 pub mod Trying
 pub mod Holding
 pub mod Meant
+pub mod Settled
+pub mod Joining
 pub mod Standing
 mod Whole
 pub mod Nothing
