@@ -1,7 +1,8 @@
 """Topologies, least paths, scripts, nodes and rounds, written from the rules alone; `run` plays an input and writes its trace.
 
 A link's queue and what is under way on it are lists of parcels, ("message", MESSAGE) or ("ack", IDENTITY). Nothing is kept
-on a disk: an agent's journal is the number of its entries.
+on a disk: an agent's journal is the list of its entries. Lines `restart` are played where that is asked for; else they have
+the fault Unbuilt, as in the program.
 """
 import re
 
@@ -203,8 +204,9 @@ def read_topology(lines):
 class Script:
     """Groups (second, acts), and what becomes of parcels: (from, to, kind, n) is lost or comes twice."""
 
-    def __init__(self, topology):
+    def __init__(self, topology, restarts=False):
         self.topology = topology
+        self.restarts = restarts
         self.plan = {}
         self.groups = []
         self.asks = 0
@@ -241,7 +243,9 @@ class Script:
 
     def restart(self, agent):
         name(agent)
-        raise Fault("Unbuilt")
+        if not self.restarts:
+            raise Fault("Unbuilt")
+        self.act(agent, ("provider", "aggregator", "requester"), ("restart",))
 
     def at(self, second):
         second = number(second, 0, LAST_SECOND)
@@ -290,8 +294,8 @@ class Script:
         return what, label, source, dest, *schedule, *version
 
 
-def read_script(lines, first_line, topology):
-    script = Script(topology)
+def read_script(lines, first_line, topology, restarts=False):
+    script = Script(topology, restarts)
     for place, line in enumerate(lines, first_line):
         try:
             if not is_skipped(line):
@@ -315,9 +319,10 @@ class Node:
     """An agent with its links: what waits to be sent, and what was sent to it before the round."""
 
     def __init__(self, topology, agent, plan):
-        self.agent = agent_of(topology, agent)
+        self.begin = lambda: agent_of(topology, agent)
+        self.agent = self.begin()
         self.plan = plan
-        self.entries = 0
+        self.entries = []
         self.synced = 0
         self.unsynced_messages = []
         self.others = topology.neighbours(agent)
@@ -330,23 +335,38 @@ class Node:
     def enter(self, entry, *words):
         """Takes an entry, and writes its event with the answer in front of the words, where there is one."""
         answer, caused = self.agent.next(entry)
-        self.entries += 1
+        self.entries.append(entry)
         self.unsynced_messages += caused
         words = (entry[0], self.agent.name, *([answer] if answer else []), *words)
         self.events.append(" ".join(map(str, words)))
 
     def tick(self, second):
-        """A node is quiet before a group, so that nothing is queued."""
+        """A node is quiet before a group, so that nothing is queued before its tick."""
         for message in self.agent.waiting.values():
             self.queues[receiver(message)].append(("message", message))
         self.enter(("tick", second), second)
 
     def act(self, act):
-        self.enter(act, *(act[1] if act[0] == "ask" else act[1:]))
+        if act[0] == "restart":
+            self.restart()
+        else:
+            self.enter(act, *(act[1] if act[0] == "ask" else act[1:]))
+
+    def restart(self):
+        """Goes on from the synced entries: what was queued is gone, what waits for its acknowledgement is queued, what came lies there."""
+        self.entries = self.entries[: self.synced]
+        self.agent = self.begin()
+        for entry in self.entries:
+            self.agent.next(entry)
+        self.unsynced_messages = []
+        self.queues = {other: [] for other in self.others}
+        for message in self.agent.waiting.values():
+            self.queues[receiver(message)].append(("message", message))
+        self.events.append(f"restart {self.agent.name} {self.synced}")
 
     def is_quiet(self):
         under_way = [*self.queues.values(), *self.incoming.values()]
-        return self.entries == self.synced and self.agent.waiting_work() is None and not any(under_way)
+        return len(self.entries) == self.synced and self.agent.waiting_work() is None and not any(under_way)
 
     def turn(self):
         for other in self.others:
@@ -355,8 +375,8 @@ class Node:
             self.incoming[other] = []
         while work := self.agent.waiting_work():
             self.enter(("work", *work), work[0], work[1].lower())
-        if self.synced < self.entries:
-            self.synced = self.entries
+        if self.synced < len(self.entries):
+            self.synced = len(self.entries)
             self.events.append(f"sync {self.agent.name} {self.synced}")
             for message in self.unsynced_messages:
                 self.queues[receiver(message)].append(("message", message))
@@ -433,8 +453,8 @@ def play(nodes, groups, limit):
     return written, False
 
 
-def run(text, limit=MOST_EVENTS):
-    """The status and the lines that are written."""
+def run(text, limit=MOST_EVENTS, restarts=False):
+    """The status and the lines that are written, where lines `restart` are played or refused."""
     if len(text) > LONGEST_INPUT:
         return STATUS["Long"], ["fault long"]
     lines = lines_of(text)
@@ -443,7 +463,7 @@ def run(text, limit=MOST_EVENTS):
     except Fault as fault:
         return STATUS["BadTopology"], ["fault topology {} {}".format(*fault.args)]
     try:
-        script = read_script(lines[length:], length + 1, topology)
+        script = read_script(lines[length:], length + 1, topology, restarts)
     except Fault as fault:
         return STATUS["BadScript"], ["fault script {} {}".format(*fault.args)]
     written, is_long = play(nodes_of(topology, script), script.groups, limit)

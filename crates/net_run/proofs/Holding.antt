@@ -29,7 +29,8 @@ use Rattle.agent_threads.specs.declared.fault.RunFault.{RunFault}
 use Rattle.agent_threads.specs.Nets.{seats, numbers, EachIs, AreUsable, IsAbsent, AreApart}
 use Rattle.agent_threads.specs.Journals.{entry_at, entries_at, entry_in, AllGoOn, AllSynced, Takes, HaveTaken, KeepPlay}
 use Rattle.net_run.specs.Begun.{AreOpened, AreListed}
-use Rattle.net_run.specs.Journals.{no_entries, AreEmpty, AllTell, IsUnnamed, AreNamedApart, AreToReturn, AreRead, AreTold, HoldsOf, HoldsJournals}
+use Rattle.net_run.specs.Journals.{no_entries, AreEmpty, AllTell, IsUnnamed, AreNamedApart, AreToReturn, AreRead}
+use Rattle.net_run.specs.Held.{AreTold, HoldsOf, HoldsJournals}
 
 ---- The world
 

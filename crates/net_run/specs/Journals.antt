@@ -1,17 +1,11 @@
--- What a shelf holds of the journals of a net's agents.
-use Rattle.std.specs.Prelude.{ℕ, ◌≡◌, ◌<◌, true, false, List, [], ◌∷◌, length, Option, Some, Ok, IfSome, is_some, bytes_eq}
-use Rattle.nsi_primitive.specs.declared.entry.Event.{Event}
+-- Agents of a net and what a shelf holds of their journals.
+use Rattle.std.specs.Prelude.{ℕ, ◌≡◌, true, false, List, [], ◌∷◌, Option, Some, Ok, IfSome, is_some, bytes_eq}
 use Rattle.journal_entry.specs.Journal.{Kept as Journaled}
 use Rattle.journal_entry.specs.Journals.{recovers}
 use Rattle.journal_entry.specs.Payloads.{batch_of}
 use Rattle.stp_topology.specs.declared.network.Network.{Network}
 use Rattle.stp_topology.specs.Network.{name_of}
-use Rattle.nsi_script.specs.declared.script.Group.{Group}
 use Rattle.agent_node.specs.Kept.{Kept}
-use Rattle.nsi_play.specs.Openings.{Plans}
-use Rattle.nsi_play.specs.Play.{IsPlay}
-use Rattle.nsi_world.specs.Worlds.{empty}
-use Rattle.nsi_world.specs.Runs.{world_after}
 use Rattle.agent_threads.specs.Nets.{AreUsable}
 
 ---- Agents and their disks
@@ -54,18 +48,3 @@ IsRead t holds k = IfSome k.kept (λ j. (file : List ℕ) × (holds (name_of t k
 abbrev pub AreRead : Network → (List ℕ → Option (List ℕ)) → List Kept → Type 0
 AreRead t holds [] = Unit {0}
 AreRead t holds (k ∷ ks) = IsRead t holds k × AreRead t holds ks
-
----- Runs
-
--- the shelf tells what it holds under the name of each agent
-abbrev pub AreTold : Network → (List ℕ → Option (List ℕ)) → Type 0
-AreTold t holds = (a : ℕ) → a < length t.agents → is_some (holds (name_of t a)) ≡ true
-
--- what is held under the name of each agent reads as its journal in the world that these events make
-abbrev pub HoldsOf : Network → (List ℕ → Option (List ℕ)) → List Event → Type 0
-HoldsOf t holds events =
-    (a : ℕ) → a < length t.agents → (file : List ℕ) × (holds (name_of t a) ≡ Some file) × (recovers batch_of file ≡ Ok ((world_after empty events).journal a))
-
--- Where the shelf told what it held, it holds each agent's journal of the play of the script.
-abbrev pub HoldsJournals : Network → Plans → List Group → (old new : List ℕ → Option (List ℕ)) → Type 0
-HoldsJournals t plans script old new = (events : List Event) → IsPlay t plans script events → AreTold t old → HoldsOf t new events

@@ -3,3 +3,4 @@ pub mod Begun
 pub mod Shelves
 pub mod Worlds
 pub mod Journals
+pub mod Held

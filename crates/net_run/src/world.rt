@@ -4,7 +4,7 @@ ghost use Rattle.std.specs.Prelude.{◌≡◌, ◌≤◌, ◌<◌, ℕ, length, 
 ghost use Rattle.nsi_script.specs.Fits.{Fits};
 ghost use Rattle.nsi_play.specs.Openings.{plans_of};
 ghost use Rattle.net_run.specs.Worlds.{WritesPlay, WritesTooLong, WritesGroups, WritesSomeOfPlay};
-ghost use Rattle.net_run.specs.Journals.{HoldsJournals};
+ghost use Rattle.net_run.specs.Held.{HoldsJournals};
 ghost use Rattle.net_run.specs.Shelves.{HasBroken, IsQuiet};
 
 use crate::closing::close_net;

@@ -25,7 +25,7 @@ use Rattle.run_totals.specs.declared.totals.Totals.{Totals}
 use Rattle.agent_threads.specs.Reports.{written}
 use Rattle.run_totals.specs.declared.report.Report.{Report}
 use Rattle.agent_threads.specs.declared.report.RunOptions.{RunOptions}
-use Rattle.net_run.specs.Journals.{HoldsJournals}
+use Rattle.net_run.specs.Held.{HoldsJournals}
 use Rattle.fault_lines.specs.Lines.{as_line, topology_fault, script_fault, disk_fault_line, long_line}
 use Rattle.run_command.specs.declared.command.RunEnd.{RunEnd}
 

@@ -9,7 +9,7 @@ ghost use Rattle.nsi_play.specs.Openings.{plans_of};
 ghost use Rattle.fault_lines.specs.Lines.{topology_fault, script_fault, disk_fault_line, read_fault_line};
 ghost use Rattle.run_command.specs.Ends.{is_told, WritesSome, WritesSomeFront, IsCutShort, IsQuiet, HasDiskFault, IsTold, Closes, IsOfAgent, FailsAs, HasPlayed, HasRead, counted};
 ghost use Rattle.run_command.specs.Reading.{IsDeclared};
-ghost use Rattle.net_run.specs.Journals.{HoldsJournals};
+ghost use Rattle.net_run.specs.Held.{HoldsJournals};
 ghost use Rattle.run_command.specs.Runs.{Runs, Begins, Breaks, KeepsRun, closing_line};
 
 use crate::reading::{Declared, read_declared};
