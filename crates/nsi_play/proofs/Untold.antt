@@ -98,7 +98,7 @@ acted_untold : (act : Act) → RestartsNone act → (count : ℕ) (homes : Homes
 acted_untold act none count homes [] = refl
 acted_untold act none count homes (s ∷ ss) = ap₂ ◌∷◌ (does_untold act none count homes s) (acted_untold act none count homes ss)
 
-acts_untold : (as : List Act) → All RestartsNone as → (count : ℕ) (homes : Homes) (net : Net) → acts as count homes (untold_net net) ≡ untold_play (acts as count homes net)
+acts_untold : (todo : List Act) → All RestartsNone todo → (count : ℕ) (homes : Homes) (net : Net) → acts todo count homes (untold_net net) ≡ untold_play (acts todo count homes net)
 unfolding acts
 acts_untold [] none count homes net = refl
 acts_untold (a ∷ rest) none count homes net =
