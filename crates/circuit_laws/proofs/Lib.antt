@@ -32,6 +32,7 @@ pub mod Holding
 pub mod Meant
 pub mod Settled
 pub mod Joining
+pub mod Agreed
 pub mod Standing
 mod Whole
 pub mod Nothing

@@ -164,7 +164,7 @@ module _ (out : List Message) (parent : List ℕ) (r : Record) (c : ℕ) (x : Ch
 
 ---- A request
 
-is_reserve : (b : Body) → ((q : ReserveRequest) × (b ≡ Body.Reserve q)) ⊎ ((q : ReserveRequest) → b ≡ Body.Reserve q → ⊥)
+pub is_reserve : (b : Body) → ((q : ReserveRequest) × (b ≡ Body.Reserve q)) ⊎ ((q : ReserveRequest) → b ≡ Body.Reserve q → ⊥)
 is_reserve (Body.Reserve q) = inl (q, refl)
 is_reserve _ = inr (λ q e. cc)
 
@@ -203,7 +203,7 @@ taken_work m now own never k busy e = (by_busy (taken_busy m.body Side.Aggregato
     by_pending (inr w) = absurd (never w.0 w.1)
 
 -- a view whose child has nothing unanswered
-abbrev IsFree : ChildConnection → Type 0
+abbrev pub IsFree : ChildConnection → Type 0
 IsFree x = x.reserve_request ≡ None
 
 module _ (agent : Agent) (m : Message) (now next : ℕ) (own : Record) (zs : List ChildConnection) (out : List Message) (said : (n : Message) → Contains (request_turn agent now m own zs next).asked n → Contains out n) where
