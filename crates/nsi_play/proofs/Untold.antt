@@ -1,5 +1,5 @@
 -- What is told of synced entries changes nothing of a play in which nobody is restarted.
-use Rattle.std.proofs.Common.{ℕ, zero, suc, ◌+◌, ◌<◌, ◌≡◌, ◌==◌, Bool, true, false, cond, List, [], ◌∷◌, ◌++◌, None, inl, inr, refl, sym, ap, ap₂, ◌∙◌, subst, length, map}
+use Rattle.std.proofs.Common.{ℕ, zero, suc, ◌+◌, ◌<◌, ◌≡◌, ◌==◌, ◌&&◌, Bool, true, false, cond, List, [], ◌∷◌, ◌++◌, None, inl, inr, refl, sym, ap, ap₂, ◌∙◌, subst, length, map}
 use Rattle.std.specs.List.{All}
 use Rattle.std.proofs.lemmas.Bool.{cases_Bool}
 use Rattle.std.proofs.lemmas.List.Elements.{All-head, All-tail}
@@ -12,8 +12,8 @@ use Rattle.agent_node.specs.Acts.{asked, forced, is_quiet}
 use Rattle.agent_node.specs.Meetings.{met}
 use Rattle.agent_node.specs.Restarts.{untold}
 use Rattle.agent_node.proofs.Pasts.{past_enters, past_turned, past_ticked, past_met, past_of_other}
-use Rattle.nsi_play.specs.Rounds.{Net, Homes, turned_in, turned_all, meets_each, meets_all, met_all, round, events_of, emptied, is_quiet_in, all_quiet}
-use Rattle.nsi_play.specs.Play.{Played, behind, after_round, settles, changes, does, asks_in, asks_among, acted, acts, ticked_in, begins, group, then_on, plays, ended, RestartsNone, RestartNobody, untold_net}
+use Rattle.nsi_play.specs.Rounds.{Net, Homes, turned_all, meets_each, meets_all, met_all, round, events_of, emptied, is_quiet_in, all_quiet}
+use Rattle.nsi_play.specs.Play.{Played, behind, after_round, settles, does, asks_in, asks_among, acted, acts, ticked_in, begins, group, then_on, plays, ended, RestartsNone, RestartNobody, untold_net}
 use Rattle.nsi_play.specs.Laws.{PlayNeedsNoPast, FrontNeedsNoPast}
 use Rattle.nsi_play.proofs.Settling.{settle_quiet, settle_more, settle_stop, group_is, plays_cons, plays_nil}
 
@@ -53,15 +53,12 @@ quiet_one homes s = refl
 
 quiet_untold : (homes : Homes) (net : Net) → all_quiet homes (untold_net net) ≡ all_quiet homes net
 quiet_untold homes [] = refl
-quiet_untold homes (s ∷ ss) = ap₂ both (quiet_one homes s) (quiet_untold homes ss)
-  where
-    both : Bool → Bool → Bool
-    both a b = cond a b false
+quiet_untold homes (s ∷ ss) = ap₂ (λ (a b : Bool). a && b) (quiet_one homes s) (quiet_untold homes ss)
 
 ---- Plays
 
 -- the same play, of whose agents it isn't told which entries are synced
-untold_play : Played → Played
+abbrev untold_play : Played → Played
 untold_play p = record p { net = untold_net p.net }
 
 after_untold : (y : Net) (rest : Net → Played) → ((x : Net) → rest (untold_net x) ≡ untold_play (rest x)) → after_round (untold_net y) rest ≡ untold_play (after_round y rest)

@@ -1,6 +1,6 @@
 //! The command `run`, as the program tells how it ends.
 
-ghost use Rattle.std.specs.Prelude.{◌≡◌, ◌<◌, ◌≤◌, ◌⊎◌, true, false, IfSome};
+ghost use Rattle.std.specs.Prelude.{◌≡◌, ◌<◌, ◌⊎◌, true, IfSome};
 ghost use Rattle.run_command.specs.Ends.{IsCutShort as IsRunCutShort, is_told as is_told_end};
 ghost use Rattle.run_command.specs.Runs.{KeepsRun, Breaks as BreaksRun};
 ghost use Rattle.nsi_disk.specs.ShelfCounts.{Raised};

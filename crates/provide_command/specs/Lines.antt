@@ -1,5 +1,5 @@
 -- What a line behind the topology is answered.
-use Rattle.std.specs.Prelude.{ℕ, ◌+◌, List, [], ◌++◌, nat_le, map, if◌then◌else◌, Option, Some, None}
+use Rattle.std.specs.Prelude.{ℕ, ◌+◌, List, [], nat_le, map, if◌then◌else◌, Option, Some, None}
 use Rattle.std.specs.List.{concat}
 use Rattle.nsi_primitive.specs.declared.entry.Entry.{Entry}
 use Rattle.nsi_primitive.specs.declared.message.Message.{Message}

@@ -1,5 +1,5 @@
 -- What the command will have written, as it goes on.
-use Rattle.std.specs.Prelude.{◌≡◌, ◌≤◌, ◌<◌, ◌+◌, ◌⊎◌, ℕ, length, Ok, Err, List, ◌++◌, take, drop, codes, Bool, true, false, Option, Some, option_map, option_and_then, IfSome}
+use Rattle.std.specs.Prelude.{◌≡◌, ◌≤◌, ◌<◌, ◌+◌, ◌⊎◌, ℕ, length, Ok, Err, List, ◌++◌, take, drop, Bool, true, false, Option, Some, option_map, option_and_then, IfSome}
 use Rattle.line_reader.specs.Given.{Given, given_of}
 use Rattle.nsi_base.specs.Lines.{lines_of}
 use Rattle.std.specs.List.{All}

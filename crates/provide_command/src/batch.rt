@@ -1,6 +1,6 @@
 //! An entry with the work that waits then, as a batch of a journal.
 
-ghost use Rattle.std.specs.Prelude.{◌≡◌, ◌<◌, ◌≤◌, ◌+◌, ◌++◌, ◌∷◌, [], All, IfOk, OnOk, length, true};
+ghost use Rattle.std.specs.Prelude.{◌≡◌, ◌<◌, ◌≤◌, ◌+◌, ◌++◌, ◌∷◌, [], All, IfOk, OnOk, true};
 ghost use Rattle.nsi_primitive.specs.Printable.{IsPrintable, IsPrintableInput, IsPrintableEntry};
 ghost use Rattle.nsi_primitive.specs.declared.entry.Input.TheVariants.{Work as WorkInput};
 ghost use Rattle.provider_agent.specs.Setting.{own_stp};

@@ -1,14 +1,13 @@
 //! The topology is declared, line by line.
 
-ghost use Rattle.std.specs.Prelude.{◌≡◌, ◌<◌, ◌≤◌, ◌+◌, ℕ, List, Option, Ok, [], true, IfOk, IfErr, OnOk, OnErr, length};
+ghost use Rattle.std.specs.Prelude.{◌≡◌, ◌<◌, ◌+◌, ℕ, Ok, [], true, IfOk, IfErr, OnOk, OnErr};
 ghost use Rattle.line_reader.specs.Held.{budget, to_come, rest_of};
-ghost use Rattle.stp_topology.specs.Sound.{IsProvider};
 ghost use Rattle.stp_topology.specs.Text.{of_line};
 ghost use Rattle.provide_command.specs.Lines.{long_line};
 ghost use Rattle.provide_command.specs.Outcome.{declared, topology_fault};
 ghost use Rattle.provide_command.specs.Phases.{Reading, in_topology};
-ghost use Rattle.provide_command.specs.Promise.{Writes, WritesFront, promised, promise_of, ended, IsSameEnd};
-ghost use Rattle.provide_command.specs.UpTo.{HaltsWith, HaltsAt, IsBegun};
+ghost use Rattle.provide_command.specs.Promise.{Writes, WritesFront, ended};
+ghost use Rattle.provide_command.specs.UpTo.{HaltsWith, HaltsAt};
 ghost use Rattle.provide_command.specs.Writes.{CountsFaults};
 ghost use Rattle.nsi_base.specs.Range.{greatest_input};
 ghost use Rattle.provide_command.specs.declared.output.Halt.TheVariants.{Outside};
