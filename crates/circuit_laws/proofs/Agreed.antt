@@ -80,10 +80,10 @@ pub record IsAgreed (parent : List ℕ) (own : Record) (x : ChildConnection) (rs
 abbrev KeepsKnown : ChildConnection → ChildConnection → Type 0
 KeepsKnown x y = (id : ℕ) → x.connection ≡ Some id → y.connection ≡ Some id
 
-row_then : (parent : List ℕ) (x y : ChildConnection) (rs : List Record) (n : ℕ) → KeepsKnown x y → IsRowOf parent x rs n → IsRowOf parent y rs n
+pub row_then : (parent : List ℕ) (x y : ChildConnection) (rs : List Record) (n : ℕ) → KeepsKnown x y → IsRowOf parent x rs n → IsRowOf parent y rs n
 row_then parent x y rs n known row = record { within = row.within; owned = row.owned; known = known (record_at n rs).id row.known }
 
-has_then : (parent : List ℕ) (x y : ChildConnection) (rs : List Record) (k : Criteria) → KeepsKnown x y → HasIt parent x rs k → HasIt parent y rs k
+pub has_then : (parent : List ℕ) (x y : ChildConnection) (rs : List Record) (k : Criteria) → KeepsKnown x y → HasIt parent x rs k → HasIt parent y rs k
 has_then parent x y rs k known h = record { place = h.place; row = row_then parent x y rs h.place known h.row; has = h.has }
 
 ---- The own record settles
@@ -92,7 +92,7 @@ in_one : (k : Criteria) (c : Criteria) → Contains (c ∷ []) k → k ≡ c
 in_one k c (zero, l, e) = sym e
 in_one k c (suc n, l, e) = absurd (omega (arith, l))
 
-agreed_then : (parent : List ℕ) (r q : Record) (ys : List ChildConnection) (y : ChildConnection) (rs : List Record) → IsSettled r q ys → Contains ys y → IsAgreed parent r y rs → IsAgreed parent q y rs
+pub agreed_then : (parent : List ℕ) (r q : Record) (ys : List ChildConnection) (y : ChildConnection) (rs : List Record) → IsSettled r q ys → Contains ys y → IsAgreed parent r y rs → IsAgreed parent q y rs
 agreed_then parent r q ys y rs settled there h =
     record {
       has = λ k i. by k i settled.keeps.committed settled.done;
@@ -112,7 +112,7 @@ agreed_then parent r q ys y rs settled there h =
         by_part (inl j) = h.has k j
         by_part (inr j) = h.done k (record { live = live; state = state; pending = subst (λ (z : Criteria). r.pending ≡ Some z) (sym (in_one k c j)) held }) (All-contains IsDone ys y all there)
 
-agreed_rests : (parent : List ℕ) (r q : Record) (y : ChildConnection) (rs : List Record) → IsAsBefore r q → IsAgreed parent r y rs → IsAgreed parent q y rs
+pub agreed_rests : (parent : List ℕ) (r q : Record) (y : ChildConnection) (rs : List Record) → IsAsBefore r q → IsAgreed parent r y rs → IsAgreed parent q y rs
 agreed_rests parent r q y rs a h =
     record {
       has = λ k i. h.has k (subst (λ (ks : List Criteria). Contains ks k) a.committed i);
@@ -134,20 +134,20 @@ module _ (parent child : List ℕ) (d : Child) (fair : IsFair parent child d) (x
       let s = mate.seated.known (record_at n d.records).id row.known in
       s.1 ∙ ap (λ (z : ℕ). Some z) (fair.ids s.0 n (mate.seated.seated s.0 s.1).0 row.within s.2)
 
-  known_row : (id : ℕ) → x.connection ≡ Some id → (n : ℕ) × IsRowOf parent x d.records n
+  pub known_row : (id : ℕ) → x.connection ≡ Some id → (n : ℕ) × IsRowOf parent x d.records n
   known_row id e =
       let s = mate.seated.known id e in
       let w = mate.seated.seated s.0 s.1 in
       (s.0, record { within = w.0; owned = w.1; known = e ∙ ap (λ (z : ℕ). Some z) (sym s.2) })
 
   -- a view that has nothing unanswered knows of all that is committed
-  free_even : (n : ℕ) → IsRowOf parent x d.records n → IsFree x → length x.committed ≡ length (record_at n d.records).committed
+  pub free_even : (n : ℕ) → IsRowOf parent x d.records n → IsFree x → length x.committed ≡ length (record_at n d.records).committed
   unfolding record_of
   free_even n row free =
       let same : x.committed ≡ (standing_of (record_of place d.records)).committed = (calm_of x (side_of parent child place d) mate.linked free).quiet.same in
       ap length (subst (λ (o : Option ℕ). x.committed ≡ (standing_of (record_of o d.records)).committed) (row_place n row) same) ∙ length-map (record_at n d.records).committed version_of
 
-  not_longer : (n : ℕ) → IsRowOf parent x d.records n → length x.committed ≤ length (record_at n d.records).committed
+  pub not_longer : (n : ℕ) → IsRowOf parent x d.records n → length x.committed ≤ length (record_at n d.records).committed
   unfolding record_of
   not_longer n row = by (subst (λ (o : Option ℕ). InStep x.committed (standing_of (record_of o d.records)).committed) (row_place n row) (link_in_step x (side_of parent child place d) mate.linked))
     where
@@ -163,7 +163,7 @@ free_refused false true name x e = absurd (cc)
 free_refused false false name x e = e
 
 -- a child that has nothing unanswered takes no error back
-free_error : (b : Body) (c : ℕ) (x : ChildConnection) → IsFree x → (hears b c x).view.error ≡ None → x.error ≡ None
+pub free_error : (b : Body) (c : ℕ) (x : ChildConnection) → IsFree x → (hears b c x).view.error ≡ None → x.error ≡ None
 unfolding hears
 free_error (Body.ReserveResponse id) c x f e = grind (arith, f, e)
 free_error (Body.ReserveConfirmed r) c x f e = grind (arith, f, e)
@@ -189,7 +189,7 @@ refused_done false false true name x q f g e = cc
 refused_done false false false name x q f g e = cc
 
 -- the answer to a commit without an error is its confirmation
-done_commits : (b : Body) (c d : ℕ) (x : ChildConnection) → x.reserve_request ≡ Some (sent d Kind.ReserveCommit) → (hears b c x).view.reserve_request ≡ None → (hears b c x).view.error ≡ None → (hears b c x).view.committed ≡ push_version x.committed x.pending
+pub done_commits : (b : Body) (c d : ℕ) (x : ChildConnection) → x.reserve_request ≡ Some (sent d Kind.ReserveCommit) → (hears b c x).view.reserve_request ≡ None → (hears b c x).view.error ≡ None → (hears b c x).view.committed ≡ push_version x.committed x.pending
 unfolding hears is_kind
 done_commits (Body.ReserveResponse id) c d x f g e = grind (arith, f, g, e)
 done_commits (Body.ReserveConfirmed r) c d x f g e = grind (arith, f, g, e)

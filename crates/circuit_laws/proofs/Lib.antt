@@ -33,6 +33,7 @@ pub mod Meant
 pub mod Settled
 pub mod Joining
 pub mod Agreed
+pub mod Agreeing
 pub mod Standing
 mod Whole
 pub mod Nothing

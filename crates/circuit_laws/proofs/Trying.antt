@@ -45,7 +45,7 @@ use Rattle.circuit_fit.specs.Fits.{pending_of, IsFitting, Fits, AllFit}
 use Rattle.circuit_laws.proofs.Learnt.{asked_place, asked_connection}
 use Rattle.circuit_laws.proofs.Tried.{is_busy, IsTriedBy, AllTried, its_place}
 use Rattle.circuit_laws.proofs.Turned.{AreTurned}
-use Rattle.circuit_laws.proofs.Viewed.{ViewTurned, view_turned}
+use Rattle.circuit_laws.proofs.Viewed.{view_there, ViewTurned, view_turned}
 
 ---- A view
 
@@ -220,13 +220,10 @@ module _ (parent child : List ℕ) (asked : List Message) (d : Child) (fair : Is
 
 pub turned_child : (agent : Agent) (input : Input) (own own' : Record) (more : List Message) (x y : ChildConnection) → ViewTurned agent input own own' more x y → y.child ≡ x.child
 turned_child agent input own own' more x y (ViewTurned.by_rest a same) = ap (λ (z : ChildConnection). z.child) same
-turned_child agent input own own' more x y (ViewTurned.by_answer m now next c xs got is same) =
+turned_child agent input own own' more x y (ViewTurned.by_answer m now next c xs got is inn same) =
     ap (λ (z : ChildConnection). z.child) same ∙ ((asked_place (late_terminate (is_terminating own.lsm) m x) Kind.Terminate c (hear m x).view).child ∙ (hear_place m x).child)
-turned_child agent input own own' more x y (ViewTurned.by_request m now next c zs got fine is same said) =
+turned_child agent input own own' more x y (ViewTurned.by_request m now next c zs got fine is inn same said) =
     ap (λ (z : ChildConnection). z.child) same ∙ (asked_place (passed_on m.body (takes m now own).rec x) (kind_of m.body) c x).child
-
-pub view_there : (xs : List ChildConnection) (i : ℕ) (x : ChildConnection) → slice_get xs i ≡ Some x → Contains xs x
-view_there xs i x e = (i, slice_get_within xs i x e, get_or_from_slice_get xs i x x e)
 
 module _ (agent : Agent) (input : Input) (parent child : List ℕ) (asked : List Message) (d : Child) (fair : IsFair parent child d) (s s' : AgentState) (out : List Message)
     (turned : AreTurned agent input s.base.records s.children s'.base.records s'.children out) (fit : AllFit parent asked s)
@@ -244,14 +241,14 @@ module _ (agent : Agent) (input : Input) (parent child : List ℕ) (asked : List
   turned_carries : (i : ℕ × ℕ) (n : ℕ) (x y : ChildConnection) → Contains (children_at i.0 s.children) x → x.child ≡ child → IsMate parent child x (Some n) d → is_busy (record_at n d.records).rsm ≡ true →
       ViewTurned agent input (record_at i.0 s.base.records) (record_at i.0 s'.base.records) (turned.more i.0) x y → (y.attempt ≡ x.attempt) × ((id : ℕ) → x.connection ≡ Some id → y.connection ≡ Some id)
   turned_carries i n x y there of mate busy (ViewTurned.by_rest a same) = (ap (λ (z : ChildConnection). z.attempt) same, λ id e. ap (λ (z : ChildConnection). z.connection) same ∙ e)
-  turned_carries i n x y there of mate busy (ViewTurned.by_answer m now next c xs got is same) =
+  turned_carries i n x y there of mate busy (ViewTurned.by_answer m now next c xs got is inn same) =
       let own : Record = record_at i.0 s.base.records in
       let h : ChildConnection = (hear m x).view in
       let w = heard_carries parent child asked d fair x n mate busy m (λ e p. reach m got e p) of in (
         ap (λ (z : ChildConnection). z.attempt) same ∙ (view_attempt (late_terminate (is_terminating own.lsm) m x) Kind.Terminate c h (λ e. cc) ∙ w.0),
         λ id e. ap (λ (z : ChildConnection). z.connection) same ∙ (asked_connection (late_terminate (is_terminating own.lsm) m x) Kind.Terminate c h ∙ w.1 id e),
       )
-  turned_carries i n x y there of mate busy (ViewTurned.by_request m now next c zs got fine is same said) =
+  turned_carries i n x y there of mate busy (ViewTurned.by_request m now next c zs got fine is inn same said) =
       let own : Record = record_at i.0 s.base.records in
       let w = passed_carries parent child asked d fair x n mate busy m.body own (takes m now own).rec c fine (begins_idle i.0 x there) in
       (ap (λ (z : ChildConnection). z.attempt) same ∙ w.0, λ id e. ap (λ (z : ChildConnection). z.connection) same ∙ w.1 id e)

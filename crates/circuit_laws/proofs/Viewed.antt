@@ -1,6 +1,7 @@
 -- How a view of an aggregator stands before and after an entry: as it was, or it has heard a message, or a request was passed on to its child.
 use Rattle.std.proofs.Common.{ℕ, zero, suc, ◌≡◌, ◌∙◌, ◌⊎◌, inl, inr, List, [], ◌∷◌, ◌++◌, length, slice_get, Contains, Option, Some, None, option_to_list, refl, sym, ap, subst, arith}
 use Rattle.std.proofs.lemmas.List.Elements.{Contains-append_left, Contains-append_right}
+use Rattle.std.proofs.lemmas.Option.{get_or_from_slice_get, slice_get_within}
 use Rattle.nsi_primitive.specs.Ids.{id_of}
 use Rattle.nsi_primitive.specs.Messages.{kind_of}
 use Rattle.nsi_primitive.specs.declared.entry.Input.{Input}
@@ -60,15 +61,18 @@ path_of _ xs legs i y e = inl e
 same_view : (x y : ChildConnection) → Some x ≡ Some y → x ≡ y
 same_view x y e = cc
 
+pub view_there : (xs : List ChildConnection) (i : ℕ) (x : ChildConnection) → slice_get xs i ≡ Some x → Contains xs x
+view_there xs i x e = (i, slice_get_within xs i x e, get_or_from_slice_get xs i x x e)
+
 ---- A view
 
 -- a view y is what a view x of the connection has become
 pub data ViewTurned (agent : Agent) (input : Input) (own own' : Record) (more : List Message) (x y : ChildConnection) : Type 0 where
   by_rest : IsAsBefore own own' → y ≡ x → ViewTurned agent input own own' more x y
   by_answer : (m : Message) (now next c : ℕ) (xs : List ChildConnection) → input ≡ Input.Got m → own' ≡ (answer_turn agent now m own xs next).own →
-      y ≡ asked_view (late_terminate (is_terminating own.lsm) m x) Kind.Terminate c (hear m x).view → ViewTurned agent input own own' more x y
+      Contains (answer_turn agent now m own xs next).children y → y ≡ asked_view (late_terminate (is_terminating own.lsm) m x) Kind.Terminate c (hear m x).view → ViewTurned agent input own own' more x y
   by_request : (m : Message) (now next c : ℕ) (zs : List ChildConnection) → input ≡ Input.Got m → record_refusal m.body own ≡ None → own' ≡ (request_turn agent now m own zs next).own →
-      y ≡ asked_view (passed_on m.body (takes m now own).rec x) (kind_of m.body) c x →
+      Contains (request_turn agent now m own zs next).children y → y ≡ asked_view (passed_on m.body (takes m now own).rec x) (kind_of m.body) c x →
       ((z : Message) → Contains (option_to_list (request_of (passed_on m.body (takes m now own).rec x) agent.name c x)) z → Contains more z) → ViewTurned agent input own own' more x y
 
 -- a view that is there has become the one at its place
@@ -78,7 +82,11 @@ view_turned agent input own own' xs ys more (Turned.by_rest a same none) i x e =
 view_turned agent input own own' xs ys more (Turned.by_answer m now next got turn) i x e =
     let w = answer_views agent now m own xs next in
     let (n, there, said) = each_at (λ n x. hear_one (is_terminating own.lsm) m agent n x) next xs i x e in
-    ((hear_one (is_terminating own.lsm) m agent n x).child, ap (λ (zs : List ChildConnection). slice_get zs i) (turn.views ∙ w.0) ∙ there, ViewTurned.by_answer m now next (id_of agent.number n) xs got turn.own refl)
+    let z : ChildConnection = (hear_one (is_terminating own.lsm) m agent n x).child in (
+      z,
+      ap (λ (zs : List ChildConnection). slice_get zs i) (turn.views ∙ w.0) ∙ there,
+      ViewTurned.by_answer m now next (id_of agent.number n) xs got turn.own (view_there (answer_turn agent now m own xs next).children i z (ap (λ (zs : List ChildConnection). slice_get zs i) w.0 ∙ there)) refl,
+    )
 view_turned agent input own own' xs ys more (Turned.by_request m now next legs got fine turn) i x e =
     let zs : List ChildConnection = with_path m.body xs legs in
     let r : Record = (takes m now own).rec in
@@ -86,7 +94,8 @@ view_turned agent input own own' xs ys more (Turned.by_request m now next legs g
     let (n, there, said) = each_at (λ n x. pass_one m agent r n x) next zs i x (path_at m.body xs legs i x e) in (
       (pass_one m agent r n x).child,
       ap (λ (us : List ChildConnection). slice_get us i) (turn.views ∙ w.0) ∙ there,
-      ViewTurned.by_request m now next (id_of agent.number n) zs got fine turn.own refl (λ z j. subst (λ (us : List Message). Contains us z) (sym (turn.asked ∙ w.1)) (said z j)),
+      ViewTurned.by_request m now next (id_of agent.number n) zs got fine turn.own
+      (view_there (request_turn agent now m own zs next).children i (pass_one m agent r n x).child (ap (λ (us : List ChildConnection). slice_get us i) w.0 ∙ there)) refl (λ z j. subst (λ (us : List Message). Contains us z) (sym (turn.asked ∙ w.1)) (said z j)),
     )
 view_turned agent input own own' xs ys more (Turned.by_opening m q now next id source dest legs got body same none turn) i x e =
     absurd (let z : None ≡ Some x = sym (ap (λ (zs : List ChildConnection). slice_get zs i) none) ∙ e in cc)
