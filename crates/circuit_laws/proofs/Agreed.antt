@@ -129,7 +129,7 @@ same_number : (n k : ℕ) → Some n ≡ Some k → n ≡ k
 same_number n k e = cc
 
 module _ (parent child : List ℕ) (d : Child) (fair : IsFair parent child d) (x : ChildConnection) (place : Option ℕ) (mate : IsMate parent child x place d) where
-  row_place : (n : ℕ) → IsRowOf parent x d.records n → place ≡ Some n
+  pub row_place : (n : ℕ) → IsRowOf parent x d.records n → place ≡ Some n
   row_place n row =
       let s = mate.seated.known (record_at n d.records).id row.known in
       s.1 ∙ ap (λ (z : ℕ). Some z) (fair.ids s.0 n (mate.seated.seated s.0 s.1).0 row.within s.2)

@@ -34,6 +34,7 @@ pub mod Settled
 pub mod Joining
 pub mod Agreed
 pub mod Agreeing
+pub mod Entering
 pub mod Standing
 mod Whole
 pub mod Nothing
