@@ -16,6 +16,7 @@ use Rattle.nsi_primitive.specs.declared.entry.Happening.{Happening}
 use Rattle.nsi_primitive.specs.declared.entry.Input.{Input}
 use Rattle.nsi_primitive.specs.declared.kind.Directionality.{Directionality}
 use Rattle.nsi_primitive.specs.declared.message.Body.{Body}
+use Rattle.nsi_primitive.specs.declared.message.Criteria.{Criteria}
 use Rattle.nsi_primitive.specs.declared.message.Message.{Message}
 use Rattle.nsi_primitive.specs.declared.state.Machine.{Machine}
 use Rattle.reserve_machine.specs.Table.{step as reservation_row}
@@ -58,7 +59,7 @@ use Rattle.nsi_world.specs.Runs.{world_after, happens, AreAllowed, Wish, IsRun, 
 use Rattle.run_growth.specs.Cuts.{IsCutOf, state_of_cut, synced_state}
 use Rattle.run_growth.specs.InStep.{versions_of}
 use Rattle.circuit_pairs.specs.Minding.{view_in}
-use Rattle.circuit_laws.specs.Backed.{leg_in, IsLeastWay, IsChildOf, IsBackedIn, HasView, EachViewIsBacked, LivesIn, IsBetweenIn, IsCircuit, EachCircuitStands}
+use Rattle.circuit_laws.specs.Backed.{leg_in, IsLeastWay, IsChildOf, IsBackedIn, HasView, EachViewIsBacked, LivesIn, IsBetweenIn, HasCriteriaIn, IsCircuit, EachCircuitStands}
 use Rattle.least_routes.specs.Laws.{LeastPathOrNone}
 use Rattle.circuit_laws.specs.Laws.{IsCircuitRun}
 use Rattle.circuit_laws.proofs.Leading.{got_at}
@@ -239,7 +240,14 @@ ends_of (x ∷ (y ∷ xs)) d e = (
   (ap (λ (ls : List Leg). (get_or ls 1 no_leg).source) e, ap (λ (ls : List Leg). (get_or ls 1 no_leg).dest) e),
 )
 
-all_same : (f : Record → List ℕ) (rs : List Record) (p : List ℕ) → map f rs ≡ p ∷ [] → (n : ℕ) → n < length rs → f (record_at n rs) ≡ p
+abbrev criteria_of : Record → List Criteria
+criteria_of r = r.committed
+
+-- what is asked of all
+abbrev agreed : Criteria
+agreed = record { version = 0; interval = record { start = 100; end = 200 }; capacity = 600 }
+
+all_same : {X : Type 0} (f : Record → X) (rs : List Record) (p : X) → map f rs ≡ p ∷ [] → (n : ℕ) → n < length rs → f (record_at n rs) ≡ p
 all_same f [] p e n l = absurd (cc)
 all_same f (r ∷ []) p e zero l = cc
 all_same f (r ∷ []) p e (suc n) l = absurd (omega (arith, l))
@@ -366,6 +374,16 @@ module _ (given : Routes) (search : LeastPathOrNone) where
         which_is_between = (refl, refl);
       }
 
+  -- the criteria of all three records
+  pub record IsCriteriaRow : Type 0 where
+    pub of_the_aggregator : (own whole).committed ≡ agreed ∷ []
+    pub of_the_first : map criteria_of (synced_state homes whole 0).base.records ≡ (agreed ∷ []) ∷ []
+    pub of_the_second : map criteria_of (synced_state homes whole 1).base.records ≡ (agreed ∷ []) ∷ []
+
+  pub criteria_row : IsCriteriaRow
+  unfolding kind_number connection_of named_connection reservation_row provision_row lifecycle_row status joined announces is_heard with_heard is_old saw is_taken with_taken lack_at first_from first_lack_by places asks_child request_about reserve_for child_hears is_kind open_request reservation_closing provision_closing closes moves requested provided is_terminating record_waits record_work tells_plane record_tells demand provision_event provisions lifecycle_event lives event_of is_live is_working record_worked record_reserves has_row is_in_place unnamed_refusal modification_refusal refusal lacks_among capacities_among works provider_receives provider_step provider_after find_view requester_answers asks_at asks_new asks_found reserves asked_of requester_asked hears_if requester_step requester_after asks_if_free asks_if_known next_after asked_view next_behind each request_if may_abort reserve_if passed_on views_of with_path is_held checked reservation_verdict reservation_due provision_verdict provision_due settles_reservation settles_provision closes_unless settles settle tell_joined pass_on takes turn_by_request request_turn is_timed_out is_ended hold_end_by force_by hold_ends force_ends heard_by turn_by_answer answer_turn spoken due_for request_at answers pass_then hear_all part_of hears receives step after home_in after_as goes_on world_after
+  criteria_row = record { of_the_aggregator = refl; of_the_first = refl; of_the_second = refl }
+
   -- the requester's view of the aggregator
   abbrev lab_view : ChildConnection
   lab_view = view_in (codes "joint") (state_of_cut homes whole 3 5).views 0
@@ -418,7 +436,8 @@ module _ (given : Routes) (search : LeastPathOrNone) where
   ---- A circuit
 
   abbrev StandsBelow : ChildConnection → Type 0
-  StandsBelow x = Contains x.committed 0 × (b : ℕ) × (c : ℕ) × IsChildOf topology homes 2 x.child b × IsBackedIn homes whole 2 b x 0 c × LivesIn homes whole 2 b (own whole) x 0 × IsBetweenIn homes whole 2 b x 0
+  StandsBelow x = Contains x.committed 0 × (b : ℕ) × (c : ℕ) × IsChildOf topology homes 2 x.child b × IsBackedIn homes whole 2 b x 0 c × LivesIn homes whole 2 b (own whole) x 0 × IsBetweenIn homes whole 2 b x 0 ×
+      HasCriteriaIn homes whole 2 b (own whole) x 0
 
   lives_in : (b : ℕ) (x : ChildConnection) → map lives_still (synced_state homes whole b).base.records ≡ true ∷ [] → LivesIn homes whole 2 b (own whole) x 0
   lives_in b x e c backed live = all_live (synced_state homes whole b).base.records e backed.place
@@ -428,6 +447,18 @@ module _ (given : Routes) (search : LeastPathOrNone) where
       let rs : List Record = (synced_state homes whole b).base.records in
       let within = (position-Some (λ (r : Record). (backed.connection == r.id) && bytes_eq (homes 2).name r.owner) rs backed.place no_record backed.there).0 in
       record { source = all_same source_of rs source are.0 backed.place within ∙ sym ends.0; dest = all_same dest_of rs dest are.1 backed.place within ∙ sym ends.1 }
+
+  criteria_in : (b c : ℕ) (x : ChildConnection) → IsBackedIn homes whole 2 b x 0 c → map criteria_of (synced_state homes whole b).base.records ≡ (agreed ∷ []) ∷ [] → HasCriteriaIn homes whole 2 b (own whole) x 0
+  criteria_in b c x backed theirs k i of =
+      let rs : List Record = (synced_state homes whole b).base.records in
+      let within = (position-Some (λ (r : Record). (backed.connection == r.id) && bytes_eq (homes 2).name r.owner) rs backed.place no_record backed.there).0 in
+      record {
+        connection = backed.connection;
+        known = backed.known;
+        place = backed.place;
+        there = backed.there;
+        has = subst (λ (ks : List Criteria). Contains ks k) (criteria_row.of_the_aggregator ∙ sym (all_same criteria_of rs (agreed ∷ []) theirs backed.place within)) i;
+      }
 
   this_way : (s d : ℕ) (ls : List Leg) → s ≡ 0 → d ≡ 3 → ls ≡ legs → IsLeastWay topology 2 s d ls
   this_way s d ls e f g = rw (e, f, g) (least_is_it search)
@@ -440,8 +471,8 @@ module _ (given : Routes) (search : LeastPathOrNone) where
         some = λ e. absurd (let n = ap length e in omega (arith, n, row.it_has_two_views));
         way = this_way (own whole).source (own whole).dest (map leg_in (views whole)) row.its_points.0 row.its_points.1 row.of_these_legs;
         each = each_of_two StandsBelow (views whole) (new_view [] [] []) row.it_has_two_views
-            (has.0, 0, id_of 2 4, row.of_the_first_provider, row.which_has_it, lives_in 0 (view whole 0) row.its_record_lives, between_in 0 (view whole 0) (codes "w:lab") (codes "w:east") ends.0 row.which_is_between)
-            (has.1, 1, id_of 2 5, second_row.the_second_provider, second_row.has_it_by_another_commit, lives_in 1 (view whole 1) second_row.its_record_lives, between_in 1 (view whole 1) (codes "e:west") (codes "e:store") ends.1 second_row.which_is_between);
+            (has.0, 0, id_of 2 4, row.of_the_first_provider, row.which_has_it, lives_in 0 (view whole 0) row.its_record_lives, between_in 0 (view whole 0) (codes "w:lab") (codes "w:east") ends.0 row.which_is_between, criteria_in 0 (id_of 2 4) (view whole 0) row.which_has_it criteria_row.of_the_first)
+            (has.1, 1, id_of 2 5, second_row.the_second_provider, second_row.has_it_by_another_commit, lives_in 1 (view whole 1) second_row.its_record_lives, between_in 1 (view whole 1) (codes "e:west") (codes "e:store") ends.1 second_row.which_is_between, criteria_in 1 (id_of 2 5) (view whole 1) second_row.has_it_by_another_commit criteria_row.of_the_second);
         apart = λ i j b c d x y e f its other p q same. two_apart (views whole) (new_view [] [] []) row.it_has_two_views row.the_first_is_of row.the_second_is_of i j x y e f (its.named ∙ sym other.named);
       }
 
@@ -631,5 +662,5 @@ module _ (given : Routes) (search : LeastPathOrNone) where
       h 2 8 0 0 its_setting (own without) row.the_aggregator_is_an_agent row.it_aggregates row_without.by_all_that_is_synced
       (got_at (joint without).base.records 0 no_record (own without) (omega (arith, row_without.the_aggregator_has_a_record)) refl) (has_first 0 (versions_of (own without)) row_without.that_has_it)
       in
-      let (has, b, n, child, backed, lives, between) = c.each (view without 1) second_there in
+      let (has, b, n, child, backed, lives, between, criteria) = c.each (view without 1) second_there in
       unbacked b n (view without 1) (subst (λ (z : List ℕ). IsChildOf topology homes 2 z b) row_without.of_which_the_second child) backed

@@ -35,6 +35,7 @@ pub mod Joining
 pub mod Agreed
 pub mod Agreeing
 pub mod Entering
+pub mod Agreement
 pub mod Standing
 mod Whole
 pub mod Nothing

@@ -25,8 +25,8 @@ use Rattle.run_growth.specs.WorldCuts.{told_to}
 use Rattle.run_growth.proofs.Sent.{given_in}
 use Rattle.circuit_fit.specs.Fits.{committed_of, IsCommittedBelow, Fits}
 use Rattle.least_routes.specs.Laws.{LeastPathOrNone}
-use Rattle.circuit_laws.specs.Backed.{leg_in, IsLeastWay, IsChildOf, IsBackedIn, HasView, LivesIn, IsBetweenIn}
-use Rattle.circuit_laws.specs.Laws.{RunsAreBacked, RecordsAreApart, ChildrenLive, ChildrenAreBetween, CircuitsStand}
+use Rattle.circuit_laws.specs.Backed.{leg_in, IsLeastWay, IsChildOf, IsBackedIn, HasView, LivesIn, IsBetweenIn, HasCriteriaIn}
+use Rattle.circuit_laws.specs.Laws.{RunsAreBacked, RecordsAreApart, ChildrenLive, ChildrenAreBetween, ChildrenHaveTheCriteria, CircuitsStand}
 use Rattle.circuit_laws.proofs.Leading.{asks_others}
 use Rattle.circuit_laws.proofs.Backing.{list_there}
 use Rattle.circuit_laws.proofs.Aggregators.{children_know_their_own}
@@ -97,8 +97,8 @@ least_way search t routes a setting own xs routed role way some = by (search t a
 
 ---- Circuits
 
-pub circuits_stand : LeastPathOrNone → WhatIsSaidIsItsOwn → HeardWasSent → RunsAreBacked → ChildrenLive → ChildrenAreBetween → CircuitsStand
-circuits_stand search own_law heard backed living between t routes events sound formed routed allowed a k n v setting own agent role place here there =
+pub circuits_stand : LeastPathOrNone → WhatIsSaidIsItsOwn → HeardWasSent → RunsAreBacked → ChildrenLive → ChildrenAreBetween → ChildrenHaveTheCriteria → CircuitsStand
+circuits_stand search own_law heard backed living between criteria t routes events sound formed routed allowed a k n v setting own agent role place here there =
     record { some = below.some; way = on_its_way way; each = each; apart = apart }
   where
     homes : Homes
@@ -139,7 +139,11 @@ circuits_stand search own_law heard backed living between t routes events sound 
         between t routes events sound formed routed allowed a b k (w.synced b) n one.connection one.place setting x agent role place its child
         (record { synced = omega arith; within = (heard homes events allowed).within b }) one.known one.there
 
-    each : (x : ChildConnection) → Contains xs x → Contains x.committed v × (b : ℕ) × (c : ℕ) × IsChildOf t homes a x.child b × IsBackedIn homes w a b x v c × LivesIn homes w a b own x v × IsBetweenIn homes w a b x v
+    same_criteria : (x : ChildConnection) → Contains xs x → (b : ℕ) → IsChildOf t homes a x.child b → HasCriteriaIn homes w a b own x v
+    same_criteria x its b child c i of =
+        criteria t routes events sound formed routed allowed a b k (w.synced b) n setting own x c agent role place here i its child (record { synced = omega arith; within = (heard homes events allowed).within b })
+
+    each : (x : ChildConnection) → Contains xs x → Contains x.committed v × (b : ℕ) × (c : ℕ) × IsChildOf t homes a x.child b × IsBackedIn homes w a b x v c × LivesIn homes w a b own x v × IsBetweenIn homes w a b x v × HasCriteriaIn homes w a b own x v
     each x its =
         let has : Contains x.committed v = All-contains (λ (y : ChildConnection). Contains y.committed v) xs x below.each its in
         let (b, child, all) = backed t routes events sound formed routed allowed a k x agent place (subst (λ (r : Role). HasView r s x) (sym role) (n, its)) in
@@ -151,6 +155,7 @@ circuits_stand search own_law heard backed living between t routes events sound 
           subst (λ (u : ℕ). IsBackedIn homes w a b x u (get_or all.own has.0 0)) (get_or_default x.committed has.0 0 v has.1 ∙ has.2) one,
           lives x its b child,
           points x its b child,
+          same_criteria x its b child,
         )
 
     apart : (i j b c d : ℕ) (x y : ChildConnection) → slice_get xs i ≡ Some x → slice_get xs j ≡ Some y → IsChildOf t homes a x.child b → IsChildOf t homes a y.child b →

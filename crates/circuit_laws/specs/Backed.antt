@@ -95,15 +95,28 @@ pub record IsBetween (x : ChildConnection) (r : Record) : Type 0 where
 abbrev pub IsBetweenIn : Homes → World → (a b : ℕ) → ChildConnection → ℕ → Type 0
 IsBetweenIn homes w a b x v = (c : ℕ) (backed : IsBackedIn homes w a b x v c) → IsBetween x (record_at backed.place (synced_state homes w b).base.records)
 
+-- The record of the parent that a view knows by its connection has these criteria as committed: their version, their schedule and their capacity.
+pub record HasCriteria (parent : List ℕ) (x : ChildConnection) (rs : List Record) (k : Criteria) : Type 0 where
+  pub connection : ℕ
+  pub known : x.connection ≡ Some connection
+  pub place : ℕ
+  pub there : place_of connection parent rs ≡ Some place
+  pub has : Contains (record_at place rs).committed k
+
+-- So has the child's record of a view the criteria of a version of the own record.
+abbrev pub HasCriteriaIn : Homes → World → (a b : ℕ) → Record → ChildConnection → ℕ → Type 0
+HasCriteriaIn homes w a b own x v = (k : Criteria) → Contains own.committed k → k.version ≡ v → HasCriteria (homes a).name x (synced_state homes w b).base.records k
+
 -- A version of a connection that the agent a has made stands in each network on its way. Its children are the legs of the least path between its
 -- two points, of which there is one at least. The view of each has the version as committed, by a commit of its own that was sent and confirmed,
--- and its record has it by what is synced there; that record lives while the connection does, and is between the two points of the leg. No two
--- children have one record.
+-- and its record has it by what is synced there; that record lives while the connection does, is between the two points of the leg, and has the
+-- version's criteria as the connection has them: the same schedule and capacity. No two children have one record.
 pub record IsCircuit (t : Network) (homes : Homes) (w : World) (a : ℕ) (own : Record) (children : List ChildConnection) (v : ℕ) : Type 0 where
   pub some : children ≡ [] → ⊥
   pub way : IsLeastWay t a own.source own.dest (map leg_in children)
   pub each : (x : ChildConnection) → Contains children x →
-      Contains x.committed v × (b : ℕ) × (c : ℕ) × IsChildOf t homes a x.child b × IsBackedIn homes w a b x v c × LivesIn homes w a b own x v × IsBetweenIn homes w a b x v
+      Contains x.committed v × (b : ℕ) × (c : ℕ) × IsChildOf t homes a x.child b × IsBackedIn homes w a b x v c × LivesIn homes w a b own x v × IsBetweenIn homes w a b x v ×
+      HasCriteriaIn homes w a b own x v
   pub apart : (i j b c d : ℕ) (x y : ChildConnection) → slice_get children i ≡ Some x → slice_get children j ≡ Some y → IsChildOf t homes a x.child b → IsChildOf t homes a y.child b →
       (p : IsBackedIn homes w a b x v c) (q : IsBackedIn homes w a b y v d) → p.place ≡ q.place → i ≡ j
 
@@ -129,6 +142,14 @@ EachChildIsBetween t homes w =
     (a b k j n id place : ℕ) (setting : AggregatorSetting) (x : ChildConnection) → IsAgent homes a → (homes a).role ≡ aggregates setting → IsCutOf w a k →
     Contains (children_at n (state_of_cut homes w a k).children) x → IsChildOf t homes a x.child b → IsCutOf w b j → x.connection ≡ Some id →
     place_of id (homes a).name (state_of_cut homes w b j).base.records ≡ Some place → IsBetween x (record_at place (state_of_cut homes w b j).base.records)
+
+-- Whatever a crash leaves of an aggregator and of a child: the criteria that a connection of the aggregator has as committed the child's record of
+-- each of its views has as committed too.
+abbrev pub EachChildHasTheCriteria : Network → Homes → World → Type 0
+EachChildHasTheCriteria t homes w =
+    (a b k j n : ℕ) (setting : AggregatorSetting) (own : Record) (x : ChildConnection) (c : Criteria) → IsAgent homes a → (homes a).role ≡ aggregates setting → IsCutOf w a k →
+    slice_get (state_of_cut homes w a k).base.records n ≡ Some own → Contains own.committed c → Contains (children_at n (state_of_cut homes w a k).children) x →
+    IsChildOf t homes a x.child b → IsCutOf w b j → HasCriteria (homes a).name x (state_of_cut homes w b j).base.records c
 
 -- Whatever a crash leaves of an aggregator: two of its views that are backed by one record are one, of whichever connections.
 abbrev pub NoRecordIsShared : Network → Homes → World → Type 0

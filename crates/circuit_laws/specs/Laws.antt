@@ -23,7 +23,7 @@ use Rattle.circuit_link.specs.Sides.{standing_of}
 use Rattle.circuit_link.specs.Links.{InStep, Stands, Waits}
 use Rattle.circuit_link.specs.Children.{Child, record_of, side_of}
 use Rattle.circuit_link.specs.Serving.{child_of}
-use Rattle.circuit_laws.specs.Backed.{AreBackedIn, EachViewIsBacked, EachViewRises, IsCircuit, EachCircuitStands, EachChildLives, EachChildIsBetween, NoRecordIsShared, EachCriteriaWasAskedFor, EachAttemptWasAskedFor, EachRecordWasOpened, EachRecordHasAViewsPoints}
+use Rattle.circuit_laws.specs.Backed.{AreBackedIn, EachViewIsBacked, EachViewRises, IsCircuit, EachCircuitStands, EachChildLives, EachChildIsBetween, EachChildHasTheCriteria, NoRecordIsShared, EachCriteriaWasAskedFor, EachAttemptWasAskedFor, EachRecordWasOpened, EachRecordHasAViewsPoints}
 
 -- what an agent keeps and has said by the entries before a place, as the views of those who ask it see it
 abbrev pub child_at : Homes → World → (b j : ℕ) → Child
@@ -149,6 +149,9 @@ ChildrenLive = InEveryRun EachChildLives
 
 abbrev pub ChildrenAreBetween : Type 0
 ChildrenAreBetween = InEveryRun EachChildIsBetween
+
+abbrev pub ChildrenHaveTheCriteria : Type 0
+ChildrenHaveTheCriteria = InEveryRun EachChildHasTheCriteria
 
 abbrev pub CriteriaWereAskedFor : Type 0
 CriteriaWereAskedFor = (homes : Homes) (events : List Event) → AreAllowed homes empty events → EachCriteriaWasAskedFor homes (world_after empty events)

@@ -1,6 +1,6 @@
 //! The laws of circuits in runs. Each function is its contract.
 
-ghost use Rattle.circuit_laws.specs.Laws.{ViewsHavePhases, ChildrenHavePhases, ViewsAreInStep, ChildrenAreInStep, ViewsAreBacked, ChildrenAreBacked, ViewsKnowTheirOwn, ChildrenKnowTheirOwn, RunsAreBacked, ViewsRise, RecordsAreApart, ChildrenLive, CriteriaWereAskedFor, AttemptsWereAskedFor, RecordsWereOpened, RecordsHaveThePoints, ChildrenAreBetween, CircuitsStand, CircuitsAreReached};
+ghost use Rattle.circuit_laws.specs.Laws.{ViewsHavePhases, ChildrenHavePhases, ViewsAreInStep, ChildrenAreInStep, ViewsAreBacked, ChildrenAreBacked, ViewsKnowTheirOwn, ChildrenKnowTheirOwn, RunsAreBacked, ViewsRise, RecordsAreApart, ChildrenLive, CriteriaWereAskedFor, AttemptsWereAskedFor, RecordsWereOpened, RecordsHaveThePoints, ChildrenAreBetween, ChildrenHaveTheCriteria, CircuitsStand, CircuitsAreReached};
 
 use child_connection::laws::places;
 use least_routes::laws::{least_path_or_none, routes_exist};
@@ -80,9 +80,18 @@ pub fn living()
     agents();
 }
 
+/// What an aggregator's own record has as committed, the record of each of its children has too: the same version with the same schedule and capacity,
+/// whatever a crash leaves of both.
+pub fn criteria()
+    ensures { ChildrenHaveTheCriteria }
+{
+    agents();
+}
+
 /// What an aggregator's own record has as committed stands in each network on the least path between its points, by what that network has synced: a
 /// circuit that is confirmed from end to end is there, whatever was lost, came twice or came late, and whoever began again from what was synced.
-/// Each leg of that path is of a child with a record of its own between the leg's points, which lives while the circuit does.
+/// Each leg of that path is of a child with a record of its own between the leg's points, which lives while the circuit does, and has the circuit's
+/// schedule and capacity.
 pub fn circuits()
     ensures { CircuitsStand }
 {
@@ -90,6 +99,7 @@ pub fn circuits()
     views();
     living();
     opened();
+    criteria();
     sent();
     agents();
 }

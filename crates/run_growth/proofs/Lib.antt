@@ -11,7 +11,6 @@ pub mod Worlds
 pub mod Fronts
 pub mod Entered
 pub mod Honest
-pub mod Mild
 pub mod Alone
 pub mod Risen
 pub mod Versions
