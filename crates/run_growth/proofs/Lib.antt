@@ -11,6 +11,7 @@ pub mod Worlds
 pub mod Fronts
 pub mod Entered
 pub mod Honest
+pub mod Mild
 pub mod Alone
 pub mod Risen
 pub mod Versions

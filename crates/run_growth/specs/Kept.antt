@@ -12,7 +12,7 @@ use Rattle.provider_agent.specs.Safety.{IsRising, IsHonest, IsChecking, is_refus
 use Rattle.provider_agent.specs.Setting.{setting_of, own_stp}
 use Rattle.nsi_agent.specs.Homes.{Routes, home_in}
 use Rattle.nsi_agent.specs.Steps.{after}
-use Rattle.nsi_world.specs.Worlds.{Homes, World, IsAgent}
+use Rattle.nsi_world.specs.Worlds.{Homes, World}
 use Rattle.run_growth.specs.Growth.{HasGrown}
 use Rattle.run_growth.specs.Cuts.{IsCutOf, state_of_cut, synced_state, state_before}
 
@@ -40,11 +40,16 @@ pub record IsCheckAt (homes : Homes) (w : World) (a n : ℕ) (e : Entry) : Type 
   pub own : Record
   pub checking : IsChecking (state_before homes w a n).base e place own
 
--- Whichever agent's entry it is: what refuses for bandwidth in a provider's name is that provider's own work on a reserve that it checks.
+-- it is a provider's own work on a reserve that it checks, and said in its name
+pub record IsProvidersCheck (t : Network) (routes : Routes) (w : World) (a n : ℕ) (e : Entry) (m : Message) : Type 0 where
+  pub provider : IsProvider t a
+  pub own : m.header.provider ≡ name_of t a
+  pub check : IsCheckAt (home_in t routes) w a n e
+
+-- Whichever agent's entry it is, and whatever name it bears: what refuses for bandwidth is that.
 abbrev pub RefusesAloneIn : Network → Routes → World → Type 0
 RefusesAloneIn t routes w =
-    (a b n : ℕ) (e : Entry) (m : Message) → IsProvider t a → IsAgent (home_in t routes) a → IsCausedBy (home_in t routes) w b n e m →
-    is_refusal m.body ≡ true → m.header.provider ≡ name_of t a → (b ≡ a) × IsCheckAt (home_in t routes) w a n e
+    (a n : ℕ) (e : Entry) (m : Message) → IsCausedBy (home_in t routes) w a n e m → is_refusal m.body ≡ true → IsProvidersCheck t routes w a n e m
 
 ---- Committed versions
 

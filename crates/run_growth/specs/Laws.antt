@@ -15,7 +15,7 @@ RunsAreCapped = (t : Network) (routes : Routes) (events : List Event) → AreAll
 abbrev pub RunsAreHonest : Type 0
 RunsAreHonest = (t : Network) (routes : Routes) (events : List Event) → AreAllowed (home_in t routes) empty events → IsHonestIn t routes (world_after empty events)
 
--- and nothing else refuses for bandwidth in a provider's name
+-- and nothing else refuses for bandwidth
 abbrev pub NothingElseRefuses : Type 0
 NothingElseRefuses = (t : Network) (routes : Routes) (events : List Event) → AreAllowed (home_in t routes) empty events → RefusesAloneIn t routes (world_after empty events)
 

@@ -28,7 +28,7 @@ pub fn capped()
 }
 
 /// Each work on a reserve that is checked, in any journal of any run, confirms or refuses as it should, and a refusal for bandwidth
-/// names the first second that lacks it. Nothing else refuses for bandwidth in a provider's name.
+/// names the first second that lacks it. Nothing else refuses for bandwidth, whichever agent says it and in whichever name.
 pub fn honest()
     ensures checks { RunsAreHonest }
     ensures alone { NothingElseRefuses }
@@ -53,7 +53,7 @@ pub fn in_step()
 
 /// In every world of every run, whatever a crash leaves of an agent: no load of a provider passes a capacity that the topology declares, and
 /// the committed versions of each record rise. What is synced stays in every later world. Each work on a reserve that is checked says what it
-/// should, and nothing else refuses for bandwidth in a provider's name.
+/// should, and nothing else refuses for bandwidth.
 pub fn every_run_safe_at_each_agent()
     ensures { EveryRunIsSafe }
 {
