@@ -17,8 +17,7 @@ use Rattle.provide_command.specs.Promise.{Writes, WritesFront, is_told, read_fau
 use Rattle.provide_command.specs.Writes.{WritesSome, WritesSomeFront}
 use Rattle.nsi_program.proofs.Checks.{some_begins}
 use Rattle.agent_threads.specs.declared.report.RunOptions.{RunOptions}
-use Rattle.run_command.specs.declared.command.RunEnd.{RunEnd}
-use Rattle.run_command.specs.Runs.{Runs, RunsIf, RunsRead, Breaks}
+use Rattle.run_command.specs.Runs.{RunsIf, RunsRead, Breaks}
 use Rattle.run_command.specs.Ends.{IsCutShort as RunIsCutShort}
 use Rattle.nsi_program.specs.RunsTo.{RunsTo, options_of, status_of_run}
 use Rattle.nsi_base.specs.Lines.{lines_of}

@@ -1,5 +1,5 @@
 -- Nothing but a provider's own work refuses for bandwidth.
-use Rattle.std.proofs.Common.{ℕ, ◌≡◌, true, false, List, [], ◌∷◌, ◌++◌, refl, sym, ap, ◌∙◌, subst, take}
+use Rattle.std.proofs.Common.{ℕ, ◌≡◌, true, false, List, [], Option, Some, None, ◌∷◌, ◌++◌, refl, sym, ◌∙◌, subst, take}
 use Rattle.std.specs.List.{All, Contains}
 use Rattle.std.proofs.lemmas.Bool.{false≢true}
 use Rattle.std.proofs.lemmas.List.Elements.{All-take, All-push, All-contains, Contains-append_left, Contains-append_right}
@@ -31,7 +31,7 @@ use Rattle.run_growth.specs.AgentLaws.{IsAlwaysGood}
 use Rattle.run_growth.specs.Cuts.{state_before}
 use Rattle.run_growth.specs.Kept.{IsCausedBy, IsCheckAt, IsProvidersCheck}
 use Rattle.run_growth.specs.Laws.{NothingElseRefuses}
-use Rattle.run_growth.proofs.Entered.{IsEntry, AreEntries, entries_of, all_for}
+use Rattle.run_growth.proofs.Entered.{AreEntries, entries_of, all_for}
 use Rattle.run_growth.proofs.Mild.{IsMildMessage, aggregator_mild, requester_mild}
 use Rattle.run_growth.proofs.Honest.{role_is, runs_are_honest}
 

@@ -1,6 +1,6 @@
 -- Aggregators and requesters refuse nothing for bandwidth: no message that they cause does.
-use Rattle.std.proofs.Common.{ℕ, ◌+◌, ◌≡◌, ◌&&◌, Bool, true, false, is_none, List, [], ◌∷◌, ◌++◌, Option, Some, None, IfSome, refl, map}
-use Rattle.std.specs.Prelude.{option_map, option_to_list, option_and_then, find}
+use Rattle.std.proofs.Common.{ℕ, ◌+◌, ◌≡◌, ◌&&◌, Bool, true, false, is_none, List, [], ◌∷◌, ◌++◌, Option, Some, None, IfSome, refl}
+use Rattle.std.specs.Prelude.{option_map, option_to_list, option_and_then}
 use Rattle.std.specs.List.{All}
 use Rattle.std.proofs.lemmas.List.Elements.{All-nil, All-cons, All-head, All-tail, All-append}
 use Rattle.nsi_primitive.specs.Ids.{id_of}
@@ -30,36 +30,35 @@ use Rattle.connection_record.specs.declared.moves.ReservationMove.{ReservationMo
 use Rattle.connection_record.specs.declared.provisioning.ProvisionMove.{ProvisionMove}
 use Rattle.connection_record.specs.declared.life.LifecycleMove.{LifecycleMove}
 use Rattle.connection_record.specs.declared.apply.Move.{Move}
-use Rattle.connection_record.specs.Replies.{Moved, by_row, reply, id_or, then_moves, addressed, plain}
-use Rattle.connection_record.specs.Moves.{event_of, fits, reservation_does, reserves, reserves_if, asked_criteria, is_live}
+use Rattle.connection_record.specs.Replies.{Moved, by_row, reply, then_moves, addressed, plain}
+use Rattle.connection_record.specs.Moves.{event_of, fits, reservation_does, reserves, reserves_if, asked_criteria}
 use Rattle.connection_record.specs.Lives.{provision_event, confirmed_body, provision_taken, provision_does, provisions, provisions_if, lifecycle_event, lifecycle_does, lives, lives_if}
-use Rattle.connection_record.specs.Applied.{is_terminating, reservation_closing, provision_closing, closes_reservation, closes_provision, closes, moves, moves_if, reserve_move, requested, tells_plane, schedule_end}
-use Rattle.connection_record.specs.Demand.{last}
-use Rattle.connection_record.specs.Refusal.{refusal, place_of, points_of}
+use Rattle.connection_record.specs.Applied.{is_terminating, reservation_closing, provision_closing, closes_reservation, closes_provision, closes, moves, moves_if, reserve_move, requested, tells_plane}
+use Rattle.connection_record.specs.Refusal.{place_of, points_of}
 use Rattle.child_connection.specs.declared.state.Sent.{Sent}
 use Rattle.child_connection.specs.Views.{ChildConnection, open_request}
 use Rattle.child_connection.specs.Hearing.{hear}
-use Rattle.child_connection.specs.Asks.{request_about, reserve_for, to_child}
+use Rattle.child_connection.specs.Asks.{request_about, to_child}
 use Rattle.agent_state.specs.declared.parent.Due.{Due}
 use Rattle.agent_state.specs.declared.parent.OpenQuery.{OpenQuery}
 use Rattle.agent_state.specs.declared.parent.Part.{Part}
 use Rattle.agent_state.specs.declared.parent.View.{View}
-use Rattle.agent_state.specs.Entries.{reply_by, query_reply}
+use Rattle.agent_state.specs.Entries.{reply_by}
 use Rattle.agent_state.specs.State.{AgentState, children_at}
 use Rattle.nsi_query.specs.Summary.{Shown}
 use Rattle.nsi_query.specs.Answers.{answer_about}
 use Rattle.provider_agent.specs.Safety.{is_bandwidth, is_refusal}
 use Rattle.aggregator_agent.specs.declared.agent.Agent.{Agent}
 use Rattle.aggregator_agent.specs.Setting.{Setting as AggregatorSetting}
-use Rattle.aggregator_agent.specs.Asking.{Turn, Asked, begin, request_of, ask_one, each, asks_by, if_free, request_if, if_apart, reserve_if, passed_on, pass_one}
-use Rattle.aggregator_agent.specs.Settling.{child_exception, fit_or_lack, checked, done_or_mixed, reservation_verdict, reservation_due, settles_reservation, settles_provision, provision_due, closes_unless, settles, settle}
-use Rattle.aggregator_agent.specs.Turns.{takes, hear_one, tell_joined, pass_on, turn_by_request, request_turn, late_terminate, hold_end_by, hold_ends, force_by, force_ends, heard_by, turn_by_answer, answer_turn, spoken}
+use Rattle.aggregator_agent.specs.Asking.{Turn, Asked, begin, request_of, each, if_free, request_if, if_apart, reserve_if, passed_on, pass_one}
+use Rattle.aggregator_agent.specs.Settling.{fit_or_lack, checked, done_or_mixed, reservation_verdict, reservation_due, settles_reservation, settles_provision, closes_unless, settles, settle}
+use Rattle.aggregator_agent.specs.Turns.{takes, hear_one, tell_joined, pass_on, turn_by_request, request_turn, late_terminate, hold_end_by, hold_ends, force_ends, heard_by, turn_by_answer, answer_turn, spoken}
 use Rattle.aggregator_agent.specs.Clock.{tells_late, tell_one, tell_all, is_late_of, ends, clocked, clock_then, clock_all}
-use Rattle.aggregator_agent.specs.Below.{seek_one, seek_of, seek, tells_first, tells_query, closes_unless as closes_query_unless, tells_if, hear_below}
+use Rattle.aggregator_agent.specs.Below.{seek_of, seek, tells_first, tells_query, closes_unless as closes_query_unless, tells_if}
 use Rattle.aggregator_agent.specs.Queries.{shown_at, answer_by, answer_to}
 use Rattle.aggregator_agent.specs.Steps.{request_at, opens_between, opens, request_to, accepts, answers, pass_then, hear_all, hears, opens_query, asks_below, asks_if_own, queries, serves, receives, ticks, step, after_if, after}
 use Rattle.requester_agent.specs.Setting.{Setting as RequesterSetting}
-use Rattle.requester_agent.specs.Views.{Asked as AskedOf, asks_if_free, asks_if_known}
+use Rattle.requester_agent.specs.Views.{asks_if_free, asks_if_known}
 use Rattle.requester_agent.specs.Queries.{query_about, query_for}
 use Rattle.requester_agent.specs.Steps.{answers as requester_answers, asks_at, asks_new, asks_found, reserves as requester_reserves, sends_query, asked_of, asked, hears_if, step as requester_step, after_if as requester_after_if, after as requester_after}
 

@@ -1,5 +1,5 @@
 -- An act that restarts one agent, between two rounds.
-use Rattle.std.proofs.Common.{ℕ, ◌≡◌, ◌≢◌, ◌≤◌, List, [], ◌∷◌, ◌++◌, Option, Some, None, IfSome, ◌⊎◌, inl, inr, refl, sym, ap, ap₂, ◌∙◌, subst, length, take, map, append-nil}
+use Rattle.std.proofs.Common.{ℕ, ◌≡◌, ◌≢◌, List, [], ◌∷◌, ◌++◌, Option, Some, None, IfSome, ◌⊎◌, inl, inr, refl, sym, ap, ap₂, ◌∙◌, subst, length, take, map, append-nil}
 use Rattle.std.specs.List.{All, Contains}
 use Rattle.std.proofs.lemmas.Bool.{cases_eq}
 use Rattle.std.proofs.lemmas.List.{length-take-le}
@@ -23,7 +23,7 @@ use Rattle.settled_play.proofs.Meetings.{first_apart, rest_apart}
 use Rattle.settled_play.proofs.Links.{Given}
 use Rattle.settled_play.proofs.Journals.{journal_at}
 use Rattle.settled_play.proofs.Rounds.{Rests, all_apart}
-use Rattle.settled_play.proofs.Restarting.{HasRead, Reads, AreRestarts, restart, nobody, restarts_none, with_read, read_here, read_else, not_here, no_none, restarts_more, restart_rests}
+use Rattle.settled_play.proofs.Restarting.{HasRead, AreRestarts, restart, nobody, restarts_none, with_read, read_here, read_else, not_here, no_none, restarts_more, restart_rests}
 
 ---- One agent among all
 
