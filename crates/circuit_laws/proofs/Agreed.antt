@@ -1,54 +1,28 @@
 -- How the criteria of an aggregator's own record stand against those of its children's records, by what the aggregator does.
-use Rattle.std.proofs.Common.{ℕ, zero, suc, ◌≡◌, ◌∙◌, ◌<◌, ◌≤◌, ◌⊎◌, inl, inr, Bool, true, false, List, [], ◌∷◌, ◌++◌, length, length-append, map, slice_get, Contains, Option, Some, None, option_map, is_some, IfSome, bytes_eq, true≢false, refl, sym, ap, subst, arith}
-use Rattle.std.specs.List.{All}
+use Rattle.std.proofs.Common.{ℕ, zero, suc, ◌≡◌, ◌∙◌, ◌<◌, ◌≤◌, ◌⊎◌, inl, inr, Bool, true, false, List, [], ◌∷◌, ◌++◌, length, length-append, map, Contains, Option, Some, None, sym, ap, subst, arith}
 use Rattle.std.proofs.lemmas.List.{length-map}
 use Rattle.std.proofs.lemmas.List.Elements.{All-contains, Contains-append_cases}
-use Rattle.std.proofs.lemmas.Slice.Eq.{bytes_eq-Decides}
-use Rattle.record_index.proofs.Members.{nothing_in, contains_first}
-use Rattle.nsi_primitive.specs.Messages.{kind_of, error_of}
-use Rattle.nsi_primitive.specs.declared.entry.Input.{Input}
+use Rattle.nsi_primitive.specs.Messages.{error_of}
 use Rattle.nsi_primitive.specs.declared.kind.ErrorName.{ErrorName}
 use Rattle.nsi_primitive.specs.declared.kind.Kind.{Kind}
 use Rattle.nsi_primitive.specs.declared.message.Body.{Body}
 use Rattle.nsi_primitive.specs.declared.message.Criteria.{Criteria}
-use Rattle.nsi_primitive.specs.declared.message.Message.{Message}
-use Rattle.nsi_primitive.specs.declared.message.ReserveRequest.{ReserveRequest}
 use Rattle.nsi_primitive.specs.declared.state.Rsm.{Rsm}
-use Rattle.nsi_primitive.specs.declared.state.Side.{Side}
 use Rattle.connection_record.specs.declared.record.Record.{Record}
-use Rattle.connection_record.specs.Applied.{is_terminating}
 use Rattle.connection_record.specs.Moves.{is_live}
-use Rattle.connection_record.specs.Refusal.{is_in_place, has_row, record_refusal}
-use Rattle.connection_record.specs.Speaking.{is_answering}
-use Rattle.connection_record.proofs.Unrefused.{unrefused_fits, reserve_row, commit_row}
 use Rattle.child_connection.specs.declared.state.Sent.{Sent}
-use Rattle.child_connection.specs.Asks.{asks}
-use Rattle.child_connection.specs.Hearing.{Heard, hears, hear, hear_from, refused, push_version}
-use Rattle.child_connection.specs.Views.{ChildConnection, sent, open_request, is_kind, is_open}
-use Rattle.child_connection.proofs.Places.{asks_known}
-use Rattle.child_connection.proofs.Reservations.{request_stays}
-use Rattle.agent_state.specs.State.{AgentState, record_at, children_at}
-use Rattle.aggregator_agent.specs.declared.agent.Agent.{Agent}
-use Rattle.aggregator_agent.specs.Asking.{asked_view, request_if, may_abort, passed_on}
-use Rattle.aggregator_agent.specs.Settling.{is_held}
-use Rattle.aggregator_agent.specs.Turns.{takes, late_terminate}
-use Rattle.circuit_fit.specs.Fits.{pending_of, committed_of, IsCommittedBelow, IsFitting, IsKnown, Fits, AllFit}
+use Rattle.child_connection.specs.Hearing.{hears, refused, push_version}
+use Rattle.child_connection.specs.Views.{ChildConnection, sent, is_kind, is_open}
+use Rattle.agent_state.specs.State.{record_at}
 use Rattle.circuit_fit.proofs.Owning.{IsAsBefore}
-use Rattle.circuit_link.specs.Children.{Child, header_of, record_of, side_of, MayReach, IsFair}
+use Rattle.circuit_link.specs.Children.{Child, record_of, side_of, IsFair}
 use Rattle.circuit_link.specs.Links.{InStep}
 use Rattle.circuit_link.specs.Mates.{IsMate}
 use Rattle.circuit_link.specs.Sides.{version_of, standing_of}
-use Rattle.circuit_link.proofs.Hearing.{rows_unheard}
 use Rattle.circuit_link.proofs.Reading.{link_in_step}
 use Rattle.circuit_link.proofs.Taking.{calm_of}
-use Rattle.circuit_pairs.proofs.Minding.{connected, notice_alike}
-use Rattle.circuit_laws.specs.Backed.{AsksFor}
-use Rattle.circuit_laws.proofs.Attempts.{KeepsAttempt, TakesAttempt, request_takes}
-use Rattle.circuit_laws.proofs.Learnt.{asked_connection}
-use Rattle.circuit_laws.proofs.Meant.{IsFree, is_reserve}
+use Rattle.circuit_laws.proofs.Meant.{IsFree}
 use Rattle.circuit_laws.proofs.Settled.{IsDone, CommitsBelow, IsSettled}
-use Rattle.circuit_laws.proofs.Tried.{is_busy, taken_busy}
-use Rattle.circuit_laws.proofs.Trying.{unmixed}
 
 ---- What is kept
 

@@ -1,11 +1,7 @@
 -- Whatever an aggregator does, the criteria of its own records stand so against those of its children's records.
-use Rattle.std.proofs.Common.{ℕ, ◌≡◌, ◌∙◌, ◌<◌, ◌≤◌, ◌⊎◌, ◌||◌, inl, inr, Bool, true, false, List, [], ◌∷◌, ◌++◌, length, length-append, map, get_or, slice_get, Contains, Option, Some, None, option_map, is_some, IfSome, bytes_eq, true≢false, refl, sym, ap, subst, arith}
-use Rattle.std.specs.List.{All}
+use Rattle.std.proofs.Common.{ℕ, ◌≡◌, ◌∙◌, ◌<◌, ◌≤◌, ◌⊎◌, ◌||◌, inl, inr, Bool, true, false, List, [], ◌∷◌, ◌++◌, length, length-append, Contains, Option, Some, None, option_map, is_some, bytes_eq, refl, sym, ap, subst, arith}
 use Rattle.std.proofs.lemmas.List.Elements.{All-contains}
-use Rattle.std.proofs.lemmas.List.{get_or-map, length-map}
-use Rattle.std.proofs.lemmas.Slice.Eq.{bytes_eq-Decides}
 use Rattle.nsi_primitive.specs.Messages.{kind_of}
-use Rattle.nsi_primitive.specs.declared.entry.Input.{Input}
 use Rattle.nsi_primitive.specs.declared.kind.Kind.{Kind}
 use Rattle.nsi_primitive.specs.declared.message.Body.{Body}
 use Rattle.nsi_primitive.specs.declared.message.Criteria.{Criteria}
@@ -14,42 +10,32 @@ use Rattle.nsi_primitive.specs.declared.message.ReserveRequest.{ReserveRequest}
 use Rattle.nsi_primitive.specs.declared.state.Rsm.{Rsm}
 use Rattle.nsi_primitive.specs.declared.state.Side.{Side}
 use Rattle.connection_record.specs.declared.record.Record.{Record}
-use Rattle.connection_record.specs.Applied.{is_terminating}
 use Rattle.connection_record.specs.Moves.{is_live}
 use Rattle.connection_record.specs.Refusal.{has_row, record_refusal}
-use Rattle.connection_record.specs.Speaking.{is_answering}
 use Rattle.connection_record.proofs.Unrefused.{unrefused_fits, reserve_row, commit_row}
 use Rattle.child_connection.specs.declared.state.Sent.{Sent}
 use Rattle.child_connection.specs.Asks.{asks}
-use Rattle.child_connection.specs.Hearing.{Heard, hears, hear, hear_from, push_version}
+use Rattle.child_connection.specs.Hearing.{hears, hear, hear_from, push_version}
 use Rattle.child_connection.specs.Holding.{Commits as CommitsByMessage}
 use Rattle.child_connection.specs.Views.{ChildConnection, sent, open_request}
 use Rattle.child_connection.proofs.Learning.{messages_commit}
 use Rattle.child_connection.proofs.Places.{asks_known}
 use Rattle.child_connection.proofs.Reservations.{request_stays}
-use Rattle.agent_state.specs.State.{AgentState, record_at, children_at}
-use Rattle.aggregator_agent.specs.declared.agent.Agent.{Agent}
-use Rattle.aggregator_agent.specs.Asking.{Turn, asked_view, request_if, may_abort, passed_on}
+use Rattle.agent_state.specs.State.{record_at}
+use Rattle.aggregator_agent.specs.Asking.{asked_view, request_if, may_abort, passed_on}
 use Rattle.aggregator_agent.specs.Settling.{is_held}
-use Rattle.aggregator_agent.specs.Turns.{takes, request_turn, late_terminate, answer_turn}
-use Rattle.circuit_fit.specs.Fits.{pending_of, committed_of, IsFitting, IsKnown, Fits, AllFit}
-use Rattle.circuit_link.specs.Children.{Child, header_of, MayReach, IsFair}
+use Rattle.aggregator_agent.specs.Turns.{takes}
+use Rattle.circuit_fit.specs.Fits.{pending_of, IsFitting, IsKnown, Fits}
+use Rattle.circuit_link.specs.Children.{Child, IsFair}
 use Rattle.circuit_link.specs.Mates.{IsMate}
 use Rattle.circuit_link.specs.Sides.{version_of}
-use Rattle.circuit_link.proofs.Hearing.{rows_unheard}
-use Rattle.circuit_pairs.specs.Minding.{slot}
-use Rattle.circuit_pairs.specs.Pairs.{IsPair}
-use Rattle.circuit_pairs.proofs.Minding.{connected, notice_alike}
 use Rattle.circuit_laws.specs.Backed.{AsksFor}
-use Rattle.circuit_laws.proofs.Agreed.{IsRowOf, HasIt, Commits, IsAgreed, row_then, has_then, agreed_then, agreed_rests, known_row, free_even, not_longer, free_error, done_commits}
+use Rattle.circuit_laws.proofs.Agreed.{IsRowOf, HasIt, Commits, IsAgreed, row_then, has_then, known_row, free_even, not_longer, free_error, done_commits}
 use Rattle.circuit_laws.proofs.Attempts.{request_takes}
 use Rattle.circuit_laws.proofs.Learnt.{asked_connection}
-use Rattle.circuit_laws.proofs.Meant.{IsFree, is_reserve}
-use Rattle.circuit_laws.proofs.Settled.{IsDone, request_settled, answer_settled}
+use Rattle.circuit_laws.proofs.Meant.{IsFree}
+use Rattle.circuit_laws.proofs.Settled.{IsDone}
 use Rattle.circuit_laws.proofs.Tried.{is_busy, taken_busy}
-use Rattle.circuit_laws.proofs.Trying.{slot_at, turned_child}
-use Rattle.circuit_laws.proofs.Turned.{AreTurned}
-use Rattle.circuit_laws.proofs.Viewed.{view_there, ViewTurned, view_was}
 
 ---- A view that hears
 

@@ -1,18 +1,16 @@
 -- In any two cuts of a run the child's record of a view has the criteria that the aggregator's own record has as committed.
-use Rattle.std.proofs.Common.{ℕ, ◌≡◌, ◌∙◌, Bool, true, false, List, [], ◌∷◌, ◌++◌, take, slice_get, get_or, Contains, Option, Some, None, refl, sym, ap, subst, arith}
+use Rattle.std.proofs.Common.{ℕ, ◌≡◌, ◌∙◌, false, List, [], ◌++◌, take, slice_get, Contains, Some, None, sym, ap, subst}
 use Rattle.std.specs.List.{All}
 use Rattle.std.proofs.lemmas.List.Elements.{All-nil, All-contains, Contains-append_left, Contains-append_right}
 use Rattle.std.proofs.lemmas.Option.{get_or_from_slice_get, slice_get-get_or}
 use Rattle.nsi_primitive.specs.Messages.{is_request}
 use Rattle.nsi_primitive.specs.declared.entry.Entry.{Entry}
-use Rattle.nsi_primitive.specs.declared.entry.Event.{Event}
 use Rattle.nsi_primitive.specs.declared.entry.Input.{Input}
 use Rattle.nsi_primitive.specs.declared.message.Criteria.{Criteria}
 use Rattle.nsi_primitive.specs.declared.message.Message.{Message}
 use Rattle.stp_topology.specs.declared.network.Network.{Network}
 use Rattle.child_connection.specs.Views.{ChildConnection}
 use Rattle.connection_record.specs.declared.record.Record.{Record}
-use Rattle.connection_record.specs.Refusal.{place_of}
 use Rattle.agent_state.specs.State.{AgentState, no_record, record_at, children_at, blank_agent}
 use Rattle.aggregator_agent.specs.Setting.{Setting}
 use Rattle.agent_speech.proofs.Every.{blank_is_even}
@@ -35,9 +33,9 @@ use Rattle.circuit_link.specs.Serving.{child_of}
 use Rattle.circuit_pairs.specs.Minding.{slot}
 use Rattle.circuit_laws.specs.Backed.{HasCriteria}
 use Rattle.circuit_laws.specs.Laws.{ChildrenHaveTheCriteria}
-use Rattle.circuit_laws.proofs.Agreed.{HasIt, IsAgreed, row_place}
+use Rattle.circuit_laws.proofs.Agreed.{HasIt, row_place}
 use Rattle.circuit_laws.proofs.Attempts.{told_pending}
-use Rattle.circuit_laws.proofs.Circuits.{IsFit, grown_fits}
+use Rattle.circuit_laws.proofs.Circuits.{grown_fits}
 use Rattle.circuit_laws.proofs.Entering.{AllAgreed, turned_agreed, served_agreed}
 use Rattle.circuit_laws.proofs.Facts.{told_fair, told_once, request_said}
 use Rattle.circuit_laws.proofs.Holding.{PairOf, pair_of, fair_of, reaches, were_asked, grown_tried}

@@ -1,5 +1,5 @@
 -- The record of a view is between the view's two points, in any two cuts of a run.
-use Rattle.std.proofs.Common.{ℕ, ◌≡◌, ◌<◌, ◌∙◌, ◌&&◌, ◌==◌, Bool, true, false, List, length, take, Contains, Option, Some, None, bytes_eq, eqb-true, refl, sym, ap, subst, arith}
+use Rattle.std.proofs.Common.{ℕ, ◌≡◌, ◌<◌, ◌∙◌, ◌&&◌, ◌==◌, Bool, true, false, List, length, take, Contains, Some, None, bytes_eq, eqb-true, refl, sym, ap, subst, arith}
 use Rattle.std.proofs.lemmas.List.Elements.{All-contains}
 use Rattle.std.proofs.lemmas.List.Quantifiers.{position-Some}
 use Rattle.nsi_primitive.specs.Messages.{has_rows, is_request, connection_of}
@@ -9,7 +9,6 @@ use Rattle.nsi_primitive.specs.declared.message.Body.{Body}
 use Rattle.nsi_primitive.specs.declared.message.Message.{Message}
 use Rattle.nsi_primitive.specs.declared.message.ReserveRequest.{ReserveRequest}
 use Rattle.nsi_primitive.specs.declared.message.Service.{Service}
-use Rattle.connection_record.specs.Refusal.{place_of}
 use Rattle.connection_record.specs.Speaking.{is_answering, is_asking, is_noting}
 use Rattle.connection_record.specs.declared.record.Record.{Record}
 use Rattle.child_connection.specs.Holding.{teaches}
@@ -30,7 +29,7 @@ use Rattle.circuit_laws.specs.Backed.{IsBetween}
 use Rattle.circuit_laws.specs.Laws.{ChildrenAreBetween}
 use Rattle.circuit_laws.proofs.Facts.{told_fair, told_once, request_said, answer_said}
 use Rattle.circuit_laws.proofs.Learnt.{IsTaught, IsReserved, IsFirstBetween, IsModification, IsLearnt, IsKnowing, told_learnt}
-use Rattle.circuit_laws.proofs.Taught.{IsOf, CameOf, Teaches, IsTaughtBy, told_taught}
+use Rattle.circuit_laws.proofs.Taught.{IsOf, CameOf, IsTaughtBy, told_taught}
 
 -- a record of that owner has that id, and is between these points
 pub record IsThere (rs : List Record) (owner : List ℕ) (id : ℕ) (from to : List ℕ) : Type 0 where

@@ -1,23 +1,21 @@
 -- Whatever an aggregator or a child of it takes, the criteria of the aggregator's records stand so against those of the child's.
-use Rattle.std.proofs.Common.{ℕ, zero, suc, ◌≡◌, ◌∙◌, ◌<◌, ◌≤◌, ◌⊎◌, inl, inr, Bool, true, false, List, [], ◌∷◌, ◌++◌, length, length-append, map, take, drop, get_or, slice_get, Contains, Option, Some, None, option_map, IfSome, if◌then◌else◌, nat_lt, bytes_eq, refl, sym, ap, subst, arith}
+use Rattle.std.proofs.Common.{ℕ, ◌≡◌, ◌∙◌, ◌<◌, ◌⊎◌, inl, inr, Bool, true, false, List, [], ◌∷◌, ◌++◌, length, map, take, drop, get_or, slice_get, Contains, Option, Some, None, option_map, if◌then◌else◌, nat_lt, bytes_eq, refl, sym, ap, subst, arith}
 use Rattle.std.specs.List.{All}
 use Rattle.std.proofs.lemmas.List.{length-map, get_or-map, take-append-drop}
 use Rattle.std.proofs.lemmas.Slice.Eq.{bytes_eq-Decides}
 use Rattle.std.proofs.lemmas.List.Elements.{All-contains, Contains-append_left, Contains-append_right}
 use Rattle.std.proofs.lemmas.Option.{get_or_from_slice_get, slice_get-get_or, slice_get_within}
 use Rattle.nsi_base.specs.Range.{Span, span_of}
-use Rattle.nsi_primitive.specs.Messages.{kind_of, is_request}
+use Rattle.nsi_primitive.specs.Messages.{is_request}
 use Rattle.nsi_primitive.specs.declared.entry.Input.{Input}
 use Rattle.nsi_primitive.specs.declared.kind.Kind.{Kind}
 use Rattle.nsi_primitive.specs.declared.message.Body.{Body}
 use Rattle.nsi_primitive.specs.declared.message.Criteria.{Criteria}
-use Rattle.nsi_primitive.specs.declared.message.Header.{Header}
 use Rattle.nsi_primitive.specs.declared.message.Message.{Message}
 use Rattle.nsi_primitive.specs.declared.message.ReserveRequest.{ReserveRequest}
 use Rattle.nsi_primitive.specs.declared.state.Rsm.{Rsm}
 use Rattle.connection_record.specs.declared.record.Record.{Record}
 use Rattle.connection_record.specs.Later.{IsLater}
-use Rattle.connection_record.specs.Moves.{is_live}
 use Rattle.connection_record.specs.Speaking.{is_answering}
 use Rattle.child_connection.specs.Hearing.{Heard, hears, hear, hear_from}
 use Rattle.child_connection.specs.Views.{ChildConnection, sent}
@@ -25,10 +23,9 @@ use Rattle.agent_state.specs.State.{AgentState, no_record, record_at, children_a
 use Rattle.aggregator_agent.specs.declared.agent.Agent.{Agent}
 use Rattle.aggregator_agent.specs.Asking.{Turn}
 use Rattle.aggregator_agent.specs.Turns.{takes, request_turn, late_terminate, answer_turn}
-use Rattle.aggregator_agent.specs.Asking.{passed_on}
 use Rattle.connection_record.specs.Applied.{is_terminating}
-use Rattle.circuit_fit.specs.Fits.{pending_of, committed_of, IsFitting, Fits, AllFit}
-use Rattle.circuit_link.specs.Children.{Child, about, header_of, MayReach, IsFair}
+use Rattle.circuit_fit.specs.Fits.{pending_of, IsFitting, AllFit}
+use Rattle.circuit_link.specs.Children.{Child, header_of, MayReach, IsFair}
 use Rattle.circuit_link.specs.Mates.{IsMate}
 use Rattle.circuit_link.specs.Serving.{Serves}
 use Rattle.circuit_link.specs.Sides.{version_of}

@@ -1,43 +1,35 @@
 -- A child's record that checks, holds or commits does so for the attempt of the view that knows it, in any two cuts of a run.
-use Rattle.std.proofs.Common.{ℕ, ◌≡◌, ◌<◌, ◌∙◌, ◌&&◌, ◌==◌, Bool, true, false, List, [], take, slice_get, Contains, Option, Some, bytes_eq, eqb-true, refl, sym, ap, subst, arith}
-use Rattle.std.proofs.lemmas.List.Quantifiers.{position-Some}
+use Rattle.std.proofs.Common.{ℕ, ◌≡◌, ◌<◌, true, false, List, [], Contains, arith}
 use Rattle.nsi_primitive.specs.Messages.{is_request}
 use Rattle.nsi_primitive.specs.declared.entry.Entry.{Entry}
-use Rattle.nsi_primitive.specs.declared.entry.Event.{Event}
 use Rattle.nsi_primitive.specs.declared.entry.Input.{Input}
 use Rattle.nsi_primitive.specs.declared.message.Message.{Message}
 use Rattle.stp_topology.specs.declared.network.Network.{Network}
-use Rattle.child_connection.specs.Views.{ChildConnection}
-use Rattle.connection_record.specs.declared.record.Record.{Record}
-use Rattle.connection_record.specs.Refusal.{place_of}
 use Rattle.connection_record.specs.Speaking.{is_answering}
-use Rattle.agent_state.specs.State.{AgentState, no_record, record_at, children_at, blank_agent}
+use Rattle.agent_state.specs.State.{blank_agent}
 use Rattle.aggregator_agent.specs.Setting.{Setting}
 use Rattle.agent_speech.proofs.Every.{blank_is_even}
-use Rattle.nsi_agent.specs.Homes.{aggregates, home_in}
+use Rattle.nsi_agent.specs.Homes.{aggregates}
 use Rattle.nsi_agent.specs.Laws.{WhatIsSaidIsItsOwn}
 use Rattle.nsi_agent.specs.Steps.{after}
 use Rattle.nsi_agent.specs.Told.{Told, told, name_in}
-use Rattle.nsi_world.specs.Runs.{is_requester, world_after, AreAllowed, at}
-use Rattle.nsi_world.specs.Worlds.{Homes, IsAgent, World, empty}
-use Rattle.run_growth.specs.WorldCuts.{IsPlaceOf, cut, IsGrown}
-use Rattle.run_growth.proofs.Grown.{at_same, at_other, AreGrown, run_grown}
-use Rattle.run_growth.proofs.Sent.{Given, given_in}
-use Rattle.run_growth.proofs.WorldCuts.{synced_cut, cut_at}
+use Rattle.nsi_world.specs.Runs.{is_requester}
+use Rattle.nsi_world.specs.Worlds.{Homes, IsAgent}
+use Rattle.run_growth.specs.WorldCuts.{IsGrown}
+use Rattle.run_growth.proofs.Sent.{Given}
 use Rattle.circuit_link.specs.Children.{header_of, MayReach, IsFair}
 use Rattle.circuit_link.specs.Serving.{child_of}
-use Rattle.circuit_pairs.specs.Pairs.{IsPair, IsOnce}
+use Rattle.circuit_pairs.specs.Pairs.{IsPair}
 use Rattle.circuit_pairs.proofs.Parenting.{dec_pair}
-use Rattle.circuit_fit.specs.Fits.{AllFit}
 use Rattle.circuit_laws.proofs.Aggregators.{blank_slot}
 use Rattle.circuit_laws.proofs.Circuits.{grown_fits}
 use Rattle.circuit_laws.proofs.Facts.{told_fair, told_once, request_said, answer_reaches}
 use Rattle.circuit_laws.proofs.Induct.{told_then, CameTo, grown_by}
-use Rattle.circuit_laws.proofs.Leading.{AsksOthers, asks_others}
+use Rattle.circuit_laws.proofs.Leading.{AsksOthers}
 use Rattle.circuit_laws.proofs.Learnt.{role_turns}
 use Rattle.circuit_laws.proofs.Pairs.{grown_pair}
 use Rattle.circuit_laws.proofs.Roles.{views_of, aggregates_keep, serves_as, even_from}
-use Rattle.circuit_laws.proofs.Tried.{is_busy, IsTriedBy, AllTried, busy_within, served_tried}
+use Rattle.circuit_laws.proofs.Tried.{AllTried, busy_within, served_tried}
 use Rattle.circuit_laws.proofs.Trying.{turned_tried}
 
 module _ (own_law : WhatIsSaidIsItsOwn) (t : Network) (homes : Homes) (given : Given homes) (a b : ℕ) (agent : IsAgent homes a) (other : IsAgent homes b) (apart : b ≡ a → ⊥) (asked : is_requester (homes b).role ≡ false)

@@ -4,7 +4,7 @@ use Rattle.std.proofs.lemmas.Bool.{cases_eq}
 use Rattle.nsi_primitive.specs.declared.entry.Entry.{Entry}
 use Rattle.nsi_primitive.specs.declared.entry.Input.{Input}
 use Rattle.nsi_primitive.specs.declared.message.Message.{Message}
-use Rattle.agent_state.specs.State.{AgentState, blank_agent}
+use Rattle.agent_state.specs.State.{blank_agent}
 use Rattle.nsi_agent.specs.Homes.{Home}
 use Rattle.nsi_agent.specs.Steps.{after}
 use Rattle.nsi_agent.specs.Told.{Told, told}
@@ -39,9 +39,9 @@ CameTo homes journal z e = (m : Message) → e.input ≡ Input.Got m → IsSent 
 
 module _ (homes : Homes) (a b : ℕ) (apart : b ≡ a → ⊥) (P : Told → Told → Type 0) (first : P (record { state = blank_agent; out = [] }) (record { state = blank_agent; out = [] }))
     (by_first : (journal : ℕ → List Entry) → IsGrown homes journal → (e : Entry) → CameTo homes journal a e → P (told (homes a) (journal a)) (told (homes b) (journal b)) →
-        P (told_then (homes a) (told (homes a) (journal a)) e) (told (homes b) (journal b)))
+    P (told_then (homes a) (told (homes a) (journal a)) e) (told (homes b) (journal b)))
     (by_second : (journal : ℕ → List Entry) → IsGrown homes journal → (e : Entry) → CameTo homes journal b e → P (told (homes a) (journal a)) (told (homes b) (journal b)) →
-        P (told (homes a) (journal a)) (told_then (homes b) (told (homes b) (journal b)) e)) where
+    P (told (homes a) (journal a)) (told_then (homes b) (told (homes b) (journal b)) e)) where
   -- by entries of any agent
   pub grown_by : (journal : ℕ → List Entry) → IsGrown homes journal → P (told (homes a) (journal a)) (told (homes b) (journal b))
   grown_by journal (begins _ none) =
@@ -79,9 +79,9 @@ pub record IsStage (homes : Homes) (z : ℕ) (e : Entry) (journal more : ℕ →
 
 module _ (homes : Homes) (a b : ℕ) (apart : b ≡ a → ⊥) (P : Told → Told → Type 0) (first : P (record { state = blank_agent; out = [] }) (record { state = blank_agent; out = [] }))
     (by_first : (journal more : ℕ → List Entry) (e : Entry) → IsStage homes a e journal more → P (told (homes a) (journal a)) (told (homes b) (journal b)) →
-        P (told_then (homes a) (told (homes a) (journal a)) e) (told (homes b) (journal b)))
+    P (told_then (homes a) (told (homes a) (journal a)) e) (told (homes b) (journal b)))
     (by_second : (journal more : ℕ → List Entry) (e : Entry) → IsStage homes b e journal more → P (told (homes a) (journal a)) (told (homes b) (journal b)) →
-        P (told (homes a) (journal a)) (told_then (homes b) (told (homes b) (journal b)) e)) where
+    P (told (homes a) (journal a)) (told_then (homes b) (told (homes b) (journal b)) e)) where
   pub staged_by : (journal : ℕ → List Entry) → IsGrown homes journal → P (told (homes a) (journal a)) (told (homes b) (journal b))
   staged_by journal (begins _ none) =
       subst (λ (x : Told). P x (told (homes b) (journal b))) (sym (ap (told (homes a)) (none a) ∙ told_none (homes a)))

@@ -14,22 +14,21 @@ use Rattle.nsi_primitive.specs.declared.message.Criteria.{Criteria}
 use Rattle.nsi_primitive.specs.declared.message.Message.{Message}
 use Rattle.nsi_primitive.specs.declared.message.ReserveRequest.{ReserveRequest}
 use Rattle.nsi_primitive.specs.declared.message.Service.{Service}
-use Rattle.record_index.proofs.Members.{nothing_in}
 use Rattle.connection_record.specs.declared.record.Record.{Record}
 use Rattle.connection_record.specs.Applied.{is_terminating}
 use Rattle.child_connection.specs.declared.state.Sent.{Sent}
 use Rattle.child_connection.specs.declared.state.Taken.{Taken}
-use Rattle.child_connection.specs.Asks.{asks, request_about, reserve_for, to_child}
+use Rattle.child_connection.specs.Asks.{asks, reserve_for, to_child}
 use Rattle.child_connection.specs.Hearing.{heard_if, refused, is_reserving_or_held, hears, hear, hear_from}
 use Rattle.child_connection.specs.Holding.{teaches}
 use Rattle.child_connection.specs.Laws.{IsSamePlace}
-use Rattle.child_connection.specs.Views.{ChildConnection, new_view, sent, open_request, is_id, is_open_of, is_kind}
+use Rattle.child_connection.specs.Views.{ChildConnection, sent, open_request, is_id, is_open_of, is_kind}
 use Rattle.child_connection.proofs.Places.{asks_known, asks_place, hear_place}
 use Rattle.child_connection.proofs.Reservations.{request_stays, attempt_asked}
 use Rattle.agent_state.specs.declared.parent.Leg.{Leg}
 use Rattle.agent_state.specs.State.{AgentState, record_at, children_at, blank_agent}
 use Rattle.aggregator_agent.specs.declared.agent.Agent.{Agent}
-use Rattle.aggregator_agent.specs.Asking.{Turn, Asked, asked_view, request_of, each, if_free, if_apart, service_for, reserve_if, request_if, may_abort, passed_on, pass_one, pass_each, view_of, views_of, with_path}
+use Rattle.aggregator_agent.specs.Asking.{asked_view, request_of, if_free, if_apart, service_for, reserve_if, request_if, may_abort, passed_on, pass_one, pass_each, view_of, views_of, with_path}
 use Rattle.aggregator_agent.specs.Setting.{Setting}
 use Rattle.aggregator_agent.specs.Settling.{settle}
 use Rattle.aggregator_agent.specs.Turns.{takes, tell_joined, pass_on, turn_by_request, request_turn, late_terminate, hear_one, hear_each, hold_ends, force_ends, heard_by, turn_by_answer, answer_turn}
@@ -37,12 +36,12 @@ use Rattle.agent_speech.specs.Laws.{IsEven}
 use Rattle.agent_speech.proofs.Every.{blank_is_even}
 use Rattle.nsi_agent.specs.Homes.{Role, aggregates, Home}
 use Rattle.nsi_agent.specs.Steps.{after, after_as}
-use Rattle.nsi_agent.specs.Told.{Told, told, goes_on}
-use Rattle.circuit_fit.proofs.Passing.{each_all, request_some}
+use Rattle.nsi_agent.specs.Told.{Told, told}
+use Rattle.circuit_fit.proofs.Passing.{each_all}
 use Rattle.circuit_laws.proofs.Induct.{told_then, told_by}
 use Rattle.circuit_laws.proofs.Pointed.{HasPoints}
 use Rattle.circuit_laws.proofs.Roles.{even_from}
-use Rattle.circuit_laws.proofs.Turned.{Turned, AreTurned, IsTurn, entered}
+use Rattle.circuit_laws.proofs.Turned.{Turned, AreTurned, entered}
 
 ---- A view
 

@@ -1,7 +1,7 @@
 -- What an aggregator's own record checks, holds or commits is what the attempts of its views ask for.
 use Rattle.std.proofs.Common.{ℕ, ◌≡◌, ◌∙◌, ◌⊎◌, inl, inr, Bool, true, false, List, [], ◌∷◌, ◌++◌, Contains, Option, Some, None, option_to_list, bytes_eq, get_or, true≢false, refl, sym, ap, subst, arith}
 use Rattle.std.specs.List.{All}
-use Rattle.std.proofs.lemmas.List.Elements.{All-nil, All-weaker, All-map, Contains-append_left, Contains-append_right}
+use Rattle.std.proofs.lemmas.List.Elements.{All-nil, All-weaker, All-map}
 use Rattle.nsi_primitive.specs.Ids.{id_of}
 use Rattle.nsi_primitive.specs.Messages.{kind_of}
 use Rattle.nsi_primitive.specs.declared.entry.Input.{Input}
@@ -31,18 +31,17 @@ use Rattle.agent_state.specs.declared.parent.Leg.{Leg}
 use Rattle.agent_state.specs.State.{name_or}
 use Rattle.aggregator_agent.specs.declared.agent.Agent.{Agent}
 use Rattle.aggregator_agent.specs.Asking.{Turn, asked_view, request_of, each, service_for, reserve_if, request_if, may_abort, passed_on, pass_one, view_of, views_of, with_path}
-use Rattle.aggregator_agent.specs.Setting.{Setting}
 use Rattle.aggregator_agent.specs.Turns.{takes, request_turn, late_terminate, hear_one, answer_turn}
 use Rattle.circuit_fit.specs.Fits.{pending_of, IsFitting, Fits}
 use Rattle.circuit_fit.proofs.Owning.{IsAsBefore}
 use Rattle.circuit_fit.proofs.Passing.{each_all}
 use Rattle.circuit_link.proofs.Aggregators.{From, request_from, answer_from}
 use Rattle.circuit_laws.specs.Backed.{AsksFor}
-use Rattle.circuit_laws.proofs.Attempts.{KeepsAttempt, course_keeps, TakesAttempt, request_takes}
+use Rattle.circuit_laws.proofs.Attempts.{course_keeps, request_takes}
 use Rattle.circuit_laws.proofs.Learnt.{IsReserved, reserved_more, asked_place, answer_views, request_views}
 use Rattle.circuit_laws.proofs.Tried.{is_busy, course_busy, taken_busy}
 use Rattle.circuit_laws.proofs.Trying.{view_attempt, unmixed}
-use Rattle.circuit_laws.proofs.Turned.{Turned, AreTurned}
+use Rattle.circuit_laws.proofs.Turned.{Turned}
 
 -- a reserve asks for these criteria
 pub record Means (k : Criteria) (q : ReserveRequest) : Type 0 where

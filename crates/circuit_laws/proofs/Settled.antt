@@ -13,14 +13,13 @@ use Rattle.nsi_primitive.specs.declared.plane.Plane.{Plane}
 use Rattle.nsi_primitive.specs.declared.state.Lsm.{Lsm}
 use Rattle.nsi_primitive.specs.declared.state.Rsm.{Rsm}
 use Rattle.nsi_primitive.specs.declared.state.Side.{Side}
-use Rattle.dataplane_state.specs.Plane.{announces}
 use Rattle.reserve_machine.specs.Table.{step as reserve_step}
 use Rattle.connection_record.specs.declared.life.LifecycleMove.{LifecycleMove}
 use Rattle.connection_record.specs.declared.moves.Origin.{Origin}
 use Rattle.connection_record.specs.declared.moves.ReservationMove.{ReservationMove}
 use Rattle.connection_record.specs.declared.record.Record.{Record}
 use Rattle.connection_record.specs.Applied.{reservation_closing, provision_closing, closes, tells_plane}
-use Rattle.connection_record.specs.Lives.{provisions_if, lives_if}
+use Rattle.connection_record.specs.Lives.{provisions_if}
 use Rattle.connection_record.specs.Moves.{event_of, reserves, reserves_if, is_live}
 use Rattle.connection_record.specs.Replies.{then_moves, plain}
 use Rattle.child_connection.specs.declared.state.Sent.{Sent}
@@ -28,7 +27,7 @@ use Rattle.child_connection.specs.Views.{ChildConnection, open_request}
 use Rattle.aggregator_agent.specs.declared.agent.Agent.{Agent}
 use Rattle.aggregator_agent.specs.Asking.{Turn}
 use Rattle.aggregator_agent.specs.Settling.{is_waiting, is_quiet, has_error, done_or_mixed, reservation_verdict, reservation_due, is_there, settles_reservation, settles_provision, provision_due, closes_unless, settles, settle}
-use Rattle.aggregator_agent.specs.Turns.{joined_of, tell_joined, pass_on, takes, turn_by_request, request_turn, loses, breaks, hold_end_by, force_by, hold_ends, force_ends, heard_by, turn_by_answer, answer_turn}
+use Rattle.aggregator_agent.specs.Turns.{tell_joined, pass_on, takes, turn_by_request, request_turn, loses, breaks, hold_end_by, force_by, hold_ends, force_ends, heard_by, turn_by_answer, answer_turn}
 use Rattle.circuit_fit.proofs.Owning.{IsAsBefore, as_then, provisions_if_as, lives_as, lives_if_as, plane_as}
 use Rattle.circuit_link.proofs.Acting.{settles_course}
 use Rattle.circuit_link.proofs.Aggregators.{From, request_from, answer_from}

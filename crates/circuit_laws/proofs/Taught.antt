@@ -1,10 +1,10 @@
 -- An answer that teaches an id is of the record that its request was about, or of the one that it opened.
-use Rattle.std.proofs.Common.{ℕ, zero, suc, ◌≡◌, ◌<◌, ◌≤◌, ◌+◌, ◌∙◌, ◌⊎◌, ◌&&◌, ◌==◌, inl, inr, Bool, true, false, not, List, [], ◌∷◌, ◌++◌, length, length-append, get_or, slice_get, slice_set, Contains, Option, Some, None, get_or-set_same, get_or-set_other, eqb-true, eq-eqb, refl, sym, ap, subst, arith}
+use Rattle.std.proofs.Common.{ℕ, zero, suc, ◌≡◌, ◌<◌, ◌≤◌, ◌+◌, ◌∙◌, ◌⊎◌, ◌==◌, inl, inr, Bool, true, false, List, [], ◌∷◌, ◌++◌, length, length-append, Contains, Some, None, get_or-set_same, get_or-set_other, eqb-true, refl, sym, ap, subst, arith}
 use Rattle.std.proofs.lemmas.Bool.{cases_eq}
 use Rattle.std.proofs.lemmas.List.{length-set}
 use Rattle.std.proofs.lemmas.List.Elements.{Contains-append_left, Contains-append_right}
 use Rattle.std.proofs.lemmas.Option.{get_or_from_slice_get, slice_get-get_or, slice_get_within}
-use Rattle.nsi_primitive.specs.Messages.{connection_of, is_request, named_connection}
+use Rattle.nsi_primitive.specs.Messages.{connection_of, is_request}
 use Rattle.nsi_primitive.specs.declared.entry.Entry.{Entry}
 use Rattle.nsi_primitive.specs.declared.entry.Input.{Input}
 use Rattle.nsi_primitive.specs.declared.kind.ErrorName.{ErrorName}
@@ -12,24 +12,23 @@ use Rattle.nsi_primitive.specs.declared.message.Body.{Body}
 use Rattle.nsi_primitive.specs.declared.message.Header.{Header}
 use Rattle.nsi_primitive.specs.declared.message.Message.{Message}
 use Rattle.nsi_primitive.specs.declared.message.ReserveRequest.{ReserveRequest}
-use Rattle.nsi_primitive.specs.declared.message.Service.{Service}
 use Rattle.nsi_primitive.specs.declared.state.Side.{Side}
 use Rattle.record_index.proofs.Members.{nothing_in}
 use Rattle.connection_record.specs.declared.moves.Reply.{Reply}
 use Rattle.connection_record.specs.declared.record.Record.{Record}
-use Rattle.connection_record.specs.Applied.{moves_if, requested}
+use Rattle.connection_record.specs.Applied.{requested}
 use Rattle.connection_record.specs.Courses.{answering, Course, IsAfter}
 use Rattle.connection_record.specs.Later.{IsLater}
 use Rattle.connection_record.specs.Moves.{fresh}
 use Rattle.connection_record.specs.Replies.{Moved, addressed}
-use Rattle.connection_record.specs.Speaking.{tally, is_id, is_answering, number_of, answers_as, misnames, owed, owed_reserve, owed_provision, owed_life, one, Speaks, Names}
+use Rattle.connection_record.specs.Speaking.{tally, number_of, answers_as, misnames, owed, owed_reserve, owed_provision, owed_life, one, Speaks}
 use Rattle.connection_record.proofs.Courses.{course_after}
 use Rattle.connection_record.proofs.Growing.{later_trans, moves_if_later}
 use Rattle.connection_record.proofs.Naming.{moves_if_names}
 use Rattle.connection_record.proofs.Saying.{takes_speaks}
 use Rattle.child_connection.specs.Holding.{teaches}
 use Rattle.agent_state.specs.Entries.{error_reply}
-use Rattle.agent_state.specs.State.{AgentState, no_record, record_at, blank_agent}
+use Rattle.agent_state.specs.State.{AgentState, no_record, record_at}
 use Rattle.run_growth.specs.Growth.{Stay}
 use Rattle.run_growth.proofs.Roles.{entries_grow}
 use Rattle.nsi_agent.specs.Homes.{Home}
@@ -37,7 +36,7 @@ use Rattle.nsi_agent.specs.Steps.{after}
 use Rattle.nsi_agent.specs.Told.{Told, told, name_in}
 use Rattle.nsi_world.specs.Runs.{is_requester}
 use Rattle.circuit_link.specs.Children.{Child, about, header_of}
-use Rattle.circuit_link.specs.Serving.{child_of, TakeCourses, IsTurn, IsNew, IsAbout, IsFirst, Serves, taken_by}
+use Rattle.circuit_link.specs.Serving.{TakeCourses, IsTurn, Serves, taken_by}
 use Rattle.circuit_link.proofs.Abouts.{about_cases, addressed_in, IsSaidUnder, said_under}
 use Rattle.circuit_link.proofs.Answering.{only_one, not_there, IsReplied, replied_of, tally_there, counted_as}
 use Rattle.circuit_link.proofs.Mild.{replied_named}

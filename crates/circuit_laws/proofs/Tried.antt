@@ -1,5 +1,5 @@
 -- What a record checks, holds or commits is the attempt of a view: whatever the child does keeps it so.
-use Rattle.std.proofs.Common.{ℕ, zero, suc, ◌≡◌, ◌<◌, ◌≤◌, ◌+◌, ◌∙◌, ◌⊎◌, inl, inr, Bool, true, false, List, [], ◌∷◌, ◌++◌, ◌==◌, length, length-append, Contains, eq-eqb, Option, Some, None, get_or-set_same, get_or-set_other, refl, sym, ap, subst, arith}
+use Rattle.std.proofs.Common.{ℕ, zero, suc, ◌≡◌, ◌<◌, ◌≤◌, ◌∙◌, ◌⊎◌, inl, inr, Bool, true, false, List, [], ◌∷◌, ◌++◌, ◌==◌, length, length-append, Contains, eq-eqb, Option, Some, None, get_or-set_same, get_or-set_other, refl, sym, ap, subst, arith}
 use Rattle.std.proofs.lemmas.Bool.{cases_eq}
 use Rattle.nsi_primitive.specs.Kinds.{kind_number}
 use Rattle.nsi_primitive.specs.Messages.{kind_of, connection_of, is_request}
@@ -21,14 +21,14 @@ use Rattle.connection_record.specs.Applied.{reserve_move, moves, moves_if, reque
 use Rattle.connection_record.specs.Courses.{IsOwn, IsReservationSame, IsAct, Course, is_reservation_request}
 use Rattle.connection_record.specs.Moves.{event_of, reserves, reserves_if, asked_criteria, fresh}
 use Rattle.connection_record.specs.Replies.{Moved, id_or}
-use Rattle.connection_record.specs.Speaking.{is_of, one, owed, owed_reserve}
+use Rattle.connection_record.specs.Speaking.{owed, owed_reserve}
 use Rattle.connection_record.proofs.Beside.{request_beside}
 use Rattle.connection_record.proofs.Courses.{course_after}
 use Rattle.connection_record.proofs.Growing.{moves_if_later}
 use Rattle.child_connection.specs.Holding.{is_reservation, IsHeeded}
 use Rattle.child_connection.specs.Views.{ChildConnection, sent}
 use Rattle.agent_state.specs.State.{no_record, record_at}
-use Rattle.circuit_link.specs.Children.{Child, goes_on, header_of, side_of, IsFair}
+use Rattle.circuit_link.specs.Children.{Child, header_of, side_of, IsFair}
 use Rattle.circuit_link.specs.Links.{IsAttempt}
 use Rattle.circuit_link.specs.Serving.{IsNew, Serves, taken_by}
 use Rattle.circuit_link.proofs.Abouts.{headers_same}
@@ -39,7 +39,6 @@ use Rattle.circuit_pairs.specs.Pairs.{IsAsked, IsSame, IsPair, IsOnce}
 use Rattle.circuit_pairs.proofs.Refusing.{reserving_asks}
 use Rattle.circuit_pairs.proofs.Serving.{request_kind}
 use Rattle.circuit_laws.proofs.Attempts.{KeepsAttempt, course_keeps}
-use Rattle.circuit_laws.proofs.Views.{one_knows}
 
 ---- A record by itself
 

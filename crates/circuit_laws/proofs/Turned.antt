@@ -11,7 +11,6 @@ use Rattle.nsi_primitive.specs.declared.kind.ErrorName.{ErrorName}
 use Rattle.nsi_primitive.specs.declared.message.Body.{Body}
 use Rattle.nsi_primitive.specs.declared.message.Message.{Message}
 use Rattle.nsi_primitive.specs.declared.message.ReserveRequest.{ReserveRequest}
-use Rattle.nsi_primitive.specs.declared.message.Service.{Service}
 use Rattle.message_retry.specs.Retry.{saw}
 use Rattle.record_index.proofs.Members.{nothing_in}
 use Rattle.connection_record.specs.declared.record.Record.{Record}

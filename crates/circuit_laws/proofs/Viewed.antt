@@ -1,5 +1,5 @@
 -- How a view of an aggregator stands before and after an entry: as it was, or it has heard a message, or a request was passed on to its child.
-use Rattle.std.proofs.Common.{ℕ, zero, suc, ◌≡◌, ◌∙◌, ◌⊎◌, inl, inr, List, [], ◌∷◌, ◌++◌, length, slice_get, Contains, Option, Some, None, option_to_list, refl, sym, ap, subst, arith}
+use Rattle.std.proofs.Common.{ℕ, zero, suc, ◌≡◌, ◌∙◌, ◌⊎◌, inl, inr, List, [], ◌∷◌, slice_get, Contains, Some, None, option_to_list, refl, sym, ap, subst}
 use Rattle.std.proofs.lemmas.List.Elements.{Contains-append_left, Contains-append_right}
 use Rattle.std.proofs.lemmas.Option.{get_or_from_slice_get, slice_get_within}
 use Rattle.nsi_primitive.specs.Ids.{id_of}
@@ -15,11 +15,11 @@ use Rattle.child_connection.specs.Hearing.{hear}
 use Rattle.child_connection.specs.Views.{ChildConnection}
 use Rattle.agent_state.specs.declared.parent.Leg.{Leg}
 use Rattle.aggregator_agent.specs.declared.agent.Agent.{Agent}
-use Rattle.aggregator_agent.specs.Asking.{Turn, Asked, asked_view, request_of, each, passed_on, pass_one, view_of, views_of, with_path}
+use Rattle.aggregator_agent.specs.Asking.{Asked, asked_view, request_of, each, passed_on, pass_one, view_of, views_of, with_path}
 use Rattle.aggregator_agent.specs.Turns.{takes, request_turn, late_terminate, hear_one, answer_turn}
 use Rattle.circuit_fit.proofs.Owning.{IsAsBefore}
 use Rattle.circuit_laws.proofs.Learnt.{answer_views, request_views, asked_connection}
-use Rattle.circuit_laws.proofs.Turned.{Turned, IsTurn}
+use Rattle.circuit_laws.proofs.Turned.{Turned}
 
 ---- In order
 
@@ -95,7 +95,7 @@ view_turned agent input own own' xs ys more (Turned.by_request m now next legs g
       (pass_one m agent r n x).child,
       ap (λ (us : List ChildConnection). slice_get us i) (turn.views ∙ w.0) ∙ there,
       ViewTurned.by_request m now next (id_of agent.number n) zs got fine turn.own
-      (view_there (request_turn agent now m own zs next).children i (pass_one m agent r n x).child (ap (λ (us : List ChildConnection). slice_get us i) w.0 ∙ there)) refl (λ z j. subst (λ (us : List Message). Contains us z) (sym (turn.asked ∙ w.1)) (said z j)),
+          (view_there (request_turn agent now m own zs next).children i (pass_one m agent r n x).child (ap (λ (us : List ChildConnection). slice_get us i) w.0 ∙ there)) refl (λ z j. subst (λ (us : List Message). Contains us z) (sym (turn.asked ∙ w.1)) (said z j)),
     )
 view_turned agent input own own' xs ys more (Turned.by_opening m q now next id source dest legs got body same none turn) i x e =
     absurd (let z : None ≡ Some x = sym (ap (λ (zs : List ChildConnection). slice_get zs i) none) ∙ e in cc)
