@@ -1,11 +1,11 @@
 -- The steps of a mark keep its rule.
 use Rattle.std.proofs.Common.{◌≡◌, ◌≢◌, ℕ, ◌≤◌, max, List, [], ◌∷◌, ◌++◌, length, set, slice_index, refl, sym, subst, ⊎_elim, le_refl, le_trans, arith}
-use mathlib.Core.Option.{some, some-ne-none}
+use mathlib.Core.Option.{some}
 use lib.ListN.{get_elem?}
 use Rattle.atomic_table.specs.Table.{Me, Allows, keeps}
 use Rattle.atomic_table.proofs.Lists.{at_set, at_snoc}
-use Rattle.durable_mark.specs.Rising.{Word, IsAtMost}
-use Rattle.durable_mark.specs.Laws.{NewIsAtMost, LoadsKeep, RaisesKeep, SplitsKeep, JoinsKeep}
+use Rattle.durable_mark.specs.Rising.{MarkState, IsAtMost}
+use Rattle.durable_mark.specs.Laws.{LoadsKeep, RaisesKeep, SplitsKeep, JoinsKeep}
 
 -- none of these has seen more
 abbrev Below : ℕ → List ℕ → Type 0
@@ -25,9 +25,6 @@ below_snoc top new views below le j u e =
 below_more : (top more : ℕ) (views : List ℕ) → Below top views → top ≤ more → Below more views
 below_more top more views below le j u e = le_trans (below j u e) le
 
-below_none : (top : ℕ) → Below top []
-below_none top j u e = absurd (some-ne-none u (sym e))
-
 set_one : (ws : List ℕ) (n : ℕ) → length ws ≡ 1 → slice_index (set ws 0 n) 0 ≡ n
 set_one [] n one = absurd (omega arith)
 set_one (w ∷ ws) n one = refl
@@ -37,7 +34,7 @@ length_one [] n one = one
 length_one (w ∷ ws) n one = one
 
 -- the word becomes a number that is no less, and the seat has seen that
-raised : (s : Word) (seat top : ℕ) → IsAtMost s → slice_index s.words 0 ≤ top
+raised : (s : MarkState) (seat top : ℕ) → IsAtMost s → slice_index s.words 0 ≤ top
     → IsAtMost record { words = set s.words 0 top; homes = s.homes; views = set s.views seat top }
 raised s seat top h up = record {
   one = length_one s.words top h.one;
@@ -51,9 +48,6 @@ rises : (slots seat : ℕ) (me : Me (Unit {0}) ℕ) (f : ℕ → ℕ) → ((n : 
 rises slots seat me f up s h homes at fits =
     let top : ℕ = f (slice_index s.words 0) in
     (top, keeps, tt, raised s seat top h (up (slice_index s.words 0)), (h.most seat me.0 at, refl, refl))
-
-pub begins : NewIsAtMost
-begins = record { one = refl; most = below_snoc 0 0 [] (below_none 0) (le_refl 0) }
 
 pub loads : LoadsKeep
 loads slots seat me = rises slots seat me (λ n. n) le_refl
@@ -72,9 +66,9 @@ joins seat seen other known s h at apart there =
     let top : ℕ = slice_index s.words 0 in
     let mine : seen ≤ top = h.most seat seen at in
     let theirs : known ≤ top = ⊎_elim
-        (λ (t : (other ≡ seat) × (max seen known ≡ known)). absurd (apart t.0))
-        (λ (t : (other ≢ seat) × (get_elem? s.views other ≡ some known)). h.most other known t.1)
-        (at_set s.views seat other (max seen known) known there) in
+    (λ (t : (other ≡ seat) × (max seen known ≡ known)). absurd (apart t.0))
+    (λ (t : (other ≢ seat) × (get_elem? s.views other ≡ some known)). h.most other known t.1)
+    (at_set s.views seat other (max seen known) known there) in
     record {
       one = h.one;
       most = below_set top other 0 (set s.views seat (max seen known)) (below_set top seat (max seen known) s.views h.most (omega arith)) (omega arith);

@@ -1,5 +1,5 @@
 -- A number that only rises, and what its seats know of it.
-use Rattle.std.specs.Prelude.{◌≡◌, ℕ, ◌≤◌, max, List, slice_index, length}
+use Rattle.std.specs.Prelude.{◌≡◌, ℕ, ◌≤◌, max, slice_index, length}
 use mathlib.Core.Option.{some}
 use lib.ListN.{get_elem?}
 use Rattle.atomic_table.specs.Table.{State, Me, Step}
@@ -15,11 +15,11 @@ pub record Known : Type 0 where
   pub seen : ℕ
 
 -- the one word of a mark, and what each of its seats has seen
-abbrev pub Word : Type 0
-Word = State (Unit {0}) ℕ
+abbrev pub MarkState : Type 0
+MarkState = State (Unit {0}) ℕ
 
 -- there is one word, and no seat has seen more
-pub record IsAtMost (s : Word) : Type 0 where
+pub record IsAtMost (s : MarkState) : Type 0 where
   pub one : length s.words ≡ 1
   pub most : (seat seen : ℕ) → get_elem? s.views seat ≡ some seen → seen ≤ slice_index s.words 0
 

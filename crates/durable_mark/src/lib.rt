@@ -96,3 +96,6 @@ impl Mark {
         self.table.shared.load::<Sees>(&mut seat.seat, 0)
     }
 }
+
+#[cfg(test)]
+mod tests;

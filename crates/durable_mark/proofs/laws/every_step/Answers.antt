@@ -1,4 +1,4 @@
-use Rattle.durable_mark.proofs.Steps.{begins, loads, raises, splits, joins}
+use Rattle.durable_mark.proofs.Steps.{loads, raises, splits, joins}
 use Rattle.durable_mark.proofs.laws.every_step.Goals as goal
 
 pub returns-clause-load : goal.returns-clause-load
