@@ -1,4 +1,4 @@
--- The laws of a mark: it begins by its rule, and each of the four kinds of step keeps the rule, from every state that meets it.
+-- The laws of a mark: a new one meets its rule, and each of the four kinds of step keeps it, from every state that does.
 use Rattle.std.specs.Prelude.{ℕ, max, [], ◌∷◌}
 use mathlib.Core.Option.{none}
 use Rattle.atomic_table.specs.Table.{Me, Allows, Splits, Joins, opening, step}
@@ -10,11 +10,13 @@ NewIsAtMost = IsAtMost (opening (0 ∷ []) [] 0)
 
 -- a load leaves the word, which becomes what the seat has seen
 abbrev pub LoadsKeep : Type 0
-LoadsKeep = (slots seat : ℕ) (me : Me (Unit {0}) ℕ) → Allows IsAtMost slots seat me 0 (λ word. word) (Saw (step slots 0 0 0 none) me)
+LoadsKeep = (slots seat : ℕ) (me : Me (Unit {0}) ℕ)
+    → Allows IsAtMost slots seat me 0 (λ word. word) (Saw (step slots 0 0 0 none) me)
 
 -- a fetch_max makes the larger of the word and of what the seat has seen
 abbrev pub RaisesKeep : Type 0
-RaisesKeep = (slots seat to : ℕ) (me : Me (Unit {0}) ℕ) → Allows IsAtMost slots seat me 0 (λ word. max word to) (Raised (step slots 0 to 0 none) me)
+RaisesKeep = (slots seat to : ℕ) (me : Me (Unit {0}) ℕ)
+    → Allows IsAtMost slots seat me 0 (λ word. max word to) (Raised (step slots 0 to 0 none) me)
 
 -- a seat that is split off has seen what the other one has
 abbrev pub SplitsKeep : Type 0
