@@ -8,12 +8,12 @@ use Rattle.durable_mark.specs.Rising.{IsAtMost, Saw, Raised}
 abbrev pub NewIsAtMost : Type 0
 NewIsAtMost = IsAtMost (opening (0 ∷ []) [] 0)
 
--- a load leaves the word, which becomes what the seat has seen
+-- a load: the word stays, and is what the seat has seen
 abbrev pub LoadsKeep : Type 0
 LoadsKeep = (slots seat : ℕ) (me : Me (Unit {0}) ℕ)
     → Allows IsAtMost slots seat me 0 (λ word. word) (Saw (step slots 0 0 0 none) me)
 
--- a fetch_max makes the larger of the word and of what the seat has seen
+-- a fetch_max: the word, and what the seat has seen, become the larger of the word and the number
 abbrev pub RaisesKeep : Type 0
 RaisesKeep = (slots seat to : ℕ) (me : Me (Unit {0}) ℕ)
     → Allows IsAtMost slots seat me 0 (λ word. max word to) (Raised (step slots 0 to 0 none) me)
