@@ -1,0 +1,25 @@
+-- What is true of events and of their lines.
+use Rattle.std.specs.Prelude.{◌≡◌, ◌<◌, ℕ, List, length, Some}
+use Rattle.nsi_primitive.specs.Ranges.{IsName, IsRangedEvent}
+use Rattle.nsi_primitive.specs.declared.entry.Event.{Event}
+use Rattle.stp_topology.specs.Network.{agent_of, name_of}
+use Rattle.stp_topology.specs.declared.network.Network.{Network}
+use Rattle.trace_text.specs.Lines.{HasLine, line_of}
+use Rattle.trace_reader.specs.Moments.{IsOfMoment}
+
+-- each agent has a name, by which it is found
+pub record HasNames (t : Network) : Type 0 where
+  pub named : (a : ℕ) → a < length t.agents → IsName (name_of t a)
+  pub found : (a : ℕ) → a < length t.agents → agent_of t (name_of t a) ≡ Some a
+
+-- what may stand in a trace at a moment: it has a line, is of the moment, and its numbers, names and texts are such
+pub record MayStand (t : Network) (seconds : List ℕ) (asks : ℕ) (e : Event) : Type 0 where
+  pub has_line : HasLine t e
+  pub ranged : IsRangedEvent e
+  pub of_moment : IsOfMoment seconds asks e
+
+-- two events of one moment that have one line are one event
+abbrev pub LinesAreApart : Type 0
+LinesAreApart =
+    (t : Network) (seconds : List ℕ) (asks : ℕ) (e f : Event) → HasNames t → MayStand t seconds asks e → MayStand t seconds asks f
+    → line_of t e ≡ line_of t f → e ≡ f

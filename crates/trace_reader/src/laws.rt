@@ -1,0 +1,29 @@
+//! Laws of events and their lines.
+
+ghost use Rattle.trace_reader.specs.Laws.{HasNames, LinesAreApart};
+
+use ask_text::laws::asks_are_read_again;
+use json_primitives::laws::lines_are_read_again;
+use nsi_base::AgentNo;
+use stp_topology::Topology;
+
+/// It looks at the name of each agent, and tells that it is one, by which the agent is found.
+pub fn names_are_told(topology: &Topology)
+    ensures { HasNames topology.now }
+{
+    topology.laws();
+    for place in 0..topology.agents() {
+        let Some(agent) = AgentNo::new(place as u16) else {
+            unreachable!()
+        };
+        let _name = topology.name(agent).bytes();
+    }
+}
+
+/// Two events of one moment that have one line are one event.
+pub fn lines_are_apart()
+    ensures { LinesAreApart }
+{
+    asks_are_read_again();
+    lines_are_read_again();
+}
