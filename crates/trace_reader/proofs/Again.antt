@@ -31,16 +31,10 @@ use Rattle.json_primitives.specs.Spelling.{spelling, parcel_spelling}
 use Rattle.stp_topology.specs.Network.{name_of}
 use Rattle.stp_topology.specs.declared.network.Network.{Network}
 use Rattle.trace_text.specs.Lines.{HasLine, answer_text, input_verb, input_words, line_of, verb_of, what_words}
-use Rattle.trace_reader.specs.Laws.{HasNames, MayStand}
+use Rattle.trace_reader.specs.Laws.{AreTextsReadAgain, HasNames, MayStand}
 use Rattle.trace_reader.specs.Moments.{HappensNow, IsTakenNow, IsOfMoment, IsEventOf}
 use Rattle.trace_reader.specs.Reading.{what_is_read, if_message, if_ack, taken, outstanding_in, answer_in, message_in, ack_in, asked_in, got_in, acked_in, worked_in, forced_in, ticked_in, count_in, what_in, event_in}
 use Rattle.trace_reader.proofs.Cuts.{word_cut, answer_is_word, verb_is_word}
-
--- the laws of texts
-pub record AreTextsReadAgain : Type 0 where
-  pub asks : (a : Ask) → IsSpellableAsk a → ask_of (ask_text a) ≡ Some a
-  pub messages : (m : Message) → IsSpellable m → object_of (spelling m) ≡ Ok (Parcel.Message m)
-  pub acks : (i : Identity) → IsRangedIdentity i → object_of (parcel_spelling (Parcel.Ack i)) ≡ Ok (Parcel.Ack i)
 
 ---- What stands behind an agent's name
 
@@ -171,7 +165,7 @@ event_again texts t seconds asks line e names h r =
     let same : line ≡ front_of t e = append_cancel_right line (front_of t e) (10 ∷ []) (sym h.printed ∙ line_is_front t e) in
     ap (event_in t seconds asks) same ∙ front_again texts t seconds asks e names h.has_line h.of_moment r
 
-same_some : {X : Type 0} (x y : X) (o : Option X) → o ≡ Some x → o ≡ Some y → x ≡ y
+pub same_some : {X : Type 0} (x y : X) (o : Option X) → o ≡ Some x → o ≡ Some y → x ≡ y
 same_some x y o h g = cc
 
 -- two events of one moment that have one line

@@ -1,11 +1,25 @@
 -- What is true of events and of their lines.
-use Rattle.std.specs.Prelude.{◌≡◌, ◌<◌, ℕ, List, length, Some}
-use Rattle.nsi_primitive.specs.Ranges.{IsName, IsRangedEvent}
+use Rattle.std.specs.Prelude.{◌≡◌, ◌<◌, ℕ, List, length, Some, Ok}
+use Rattle.nsi_primitive.specs.Ranges.{IsName, IsRangedEvent, IsRangedIdentity, IsSpellable, IsSpellableAsk}
+use Rattle.nsi_primitive.specs.declared.ask.Ask.{Ask}
 use Rattle.nsi_primitive.specs.declared.entry.Event.{Event}
+use Rattle.nsi_primitive.specs.declared.message.Identity.{Identity}
+use Rattle.nsi_primitive.specs.declared.message.Message.{Message}
+use Rattle.nsi_primitive.specs.declared.message.Parcel.{Parcel}
+use Rattle.ask_text.specs.Asks.{ask_text}
+use Rattle.ask_text.specs.Reading.{ask_of}
+use Rattle.json_primitives.specs.Lines.{object_of}
+use Rattle.json_primitives.specs.Spelling.{spelling, parcel_spelling}
 use Rattle.stp_topology.specs.Network.{agent_of, name_of}
 use Rattle.stp_topology.specs.declared.network.Network.{Network}
 use Rattle.trace_text.specs.Lines.{HasLine, line_of}
 use Rattle.trace_reader.specs.Moments.{IsOfMoment}
+
+-- the texts of asks, messages and acknowledgements are read as what they are written for
+pub record AreTextsReadAgain : Type 0 where
+  pub asks : (a : Ask) → IsSpellableAsk a → ask_of (ask_text a) ≡ Some a
+  pub messages : (m : Message) → IsSpellable m → object_of (spelling m) ≡ Ok (Parcel.Message m)
+  pub acks : (i : Identity) → IsRangedIdentity i → object_of (parcel_spelling (Parcel.Ack i)) ≡ Ok (Parcel.Ack i)
 
 -- each agent has a name, by which it is found
 pub record HasNames (t : Network) : Type 0 where

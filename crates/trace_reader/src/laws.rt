@@ -1,6 +1,6 @@
 //! Laws of events and their lines.
 
-ghost use Rattle.trace_reader.specs.Laws.{HasNames, LinesAreApart};
+ghost use Rattle.trace_reader.specs.Laws.{AreTextsReadAgain, HasNames, LinesAreApart};
 
 use ask_text::laws::asks_are_read_again;
 use json_primitives::laws::lines_are_read_again;
@@ -23,6 +23,13 @@ pub fn names_are_told(topology: &Topology)
 /// Two events of one moment that have one line are one event.
 pub fn lines_are_apart()
     ensures { LinesAreApart }
+{
+    texts_are_read_again();
+}
+
+/// The texts of asks, messages and acknowledgements are read as what they are written for.
+pub(crate) fn texts_are_read_again()
+    ensures { AreTextsReadAgain }
 {
     asks_are_read_again();
     lines_are_read_again();

@@ -12,10 +12,8 @@ ghost use Rattle.trace_reader.specs.Reading.{what_in, event_in};
 
 use crate::fault::EventFault;
 use crate::inputs::{acked_in, asked_in, forced_in, got_in, ticked_in, worked_in};
-use crate::laws::names_are_told;
+use crate::laws::{names_are_told, texts_are_read_again};
 use crate::words::{count_in, cut_word};
-use ask_text::laws::asks_are_read_again;
-use json_primitives::laws::lines_are_read_again;
 use nsi_base::Second;
 use nsi_primitive::{Event, Happening};
 use std::alloc::Global;
@@ -40,8 +38,7 @@ pub fn read_event(
         → IsEventOf topology.now now.now asks line.now e → ⊥ }
 {
     names_are_told(topology);
-    asks_are_read_again();
-    lines_are_read_again();
+    texts_are_read_again();
     let event = event_in(alloc, topology, line, now, asks)?;
     let print = print_event(alloc, topology, &event)?;
     if is_line(&print, line) {
