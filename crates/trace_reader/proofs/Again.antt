@@ -1,5 +1,5 @@
 -- What is printed is read.
-use Rattle.std.proofs.Common.{◌≡◌, ℕ, ◌^◌, ◌<◌, ◌≤◌, List, [], ◌∷◌, ◌++◌, true, false, Option, Some, None, option_map, Ok, decimal, length, get_or, refl, sym, ap, ◌∙◌, append_assoc, arith}
+use Rattle.std.proofs.Common.{◌≡◌, ℕ, ◌^◌, ◌<◌, ◌≤◌, List, [], ◌∷◌, ◌++◌, true, false, Option, Some, None, option_map, Ok, decimal, length, refl, sym, ap, ◌∙◌, append_assoc, arith}
 use Rattle.std.specs.Prelude.{IfSome}
 use Rattle.std.proofs.lemmas.Bool.{false≢true}
 use Rattle.std.proofs.lemmas.List.{append-nil, append_cancel_right}
@@ -39,7 +39,7 @@ use Rattle.trace_reader.proofs.Cuts.{word_cut, answer_is_word, verb_is_word}
 ---- What stands behind an agent's name
 
 -- words with a space between them
-abbrev joined : List (List ℕ) → List ℕ
+abbrev pub joined : List (List ℕ) → List ℕ
 joined [] = []
 joined (word ∷ words) = word ++ behind words
 
@@ -140,7 +140,7 @@ what_behind (Happening.Sync count) = refl
 what_behind (Happening.Restart count) = refl
 
 -- the line of an event, without its line feed
-abbrev front_of : Network → Event → List ℕ
+abbrev pub front_of : Network → Event → List ℕ
 front_of t e = verb_of e.what ++ 32 ∷ (name_of t e.agent ++ 32 ∷ joined (what_words e.what))
 
 pub line_is_front : (t : Network) (e : Event) → line_of t e ≡ front_of t e ++ 10 ∷ []
@@ -149,17 +149,17 @@ line_is_front t e =
     ap (λ x. verb_of e.what ++ (32 ∷ (name_of t e.agent ++ x) ++ 10 ∷ [])) (what_behind e.what)
     ∙ sym (append_assoc (verb_of e.what) (32 ∷ (name_of t e.agent ++ 32 ∷ joined (what_words e.what))) (10 ∷ []))
 
-front_again : AreTextsReadAgain → (t : Network) (seconds : List ℕ) (asks : ℕ) (e : Event) → HasNames t → HasLine t e → IsOfMoment seconds asks e → IsRangedEvent e
+front_again : AreTextsReadAgain → (t : Network) (seconds : ℕ → ℕ) (asks : ℕ) (e : Event) → HasNames t → HasLine t e → IsOfMoment seconds asks e → IsRangedEvent e
     → event_in t seconds asks (front_of t e) ≡ Some e
 unfolding event_in
 front_again texts t seconds asks e names l m r =
     rw (word_cut (verb_of e.what) (name_of t e.agent ++ 32 ∷ joined (what_words e.what)) (verb_is_word e.what),
         word_cut (name_of t e.agent) (joined (what_words e.what)) (word_from_name Space (name_of t e.agent) (names.named e.agent l.agent)),
         names.found e.agent l.agent,
-        what_again texts (get_or seconds e.agent 0) asks e.what m l.printable r.what) refl
+        what_again texts (seconds e.agent) asks e.what m l.printable r.what) refl
 
 -- the print of an event is read as it
-pub event_again : AreTextsReadAgain → (t : Network) (seconds : List ℕ) (asks : ℕ) (line : List ℕ) (e : Event) → HasNames t → IsEventOf t seconds asks line e → IsRangedEvent e
+pub event_again : AreTextsReadAgain → (t : Network) (seconds : ℕ → ℕ) (asks : ℕ) (line : List ℕ) (e : Event) → HasNames t → IsEventOf t seconds asks line e → IsRangedEvent e
     → event_in t seconds asks line ≡ Some e
 event_again texts t seconds asks line e names h r =
     let same : line ≡ front_of t e = append_cancel_right line (front_of t e) (10 ∷ []) (sym h.printed ∙ line_is_front t e) in
@@ -169,7 +169,7 @@ pub same_some : {X : Type 0} (x y : X) (o : Option X) → o ≡ Some x → o ≡
 same_some x y o h g = cc
 
 -- two events of one moment that have one line
-pub apart : AreTextsReadAgain → (t : Network) (seconds : List ℕ) (asks : ℕ) (e f : Event) → HasNames t → MayStand t seconds asks e → MayStand t seconds asks f → line_of t e ≡ line_of t f → e ≡ f
+pub apart : AreTextsReadAgain → (t : Network) (seconds : ℕ → ℕ) (asks : ℕ) (e f : Event) → HasNames t → MayStand t seconds asks e → MayStand t seconds asks f → line_of t e ≡ line_of t f → e ≡ f
 apart texts t seconds asks e f names he hf same =
     let fronts : front_of t e ≡ front_of t f = append_cancel_right (front_of t e) (front_of t f) (10 ∷ []) (sym (line_is_front t e) ∙ (same ∙ line_is_front t f)) in
     same_some e f (event_in t seconds asks (front_of t e)) (front_again texts t seconds asks e names he.has_line he.of_moment he.ranged)

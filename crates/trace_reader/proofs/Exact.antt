@@ -41,15 +41,15 @@ other_end text front line last e f =
 pub none_read : (r : Result Event EventFault) (given fault : EventFault) (read : Option Event) → r ≡ Err given → given ≡ fault → Refuses fault read → r ≡ Err NotAnEvent → read ≡ None
 none_read r given fault read e f h n = let same : fault ≡ NotAnEvent = cc in subst (λ x. Refuses x read) same h
 
-pub nothing_printed : AreTextsReadAgain → (t : Network) (seconds : List ℕ) (asks : ℕ) (line : List ℕ) → HasNames t → event_in t seconds asks line ≡ None
+pub nothing_printed : AreTextsReadAgain → (t : Network) (seconds : ℕ → ℕ) (asks : ℕ) (line : List ℕ) → HasNames t → event_in t seconds asks line ≡ None
     → (e : Event) → IsRangedEvent e → IsEventOf t seconds asks line e → ⊥
 nothing_printed texts t seconds asks line names none e r h = let some = event_again texts t seconds asks line e names h r in cc
 
-pub one_printed : AreTextsReadAgain → (t : Network) (seconds : List ℕ) (asks : ℕ) (line : List ℕ) (read : Event) → HasNames t → event_in t seconds asks line ≡ Some read
+pub one_printed : AreTextsReadAgain → (t : Network) (seconds : ℕ → ℕ) (asks : ℕ) (line : List ℕ) (read : Event) → HasNames t → event_in t seconds asks line ≡ Some read
     → (e : Event) → IsRangedEvent e → IsEventOf t seconds asks line e → e ≡ read
 one_printed texts t seconds asks line read names some e r h = same_some e read (event_in t seconds asks line) (event_again texts t seconds asks line e names h r) some
 
-pub other_printed : AreTextsReadAgain → (t : Network) (seconds : List ℕ) (asks : ℕ) (line : List ℕ) (read : Event) → HasNames t → event_in t seconds asks line ≡ Some read
+pub other_printed : AreTextsReadAgain → (t : Network) (seconds : ℕ → ℕ) (asks : ℕ) (line : List ℕ) (read : Event) → HasNames t → event_in t seconds asks line ≡ Some read
     → (text : List ℕ) → text ≡ line_of t read → bytes_eq text (line ++ 10 ∷ []) ≡ false → (e : Event) → IsRangedEvent e → IsEventOf t seconds asks line e → ⊥
 other_printed texts t seconds asks line read names some text p f e r h =
     let same = one_printed texts t seconds asks line read names some e r h in

@@ -1,3 +1,5 @@
 pub mod Cuts
 pub mod Again
 pub mod Exact
+pub mod Clear
+pub mod Runs

@@ -1,5 +1,5 @@
 -- Which event a line is, numbers with leading zeros and other spellings allowed.
-use Rattle.std.specs.Prelude.{ℕ, List, ◌+◌, take, drop, get_or, ◌==◌, nat_eq, codes, if◌then◌else◌, Option, Some, None, option_map, Result, Ok, Err}
+use Rattle.std.specs.Prelude.{ℕ, List, ◌+◌, take, drop, ◌==◌, nat_eq, codes, if◌then◌else◌, Option, Some, None, option_map, Result, Ok, Err}
 use Rattle.std.specs.List.{position_from, starts_with}
 use Rattle.std.specs.Str.{bytes_eq}
 use Rattle.nsi_base.specs.Digits.{number_of}
@@ -119,10 +119,10 @@ what_in verb now asks rest =
 ---- Events
 
 -- the event of a line, at the moment at which the agents have these seconds and so many asks came
-unfoldable pub event_in : Network → (seconds : List ℕ) (asks : ℕ) → List ℕ → Option Event
+unfoldable pub event_in : Network → (seconds : ℕ → ℕ) (asks : ℕ) → List ℕ → Option Event
 event_in t seconds asks line = do
   verb ← cut_word line
   name ← cut_word verb.1
   agent ← agent_of t name.0
-  what ← what_in verb.0 (get_or seconds agent 0) asks name.1
+  what ← what_in verb.0 (seconds agent) asks name.1
   Some (record { agent = agent; what = what })

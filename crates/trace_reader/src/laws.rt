@@ -1,6 +1,6 @@
 //! Laws of events and their lines.
 
-ghost use Rattle.trace_reader.specs.Laws.{AreTextsReadAgain, HasNames, LinesAreApart};
+ghost use Rattle.trace_reader.specs.Laws.{AreTextsReadAgain, HasNames, LinesAreApart, TextsAreApart};
 
 use ask_text::laws::asks_are_read_again;
 use json_primitives::laws::lines_are_read_again;
@@ -23,6 +23,13 @@ pub fn names_are_told(topology: &Topology)
 /// Two events of one moment that have one line are one event.
 pub fn lines_are_apart()
     ensures { LinesAreApart }
+{
+    texts_are_read_again();
+}
+
+/// The text of a run determines its events: two lists of events that go on from one past and have one text are one list.
+pub fn texts_are_apart()
+    ensures { TextsAreApart }
 {
     texts_are_read_again();
 }

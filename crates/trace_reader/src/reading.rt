@@ -7,7 +7,7 @@ ghost use Rattle.nsi_primitive.specs.Ranges.{IsRangedEvent};
 ghost use Rattle.nsi_primitive.specs.declared.entry.Event.{Event};
 ghost use Rattle.trace_text.specs.Lines.{HasLine};
 ghost use Rattle.trace_reader.specs.Faults.{Gives};
-ghost use Rattle.trace_reader.specs.Moments.{HappensNow, IsOfMoment, IsEventOf};
+ghost use Rattle.trace_reader.specs.Moments.{HappensNow, IsOfMoment, IsEventOf, seconds_of};
 ghost use Rattle.trace_reader.specs.Reading.{what_in, event_in};
 
 use crate::fault::EventFault;
@@ -31,11 +31,11 @@ pub fn read_event(
     asks: u32,
 ) -> Result<Event, EventFault>
     requires seconds { length now.now ≡ length topology.now.agents }
-    ensures read { IfOk result (λ e. IsEventOf topology.now now.now asks line.now e) }
+    ensures read { IfOk result (λ e. IsEventOf topology.now (seconds_of now.now) asks line.now e) }
     ensures only { IfOk result (λ read. (e : Event) → IsRangedEvent e
-        → IsEventOf topology.now now.now asks line.now e → e ≡ read) }
+        → IsEventOf topology.now (seconds_of now.now) asks line.now e → e ≡ read) }
     ensures refused { IsErrOf result EventFault.NotAnEvent → (e : Event) → IsRangedEvent e
-        → IsEventOf topology.now now.now asks line.now e → ⊥ }
+        → IsEventOf topology.now (seconds_of now.now) asks line.now e → ⊥ }
 {
     names_are_told(topology);
     texts_are_read_again();
@@ -70,9 +70,9 @@ fn event_in(
     asks: u32,
 ) -> Result<Event, EventFault>
     requires seconds { length now.now ≡ length topology.now.agents }
-    ensures gives { Gives (λ e. e) result (event_in topology.now now.now asks line.now) }
+    ensures gives { Gives (λ e. e) result (event_in topology.now (seconds_of now.now) asks line.now) }
     ensures has_line { IfOk result (HasLine topology.now) }
-    ensures of_moment { IfOk result (IsOfMoment now.now asks) }
+    ensures of_moment { IfOk result (IsOfMoment (seconds_of now.now) asks) }
 {
     let (verb, rest) = cut_word(line)?;
     let (name, rest) = cut_word(rest)?;
