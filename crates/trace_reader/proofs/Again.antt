@@ -1,15 +1,13 @@
 -- What is printed is read.
-use Rattle.std.proofs.Common.{◌≡◌, ℕ, ◌^◌, ◌<◌, ◌≤◌, List, [], ◌∷◌, ◌++◌, true, false, Option, Some, None, option_map, Ok, decimal, length, refl, sym, ap, ◌∙◌, append_assoc, arith}
+use Rattle.std.proofs.Common.{◌≡◌, ℕ, ◌^◌, ◌<◌, ◌≤◌, List, [], ◌∷◌, ◌++◌, Option, Some, None, option_map, decimal, refl, sym, ap, ◌∙◌, append_assoc, arith}
 use Rattle.std.specs.Prelude.{IfSome}
 use Rattle.std.proofs.lemmas.Bool.{false≢true}
 use Rattle.std.proofs.lemmas.List.{append-nil, append_cancel_right}
-use Rattle.nsi_base.specs.Options.{◌>>=◌}
 use Rattle.nsi_base.specs.Range.{greatest_second, greatest_record}
 use Rattle.nsi_base.specs.Words.{behind}
 use Rattle.nsi_base.specs.declared.words.Blanks.TheVariants.{Space}
 use Rattle.nsi_base.proofs.Joined.{word_from_name, word_from_decimal}
 use Rattle.nsi_base.proofs.Written.{number_again}
-use Rattle.nsi_primitive.specs.Ids.{id_text}
 use Rattle.nsi_primitive.specs.Printable.{IsPrintableTaken, IsPrintableHappening}
 use Rattle.nsi_primitive.specs.Ranges.{IsSecond, IsRangedAnswer, IsRangedEntry, IsRangedEvent, IsRangedHappening, IsRangedIdentity, IsSpellable, IsSpellableAsk}
 use Rattle.nsi_primitive.specs.States.{first_state, machine_text, machine_named}
@@ -25,15 +23,13 @@ use Rattle.nsi_primitive.specs.declared.message.Parcel.{Parcel}
 use Rattle.nsi_primitive.specs.declared.state.Machine.{Machine}
 use Rattle.nsi_primitive.proofs.IdTexts.{id_text_again}
 use Rattle.ask_text.specs.Asks.{ask_text}
-use Rattle.ask_text.specs.Reading.{ask_of}
-use Rattle.json_primitives.specs.Lines.{object_of}
 use Rattle.json_primitives.specs.Spelling.{spelling, parcel_spelling}
 use Rattle.stp_topology.specs.Network.{name_of}
 use Rattle.stp_topology.specs.declared.network.Network.{Network}
 use Rattle.trace_text.specs.Lines.{HasLine, answer_text, input_verb, input_words, line_of, verb_of, what_words}
 use Rattle.trace_reader.specs.Laws.{AreTextsReadAgain, HasNames, MayStand}
 use Rattle.trace_reader.specs.Moments.{HappensNow, IsTakenNow, IsOfMoment, IsEventOf}
-use Rattle.trace_reader.specs.Reading.{what_is_read, if_message, if_ack, taken, outstanding_in, answer_in, message_in, ack_in, asked_in, got_in, acked_in, worked_in, forced_in, ticked_in, count_in, what_in, event_in}
+use Rattle.trace_reader.specs.Reading.{taken, outstanding_in, answer_in, message_in, ack_in, asked_in, got_in, acked_in, worked_in, forced_in, ticked_in, count_in, what_in, event_in}
 use Rattle.trace_reader.proofs.Cuts.{word_cut, answer_is_word, verb_is_word}
 
 ---- What stands behind an agent's name

@@ -1,8 +1,8 @@
 -- The line of an event has no line feed but the one at its end.
-use Rattle.std.proofs.Common.{◌≡◌, ℕ, zero, suc, ◌+◌, ◌/◌, ◌%◌, List, [], ◌∷◌, ◌++◌, Bool, true, false, not, ◌&&◌, ◌||◌, cond, eqb, ltb, pos, negsuc, Option, Some, None, decimal, refl, sym, ap, ◌∙◌, arith, inl, inr}
+use Rattle.std.proofs.Common.{◌≡◌, ℕ, zero, suc, ◌+◌, ◌/◌, ◌%◌, List, [], ◌∷◌, ◌++◌, Bool, true, false, not, ◌&&◌, cond, eqb, ltb, pos, negsuc, Option, Some, None, decimal, refl, ap, ◌∙◌, arith}
 use Rattle.std.specs.Prelude.{IfSome}
 use Rattle.std.specs.Char.{digit_char}
-use Rattle.std.specs.Fmt.{digits, digits_onto, signed_decimal}
+use Rattle.std.specs.Fmt.{digits, digits_onto}
 use Rattle.std.specs.List.{list_all, flat_map, AllByRecursion}
 use Rattle.std.proofs.lemmas.Bool.{false≢true}
 use Rattle.std.proofs.lemmas.Bool.Decides.{nat_tests}
@@ -10,10 +10,10 @@ use Rattle.json.specs.Print.{escape_letter, escape_byte, quoted}
 use Rattle.serde_json.specs.Data.{Num, unsigned, negative, float, Data, null, boolean, number, string, array, object, Items, no_items, item, Members, no_members, member}
 use Rattle.serde_json.specs.Written.{number_text, comma_if, compact_text, items_text, members_text}
 use Rattle.uuid.specs.Text.{by_index, lower, is_hyphen_place, hex_digit, nibble, digit_place}
-use Rattle.nsi_base.specs.Bytes.{is_name, is_name_byte}
+use Rattle.nsi_base.specs.Bytes.{is_name_byte}
 use Rattle.nsi_base.specs.Words.{behind}
 use Rattle.nsi_primitive.specs.Ids.{bytes_of, id_text}
-use Rattle.nsi_primitive.specs.Ranges.{IsName, IsRangedAsk, IsRangedEvent, IsRangedHappening, IsRangedInput, IsRangedReserveAsk, IsRangedWhat}
+use Rattle.nsi_primitive.specs.Ranges.{IsName, IsRangedAsk, IsRangedEvent, IsRangedHappening, IsRangedInput, IsRangedWhat}
 use Rattle.nsi_primitive.specs.States.{machine_text}
 use Rattle.nsi_primitive.specs.declared.ask.Ask.{Ask}
 use Rattle.nsi_primitive.specs.declared.ask.AskAnswer.{AskAnswer}

@@ -1,6 +1,6 @@
 -- An event is read exactly where a line is the print of one.
-use Rattle.std.proofs.Common.{◌≡◌, ℕ, List, [], ◌∷◌, ◌++◌, Bool, true, false, Option, Some, None, Result, Err, bytes_eq, refl, sym, ap, ◌∙◌, subst, inl, inr}
-use Rattle.std.proofs.lemmas.Bool.{cases_Bool, false≢true}
+use Rattle.std.proofs.Common.{◌≡◌, ℕ, List, [], ◌∷◌, ◌++◌, Bool, true, false, Option, Some, None, Result, Err, bytes_eq, refl, sym, ap, ◌∙◌, subst}
+use Rattle.std.proofs.lemmas.Bool.{false≢true}
 use Rattle.std.proofs.lemmas.List.{same_from_push}
 use Rattle.std.proofs.lemmas.Slice.Eq.{bytes_eq-Decides}
 use Rattle.nsi_primitive.specs.Ranges.{IsRangedEvent}
@@ -22,10 +22,10 @@ same_tests true b f g = sym (f refl)
 same_tests false true f g = absurd (false≢true (g refl))
 same_tests false false f g = refl
 
-pub with_feed : (text front line : List ℕ) (last : ℕ) → text ≡ front ++ last ∷ [] → last ≡ 10 → bytes_eq front line ≡ bytes_eq text (line ++ 10 ∷ [])
-with_feed text front line last e f =
+pub with_feed : (same : Bool) (text front line : List ℕ) (last : ℕ) → same ≡ bytes_eq front line → text ≡ front ++ last ∷ [] → last ≡ 10 → same ≡ bytes_eq text (line ++ 10 ∷ [])
+with_feed same text front line last s e f =
     let whole : text ≡ front ++ 10 ∷ [] = e ∙ ap (λ b. front ++ b ∷ []) f in
-    same_tests (bytes_eq front line) (bytes_eq text (line ++ 10 ∷ []))
+    s ∙ same_tests (bytes_eq front line) (bytes_eq text (line ++ 10 ∷ []))
     (λ h. (bytes_eq-Decides text (line ++ 10 ∷ [])).1 (whole ∙ ap (λ x. x ++ 10 ∷ []) ((bytes_eq-Decides front line).0 h)))
     (λ h. (bytes_eq-Decides front line).1 (same_from_push front line 10 10 (sym whole ∙ (bytes_eq-Decides text (line ++ 10 ∷ [])).0 h)).0)
 

@@ -3,3 +3,4 @@ pub mod Again
 pub mod Exact
 pub mod Clear
 pub mod Runs
+mod Rows

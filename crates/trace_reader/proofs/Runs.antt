@@ -3,7 +3,7 @@ use Rattle.std.proofs.Common.{◌≡◌, ℕ, List, [], ◌∷◌, ◌++◌, ref
 use Rattle.nsi_primitive.specs.declared.entry.Event.{Event}
 use Rattle.stp_topology.specs.declared.network.Network.{Network}
 use Rattle.trace_text.specs.Lines.{text_of}
-use Rattle.trace_reader.specs.Laws.{AreTextsReadAgain, GoOn, HasNames, MayStand}
+use Rattle.trace_reader.specs.Laws.{AreTextsReadAgain, GoOn, HasNames}
 use Rattle.trace_reader.specs.Moments.{Past, clocks, past_behind}
 use Rattle.trace_reader.proofs.Again.{apart, front_of, line_is_front}
 use Rattle.trace_reader.proofs.Clear.{event_clear, one_feed}

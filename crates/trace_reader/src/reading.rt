@@ -49,6 +49,7 @@ pub fn read_event(
 }
 
 /// Whether a text is the line and a line feed.
+#[tactic(auto, using(crate::proofs::Exact::with_feed, crate::proofs::Exact::other_end))]
 fn is_line(text: &[u8], line: &[u8]) -> bool
     ensures { result ≡ bytes_eq text.now (line.now ++ 10 ∷ []) }
 {
