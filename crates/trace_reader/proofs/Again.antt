@@ -29,7 +29,7 @@ use Rattle.stp_topology.specs.declared.network.Network.{Network}
 use Rattle.trace_text.specs.Lines.{HasLine, answer_text, input_verb, input_words, line_of, verb_of, what_words}
 use Rattle.trace_reader.specs.Laws.{AreTextsReadAgain, HasNames, MayStand}
 use Rattle.trace_reader.specs.Moments.{HappensNow, IsTakenNow, IsOfMoment, IsEventOf}
-use Rattle.trace_reader.specs.Reading.{taken, outstanding_in, answer_in, message_in, ack_in, asked_in, got_in, acked_in, worked_in, forced_in, ticked_in, count_in, what_in, event_in}
+use Rattle.trace_reader.specs.Reading.{taken, outstanding_in, answer_in, asked_in, got_in, acked_in, worked_in, forced_in, ticked_in, count_in, what_in, event_in}
 use Rattle.trace_reader.proofs.Cuts.{word_cut, answer_is_word, verb_is_word}
 
 ---- What stands behind an agent's name
@@ -65,11 +65,11 @@ work_again now n m h =
     rw (append-nil (machine_text m), word_cut (decimal n) (machine_text m) (word_from_decimal Space n (omega (arith, h))), number_again 0 greatest_record n (omega (arith, h)) (omega arith) h, machine_again m) refl
 
 got_again : AreTextsReadAgain → (now : ℕ) (m : Message) → IsSpellable m → got_in now (spelling m ++ []) ≡ Some (taken now (Input.Got m) None)
-unfolding got_in message_in
+unfolding got_in
 got_again texts now m h = rw (append-nil (spelling m), texts.messages m h) refl
 
 acked_again : AreTextsReadAgain → (now : ℕ) (i : Identity) → IsRangedIdentity i → acked_in now (parcel_spelling (Parcel.Ack i) ++ []) ≡ Some (taken now (Input.Acked i) None)
-unfolding acked_in ack_in
+unfolding acked_in
 acked_again texts now i h = rw (append-nil (parcel_spelling (Parcel.Ack i)), texts.acks i h) refl
 
 answer_again : (a : AskAnswer) → IsRangedAnswer a → answer_in (answer_text a) ≡ Some a
@@ -149,10 +149,12 @@ front_again : AreTextsReadAgain → (t : Network) (seconds : ℕ → ℕ) (asks 
     → event_in t seconds asks (front_of t e) ≡ Some e
 unfolding event_in
 front_again texts t seconds asks e names l m r =
-    rw (word_cut (verb_of e.what) (name_of t e.agent ++ 32 ∷ joined (what_words e.what)) (verb_is_word e.what),
-        word_cut (name_of t e.agent) (joined (what_words e.what)) (word_from_name Space (name_of t e.agent) (names.named e.agent l.agent)),
-        names.found e.agent l.agent,
-        what_again texts (seconds e.agent) asks e.what m l.printable r.what) refl
+    rw (
+      word_cut (verb_of e.what) (name_of t e.agent ++ 32 ∷ joined (what_words e.what)) (verb_is_word e.what),
+      word_cut (name_of t e.agent) (joined (what_words e.what)) (word_from_name Space (name_of t e.agent) (names.named e.agent l.agent)),
+      names.found e.agent l.agent,
+      what_again texts (seconds e.agent) asks e.what m l.printable r.what,
+    ) refl
 
 -- the print of an event is read as it
 pub event_again : AreTextsReadAgain → (t : Network) (seconds : ℕ → ℕ) (asks : ℕ) (line : List ℕ) (e : Event) → HasNames t → IsEventOf t seconds asks line e → IsRangedEvent e

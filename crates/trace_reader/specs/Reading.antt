@@ -1,5 +1,5 @@
 -- Which event a line is, numbers with leading zeros and other spellings allowed.
-use Rattle.std.specs.Prelude.{ℕ, List, ◌+◌, take, drop, ◌==◌, nat_eq, codes, if◌then◌else◌, Option, Some, None, option_map, Result, Ok, Err}
+use Rattle.std.specs.Prelude.{ℕ, List, ◌+◌, take, drop, ◌==◌, nat_eq, codes, if◌then◌else◌, Option, Some, None, option_map, Result, Ok}
 use Rattle.std.specs.List.{position_from, starts_with}
 use Rattle.std.specs.Str.{bytes_eq}
 use Rattle.nsi_base.specs.Digits.{number_of}
@@ -32,17 +32,14 @@ cut_word text = option_map (λ i. (take i text, drop (i + 1) text)) (space_at te
 
 ---- What stands behind the name of an agent
 
-abbrev pub what_is_read : Result Parcel LineFault → Option Parcel
-what_is_read (Ok parcel) = Some parcel
-what_is_read (Err fault) = None
+-- the message of a line, or the message that its acknowledgement is of
+abbrev pub if_message : Result Parcel LineFault → Option Message
+if_message (Ok (Parcel.Message message)) = Some message
+if_message _ = None
 
-abbrev pub if_message : Parcel → Option Message
-if_message (Parcel.Message message) = Some message
-if_message (Parcel.Ack identity) = None
-
-abbrev pub if_ack : Parcel → Option Identity
-if_ack (Parcel.Message message) = None
-if_ack (Parcel.Ack identity) = Some identity
+abbrev pub if_ack : Result Parcel LineFault → Option Identity
+if_ack (Ok (Parcel.Ack identity)) = Some identity
+if_ack _ = None
 
 -- an agent takes something, and an ask is answered
 abbrev pub taken : ℕ → Input → Option AskAnswer → Happening
@@ -65,21 +62,14 @@ asked_in now asks rest = do
   ask ← ask_of words.1
   Some (taken now (Input.Ask asks ask) (Some answer))
 
--- the message, or the message that is acknowledged
-unfoldable pub message_in : List ℕ → Option Message
-message_in text = what_is_read (object_of text) >>= if_message
-
-unfoldable pub ack_in : List ℕ → Option Identity
-ack_in text = what_is_read (object_of text) >>= if_ack
-
 unfoldable pub got_in : (now : ℕ) → List ℕ → Option Happening
 got_in now rest = do
-  message ← message_in rest
+  message ← if_message (object_of rest)
   Some (taken now (Input.Got message) None)
 
 unfoldable pub acked_in : (now : ℕ) → List ℕ → Option Happening
 acked_in now rest = do
-  identity ← ack_in rest
+  identity ← if_ack (object_of rest)
   Some (taken now (Input.Acked identity) None)
 
 unfoldable pub worked_in : (now : ℕ) → List ℕ → Option Happening

@@ -1,12 +1,12 @@
 //! What stands behind the name of an agent that took something.
 
 ghost use Rattle.std.specs.Prelude.{◌≡◌, ℕ, IfOk, None};
-ghost use Rattle.nsi_primitive.specs.Printable.{IsPrintable, IsPrintableAsk, IsPrintableHappening, IsPrintableParcel};
+ghost use Rattle.nsi_primitive.specs.Printable.{IsPrintable, IsPrintableAsk, IsPrintableHappening};
 ghost use Rattle.ask_text.specs.Reading.{ask_of};
 ghost use Rattle.json_primitives.specs.Lines.{object_of};
 ghost use Rattle.trace_reader.specs.Faults.{Gives};
 ghost use Rattle.trace_reader.specs.Moments.{HappensNow};
-ghost use Rattle.trace_reader.specs.Reading.{what_is_read, taken, message_in, ack_in, asked_in, got_in, acked_in, worked_in, forced_in, ticked_in};
+ghost use Rattle.trace_reader.specs.Reading.{if_message, if_ack, taken, asked_in, got_in, acked_in, worked_in, forced_in, ticked_in};
 
 use crate::fault::EventFault;
 use crate::words::{answer_in, cut_word, machine_in, record_in, second_in};
@@ -38,12 +38,7 @@ fn ask_in(alloc: Global, text: &[u8]) -> Result<Ask, EventFault>
 }
 
 #[tactic(auto, unfolding(crate::specs::Reading::asked_in))]
-pub fn asked_in(
-    alloc: Global,
-    now: Second,
-    asks: u32,
-    rest: &[u8],
-) -> Result<Happening, EventFault>
+pub fn asked_in(alloc: Global, now: Second, asks: u32, rest: &[u8]) -> Result<Happening, EventFault>
     ensures gives { Gives (λ w. w) result (asked_in now asks rest.now) }
     ensures printable { IfOk result IsPrintableHappening }
     ensures happens_now { IfOk result (HappensNow now asks) }
@@ -60,35 +55,26 @@ pub fn asked_in(
     })
 }
 
-fn parcel_in(alloc: Global, text: &[u8]) -> Result<Parcel, EventFault>
-    ensures gives { Gives (λ p. p) result (what_is_read (object_of text.now)) }
-    ensures printable { IfOk result IsPrintableParcel }
+fn message_in(alloc: Global, text: &[u8]) -> Result<Message, EventFault>
+    ensures gives { Gives (λ m. m) result (if_message (object_of text.now)) }
+    ensures printable { IfOk result IsPrintable }
 {
     match read_object(alloc, text) {
-        Ok(parcel) => Ok(parcel),
+        Ok(Parcel::Message(message)) => Ok(message),
+        Ok(Parcel::Ack(_)) => Err(EventFault::NotAnEvent),
         Err(LineFault::NoMemory) => Err(EventFault::NoMemory),
         Err(_) => Err(EventFault::NotAnEvent),
     }
 }
 
-#[tactic(auto, unfolding(crate::specs::Reading::message_in))]
-fn message_in(alloc: Global, text: &[u8]) -> Result<Message, EventFault>
-    ensures gives { Gives (λ m. m) result (message_in text.now) }
-    ensures printable { IfOk result IsPrintable }
-{
-    match parcel_in(alloc, text)? {
-        Parcel::Message(message) => Ok(message),
-        Parcel::Ack(_) => Err(EventFault::NotAnEvent),
-    }
-}
-
-#[tactic(auto, unfolding(crate::specs::Reading::ack_in))]
 fn ack_in(alloc: Global, text: &[u8]) -> Result<Identity, EventFault>
-    ensures { Gives (λ i. i) result (ack_in text.now) }
+    ensures { Gives (λ i. i) result (if_ack (object_of text.now)) }
 {
-    match parcel_in(alloc, text)? {
-        Parcel::Message(_) => Err(EventFault::NotAnEvent),
-        Parcel::Ack(identity) => Ok(identity),
+    match read_object(alloc, text) {
+        Ok(Parcel::Message(_)) => Err(EventFault::NotAnEvent),
+        Ok(Parcel::Ack(identity)) => Ok(identity),
+        Err(LineFault::NoMemory) => Err(EventFault::NoMemory),
+        Err(_) => Err(EventFault::NotAnEvent),
     }
 }
 

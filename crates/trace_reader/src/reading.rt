@@ -71,7 +71,8 @@ fn event_in(
     asks: u32,
 ) -> Result<Event, EventFault>
     requires seconds { length now.now ≡ length topology.now.agents }
-    ensures gives { Gives (λ e. e) result (event_in topology.now (seconds_of now.now) asks line.now) }
+    ensures gives { let seconds = seconds_of now.now in
+        Gives (λ e. e) result (event_in topology.now seconds asks line.now) }
     ensures has_line { IfOk result (HasLine topology.now) }
     ensures of_moment { IfOk result (IsOfMoment (seconds_of now.now) asks) }
 {
