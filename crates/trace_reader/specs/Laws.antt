@@ -1,5 +1,5 @@
 -- What is true of events and of their lines.
-use Rattle.std.specs.Prelude.{◌≡◌, ◌<◌, ℕ, List, [], ◌∷◌, length, Some, Ok}
+use Rattle.std.specs.Prelude.{◌≡◌, ◌<◌, ℕ, List, [], ◌∷◌, ◌++◌, length, Some, Ok}
 use Rattle.nsi_primitive.specs.Ranges.{IsName, IsRangedEvent, IsRangedIdentity, IsSpellable, IsSpellableAsk}
 use Rattle.nsi_primitive.specs.declared.ask.Ask.{Ask}
 use Rattle.nsi_primitive.specs.declared.entry.Event.{Event}
@@ -32,10 +32,18 @@ pub record MayStand (t : Network) (seconds : ℕ → ℕ) (asks : ℕ) (e : Even
   pub ranged : IsRangedEvent e
   pub of_moment : IsOfMoment seconds asks e
 
--- each event may stand behind the earlier ones
-unfoldable pub GoOn : Network → Past → List Event → Type 0
-GoOn t p [] = Unit {0}
-GoOn t p (e ∷ es) = MayStand t (clocks p) p.asks e × GoOn t (past_behind p e.agent e.what) es
+-- each event may stand at its moment: the seconds and the number of asks of a state, which each event leads on
+unfoldable pub GoOnBy : {S : Type 0} → (seconds : S → ℕ → ℕ) (asks : S → ℕ) (behind : S → Event → S) → Network → S → List Event → Type 0
+GoOnBy seconds asks behind t s [] = Unit {0}
+GoOnBy seconds asks behind t s (e ∷ es) = MayStand t (seconds s) (asks s) e × GoOnBy seconds asks behind t (behind s e) es
+
+-- events that go on from a past, by the journals that they make
+abbrev pub GoOn : Network → Past → List Event → Type 0
+GoOn t p es = GoOnBy clocks (λ (q : Past). q.asks) (λ q e. past_behind q e.agent e.what) t p es
+
+-- events whose seconds and numbers of asks are given functions of the events before them
+abbrev pub AreTimedBy : (seconds : List Event → ℕ → ℕ) (asks : List Event → ℕ) → Network → List Event → Type 0
+AreTimedBy seconds asks t es = GoOnBy seconds asks (λ before e. before ++ e ∷ []) t [] es
 
 -- two events of one moment that have one line are one event
 abbrev pub LinesAreApart : Type 0
@@ -48,3 +56,9 @@ abbrev pub TextsAreApart : Type 0
 TextsAreApart =
     (t : Network) (p : Past) (es fs : List Event) → HasNames t → GoOn t p es → GoOn t p fs
     → text_of t es ≡ text_of t fs → es ≡ fs
+
+-- the same whatever gives the seconds and the numbers of asks by the events before
+abbrev pub TimedTextsAreApart : Type 0
+TimedTextsAreApart =
+    (t : Network) (seconds : List Event → ℕ → ℕ) (asks : List Event → ℕ) (es fs : List Event) → HasNames t
+    → AreTimedBy seconds asks t es → AreTimedBy seconds asks t fs → text_of t es ≡ text_of t fs → es ≡ fs

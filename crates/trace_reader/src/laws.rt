@@ -1,6 +1,6 @@
 //! Laws of events and their lines.
 
-ghost use Rattle.trace_reader.specs.Laws.{AreTextsReadAgain, HasNames, LinesAreApart, TextsAreApart};
+ghost use Rattle.trace_reader.specs.Laws.{AreTextsReadAgain, HasNames, LinesAreApart, TextsAreApart, TimedTextsAreApart};
 
 use ask_text::laws::asks_are_read_again;
 use json_primitives::laws::lines_are_read_again;
@@ -27,9 +27,11 @@ pub fn lines_are_apart()
     texts_are_read_again();
 }
 
-/// The text of a run determines its events: two lists of events that go on from one past and have one text are one list.
+/// The text of a run determines its events: two lists of events that go on from one past and have one text are one list;
+/// and so are two that have one text, where each second and number of asks is given by the events before.
 pub fn texts_are_apart()
-    ensures { TextsAreApart }
+    ensures journals { TextsAreApart }
+    ensures any_clock { TimedTextsAreApart }
 {
     texts_are_read_again();
 }
