@@ -4,3 +4,4 @@ pub mod Exact
 pub mod Clear
 pub mod Runs
 mod Rows
+pub mod Named

@@ -12,6 +12,7 @@ use Rattle.json_primitives.specs.Lines.{object_of}
 use Rattle.json_primitives.specs.Spelling.{spelling, parcel_spelling}
 use Rattle.stp_topology.specs.Network.{agent_of, name_of}
 use Rattle.stp_topology.specs.declared.network.Network.{Network}
+use Rattle.stp_topology.specs.Text.{topology_of}
 use Rattle.trace_text.specs.Lines.{HasLine, line_of, text_of}
 use Rattle.trace_reader.specs.Moments.{IsOfMoment, Past, clocks, past_behind}
 
@@ -25,6 +26,10 @@ pub record AreTextsReadAgain : Type 0 where
 pub record HasNames (t : Network) : Type 0 where
   pub named : (a : ℕ) → a < length t.agents → IsName (name_of t a)
   pub found : (a : ℕ) → a < length t.agents → agent_of t (name_of t a) ≡ Some a
+
+-- so it is with each topology that a text gives
+abbrev pub TopologiesHaveNames : Type 0
+TopologiesHaveNames = (text : List ℕ) (t : Network) (place : ℕ) → topology_of text ≡ Ok (t, place) → HasNames t
 
 -- what may stand in a trace at a moment: it has a line, is of the moment, and its numbers, names and texts are such
 pub record MayStand (t : Network) (seconds : ℕ → ℕ) (asks : ℕ) (e : Event) : Type 0 where

@@ -1,11 +1,11 @@
 //! Laws of events and their lines.
 
-ghost use Rattle.trace_reader.specs.Laws.{AreTextsReadAgain, HasNames, LinesAreApart, TextsAreApart, TimedTextsAreApart};
+ghost use Rattle.trace_reader.specs.Laws.{AreTextsReadAgain, HasNames, LinesAreApart, TextsAreApart, TimedTextsAreApart, TopologiesHaveNames};
 
 use ask_text::laws::asks_are_read_again;
 use json_primitives::laws::lines_are_read_again;
 use nsi_base::AgentNo;
-use stp_topology::Topology;
+use stp_topology::{Topology, every_topology};
 
 /// It looks at the name of each agent, and tells that it is one, by which the agent is found.
 pub fn names_are_told(topology: &Topology)
@@ -18,6 +18,13 @@ pub fn names_are_told(topology: &Topology)
         };
         let _name = topology.name(agent).bytes();
     }
+}
+
+/// In each topology that a text gives, each agent has a name, by which it is found.
+pub fn topologies_have_names()
+    ensures { TopologiesHaveNames }
+{
+    every_topology();
 }
 
 /// Two events of one moment that have one line are one event.
