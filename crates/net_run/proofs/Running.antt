@@ -19,6 +19,7 @@ use Rattle.nsi_play.specs.Openings.{Plans, plans_of, opening}
 use Rattle.nsi_play.specs.Rounds.{Net}
 use Rattle.nsi_play.specs.Play.{IsPlayFrom, PassesFrom, IsPlay, Passes, RestartsNone, RestartNobody}
 use Rattle.nsi_play.proofs.Settling.{plays_nil}
+use Rattle.std.proofs.lemmas.Bool.{false≢true}
 use Rattle.agent_threads.specs.declared.fault.RunFault.{RunFault}
 use Rattle.agent_threads.specs.Reports.{written}
 use Rattle.run_totals.specs.declared.report.Report.{Report}
@@ -38,12 +39,12 @@ use Rattle.nsi_play.specs.Laws.{PlayNeedsNoPast, FrontNeedsNoPast}
 can_one : (t : Network) (a : Act) → IsActOf t a → IsServed a → CanBeDone t a
 can_one t (Act.Ask agent ask) (within, requester, printable) served = (requester, printable)
 can_one t (Act.Force agent n) i served = tt
-can_one t (Act.Restart agent) i served = served
+can_one t (Act.Restart agent) i served = false≢true served
 
 none_one : (a : Act) → IsServed a → RestartsNone a
 none_one (Act.Ask agent ask) served = tt
 none_one (Act.Force agent n) served = tt
-none_one (Act.Restart agent) served = served
+none_one (Act.Restart agent) served = false≢true served
 
 can_all : (t : Network) (acts bs : List Act) → All (IsActOf t) (acts ++ bs) → All IsServed (acts ++ bs) → AllCanBeDone t acts
 can_all t [] bs i s = tt
