@@ -1,18 +1,21 @@
 -- Which entries an agent takes.
-use Rattle.std.proofs.Common.{ℕ, ◌<◌, ◌≤◌, ◌≡◌, Bool, true, false, ◌&&◌, Option, Some, None, refl, sym, subst, eq-eqb}
+use Rattle.std.proofs.Common.{ℕ, ◌<◌, ◌≤◌, ◌≡◌, Bool, true, false, ◌&&◌, Option, Some, None, refl, sym, ap, ◌∙◌, subst, eq-eqb, nat_lt}
 use Rattle.std.proofs.lemmas.Bool.{lt-ltb, le-leb}
 use Rattle.nsi_primitive.specs.declared.ask.Ask.{Ask}
 use Rattle.nsi_primitive.specs.declared.message.Identity.{Identity}
+use Rattle.nsi_primitive.specs.declared.entry.Entry.{Entry}
 use Rattle.nsi_primitive.specs.declared.entry.Input.{Input}
 use Rattle.nsi_primitive.specs.declared.message.Message.{Message}
 use Rattle.stp_topology.specs.declared.network.AgentKind.{AgentKind}
 use Rattle.stp_topology.specs.declared.network.Network.{Network}
 use Rattle.stp_topology.specs.Network.{kind_of}
-use Rattle.agent_state.specs.State.{AgentState}
+use Rattle.agent_state.specs.State.{AgentState, AgentStepped}
 use Rattle.agent_state.specs.Entries.{most_entries, is_on_time}
 use Rattle.requester_agent.specs.Setting.{IsRequester}
 use Rattle.nsi_primitive.specs.declared.state.Machine.{Machine}
-use Rattle.nsi_agent.specs.Steps.{may_take}
+use Rattle.nsi_agent.specs.Homes.{Routes, home_in, role_in}
+use Rattle.nsi_agent.specs.Laws.{OthersAreLeftOut}
+use Rattle.nsi_agent.specs.Steps.{after, may_take, may_take_as}
 use Rattle.agent_node.specs.Seated.{entry_at, is_for, is_tick}
 
 all : (a b c : Bool) → a ≡ true → b ≡ true → c ≡ true → (a && (b && c)) ≡ true
@@ -26,6 +29,31 @@ allowed (Some (AgentKind.Provider hold)) s second input h f t = all _ _ _ (lt-lt
 allowed (Some (AgentKind.Requester provider)) s second input h f t = both _ _ (lt-ltb s.base.taken most_entries h) t
 allowed (Some AgentKind.Aggregator) s second input h f t = all _ _ _ (lt-ltb s.base.taken most_entries h) f t
 allowed None s second input h f t = all _ _ _ (lt-ltb s.base.taken most_entries h) f t
+
+-- whether an entry may be taken, by its parts
+pub may_by_parts : (o : Option AgentKind) (s : AgentState) (e : Entry) → may_take o s e ≡ (nat_lt s.base.taken most_entries && (is_for o e.input && is_on_time e.input e.second s.base.now))
+may_by_parts (Some (AgentKind.Provider hold)) s e = refl
+may_by_parts (Some (AgentKind.Requester provider)) s e = refl
+may_by_parts (Some AgentKind.Aggregator) s e = refl
+may_by_parts None s e = refl
+
+may_as : (o : Option AgentKind) (t : Network) (routes : Routes) (a : ℕ) (s : AgentState) (e : Entry) → may_take_as (role_in o t routes a) s e ≡ may_take o s e
+may_as (Some (AgentKind.Provider hold)) t routes a s e = refl
+may_as (Some (AgentKind.Requester provider)) t routes a s e = refl
+may_as (Some AgentKind.Aggregator) t routes a s e = refl
+may_as None t routes a s e = refl
+
+-- one that may not be taken changes nothing
+pub left_out : OthersAreLeftOut → (t : Network) (routes : Routes) (a : ℕ) (s : AgentState) (e : Entry) → may_take (kind_of t a) s e ≡ false → (after (home_in t routes a) s e).state ≡ s
+unfolding home_in
+left_out law t routes a s e may = ap (λ (x : AgentStepped). x.state) (law (home_in t routes a) s e (may_as (kind_of t a) t routes a s e ∙ may))
+
+-- the same by its kind
+pub left_out_by : OthersAreLeftOut → (t u : Network) (routes : Routes) (a b : ℕ) (kind : AgentKind) (s : AgentState) (e : Entry) (may : Bool) → u ≡ t → b ≡ a → kind_of u b ≡ Some kind → may ≡ may_take (Some kind) s e
+    → may ≡ false → (after (home_in t routes a) s e).state ≡ s
+left_out_by law t u routes a b kind s e may p q k m out =
+    let is : kind_of t a ≡ Some kind = sym (ap (λ v. kind_of v b) p ∙ ap (kind_of t) q) ∙ k in
+    left_out law t routes a s e (ap (λ o. may_take o s e) is ∙ (sym m ∙ out))
 
 -- all but a tick happens now
 pub now_on_time : (input : Input) (now : ℕ) → is_tick input ≡ false → is_on_time input now now ≡ true

@@ -14,3 +14,6 @@ pub mod Filtering
 pub mod Beginning
 pub mod Pairing
 pub mod Pasts
+pub mod Retaking
+pub mod Reopened
+pub mod Restarting

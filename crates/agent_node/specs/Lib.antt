@@ -10,3 +10,4 @@ pub mod Faults
 pub mod Seated
 pub mod Kept
 pub mod Made
+pub mod Reopening

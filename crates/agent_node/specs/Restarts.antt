@@ -3,6 +3,8 @@ use Rattle.std.specs.Prelude.{ℕ, zero, suc, Bool, true, false, List, [], ◌�
 use Rattle.nsi_primitive.specs.declared.entry.Entry.{Entry}
 use Rattle.nsi_primitive.specs.declared.entry.Event.{Event}
 use Rattle.nsi_primitive.specs.declared.entry.Happening.{Happening}
+use Rattle.nsi_primitive.specs.declared.message.Message.{Message}
+use Rattle.agent_state.specs.State.{AgentState}
 use Rattle.nsi_agent.specs.Homes.{Home}
 use Rattle.nsi_agent.specs.Told.{told}
 use Rattle.agent_node.specs.Seat.{Door, Seat, says_all}
@@ -38,6 +40,18 @@ reads h tries es s =
       events = s.events ++ restart_event s.number (length es) ∷ restart_events tries s.number (length es);
       doors = says_all h.agent_of (told h es).state.base.waiting (map drops s.doors);
     }
+
+---- Its steps
+
+-- the same in another state, with so many synced entries and nothing to say
+abbrev pub begun_again : AgentState → ℕ → Seat → Seat
+begun_again state count s = record s { state = state; synced = count; fresh = []; unsaid = []; doors = map drops s.doors }
+
+-- its restart is told, and these messages are queued
+abbrev pub tells_restart : Home → List Message → Seat → Seat
+tells_restart h ms s = record s { events = s.events ++ restart_event s.number s.synced ∷ []; doors = says_all h.agent_of ms s.doors }
+
+---- Synced entries
 
 -- it reads those that are synced, where they are told
 abbrev pub reads_past : Option (List Entry) → Home → (tries : ℕ) → Seat → Seat

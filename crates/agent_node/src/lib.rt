@@ -7,9 +7,13 @@ mod lists;
 pub mod node;
 pub mod opening;
 mod queue;
+mod reading;
+pub mod reopen;
+mod restart;
 mod seated;
 mod turn;
 
 pub use fault::TurnFault;
 pub use node::Node;
 pub use opening::NodeFault;
+pub use reopen::{Reopen, ReopenFault};

@@ -5,6 +5,7 @@ ghost use Rattle.std.specs.List.{All};
 ghost use Rattle.nsi_primitive.specs.Printable.{IsPrintable, IsPrintableParcel};
 ghost use Rattle.stp_topology.specs.Network.{agent_of};
 ghost use Rattle.agent_node.specs.Doors.{change_first, queue_at, says, says_all, pushes, has_queued, is_queued, come_through, lying, clears, IsPrintableCome, is_idle, all_idle, is_still, all_still, is_still_to, let_through, learns, HasMet, plug_to, crossed};
+ghost use Rattle.agent_node.specs.Restarts.{drops};
 ghost use Rattle.agent_node.specs.Linked.{door_of, plug_of, doors, plugs, HasSameLinks};
 
 use crate::queue::Queue;
@@ -46,6 +47,14 @@ impl Link {
         ensures plug { plug_of self.new ≡ plug_of self.old }
     {
         self.queue.push(alloc, &mut self.out)
+    }
+
+    /// Nothing is to be pushed any more.
+    fn drop_queue(&mut self)
+        ensures door { door_of self.new ≡ drops (door_of self.old) }
+        ensures plug { plug_of self.new ≡ plug_of self.old }
+    {
+        self.queue.clear();
     }
 
     /// Nothing is to be pushed, and nothing came.
@@ -105,6 +114,17 @@ fn push_all(alloc: Global, links: &mut [Link]) -> Result<(), AllocError>
     };
     first.push(alloc)?;
     push_all(alloc, rest)
+}
+
+/// Nothing is to be pushed any more.
+fn drop_queues(links: &mut [Link])
+    ensures doors { doors links.new ≡ map drops (doors links.old) }
+    ensures plugs { plugs links.new ≡ plugs links.old }
+{
+    if let Some((first, rest)) = links.split_first_mut() {
+        first.drop_queue();
+        drop_queues(rest);
+    }
 }
 
 /// Hands out what came, in order.
@@ -308,6 +328,16 @@ impl Links {
         push_all(alloc, &mut self.items)?;
         self.still = are_still(&self.items);
         Ok(())
+    }
+
+    /// Nothing is to be pushed any more. What came lies there still.
+    #[tactic(auto, using(crate::proofs::Joints::same_others, crate::proofs::Joints::whole_again))]
+    pub fn drop_queues(&mut self)
+        ensures doors { self.new.doors ≡ map drops self.old.doors }
+        ensures links { HasSameLinks self.old self.new }
+    {
+        self.still = false;
+        drop_queues(&mut self.items);
     }
 
     /// What came, by the senders' numbers and in order. It doesn't lie there any more.

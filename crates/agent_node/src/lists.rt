@@ -5,6 +5,7 @@ ghost use Rattle.std.specs.List.{All};
 ghost use Rattle.nsi_primitive.specs.Printable.{IsPrintable, IsPrintableEntry, IsPrintableEvent, IsPrintableTaken};
 ghost use Rattle.agent_node.specs.Seat.{entered};
 ghost use Rattle.agent_node.specs.Turns.{sync_event};
+ghost use Rattle.agent_node.specs.Restarts.{restart_event};
 ghost use Rattle.message_retry.specs.Retry.{is_waiting};
 
 use message_retry::is_of;
@@ -119,6 +120,12 @@ impl Messages {
         mem::replace(&mut self.items, Vec::new(alloc))
     }
 
+    pub fn clear(&mut self)
+        ensures { self.new ≡ [] }
+    {
+        self.items.clear();
+    }
+
     /// Whether one of them is of the identity.
     #[tactic(auto, unfolding(message_retry::specs::Retry::is_waiting))]
     pub fn has(&self, identity: &Identity) -> bool
@@ -181,6 +188,16 @@ impl Events {
         ensures { OnOk result (self.new ≡ self.old ++ sync_event agent count ∷ []) }
     {
         let what = Happening::Sync { count };
+        self.items.push(Event { agent, what })?;
+        Ok(())
+    }
+
+    /// Puts a restart behind.
+    #[tactic(auto, using(crate::proofs::Rows::one_event_more))]
+    pub fn push_restart(&mut self, agent: AgentNo, count: u64) -> Result<(), AllocError>
+        ensures { OnOk result (self.new ≡ self.old ++ restart_event agent count ∷ []) }
+    {
+        let what = Happening::Restart { count };
         self.items.push(Event { agent, what })?;
         Ok(())
     }

@@ -1,9 +1,10 @@
 //! One agent of a net, with its journal and its ends of the links.
 
-ghost use Rattle.std.specs.Prelude.{◌≡◌, ◌≤◌, ◌<◌, ◌+◌, ℕ, [], None, Some, false, IfOk, OnOk, is_some};
+ghost use Rattle.std.specs.Prelude.{◌≡◌, ◌≤◌, ◌<◌, ◌+◌, ℕ, List, [], None, Some, true, false, IfOk, IfErr, OnOk, is_some};
 ghost use Rattle.std.specs.List.{All};
 ghost use Rattle.nsi_primitive.specs.Printable.{IsPrintableAsk, IsPrintableEvent};
 ghost use Rattle.nsi_primitive.specs.declared.entry.Input.{Input};
+ghost use Rattle.stp_topology.specs.Network.{name_of};
 ghost use Rattle.journal_entry.specs.Journal.{MayLeaveSynced};
 ghost use Rattle.agent_state.specs.Entries.{most_entries};
 ghost use Rattle.requester_agent.specs.Setting.{IsRequester};
@@ -14,8 +15,11 @@ ghost use Rattle.agent_node.specs.Meetings.{met};
 ghost use Rattle.agent_node.specs.Doors.{HasMet, IsPrintableCome};
 ghost use Rattle.agent_node.specs.Kept.{plug, AreLinked, IsSameAgent, HasSameJournal, fault_in, lack_of};
 ghost use Rattle.agent_node.specs.Made.{AtHome, IsTurn, IsTurnWith};
+ghost use Rattle.agent_node.specs.Reopening.{HasReopenCause, IsReread};
 
 use crate::fault::TurnFault;
+use crate::reopen::{Reopen, ReopenFault};
+use crate::restart::read_again;
 use crate::seated::Core;
 use crate::turn::{fault_of, make_turn, make_turn_with};
 use journal_entry::Journal;
@@ -221,6 +225,44 @@ impl<'t, J: Journal + Drop> Node<'t, J> {
         ensures other_journal { HasSameJournal other.old other.new }
     {
         self.core.meet(&mut other.core);
+    }
+
+    /// The agent after a crash now, as its journal has it. What it has caused and isn't acknowledged is queued, and nothing else is;
+    /// what came lies there still.
+    pub fn restart<B: Reopen<J>>(
+        self,
+        alloc: Global,
+        shelf: &mut B,
+    ) -> Result<Node<'t, J>, ReopenFault>
+        requires usable { self.fault ≡ None }
+        requires listed { B.listed shelf.old (name_of self.network self.seat.number) ≡ true }
+        ensures made { IfOk result (IsReread self.entry) }
+        ensures same_faults { OnOk result (B.faults shelf.new ≡ B.faults shelf.old) }
+        ensures same_stops { OnOk result (B.stops shelf.new ≡ B.stops shelf.old) }
+        ensures cause { IfErr result (HasReopenCause (B.faults shelf.old) (B.faults shelf.new)
+            (B.stops shelf.old) (B.stops shelf.new) (λ place. self.entry.kept ≡ None)) }
+        ensures faults { B.faults shelf.old ≤ B.faults shelf.new }
+        ensures stops { B.stops shelf.old ≤ B.stops shelf.new }
+        ensures stays { (n : List ℕ) →
+            B.listed shelf.old n ≡ true → B.listed shelf.new n ≡ true }
+    {
+        let Node {
+            core,
+            journal,
+            fault: _,
+        } = self;
+        let mut core = core;
+        match read_again(alloc, &mut core, journal, shelf) {
+            Ok(journal) => Ok(Node {
+                core,
+                journal,
+                fault: None,
+            }),
+            Err(fault) => {
+                let_go(core);
+                Err(fault)
+            }
+        }
     }
 
     /// Its journal.

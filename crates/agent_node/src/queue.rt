@@ -55,6 +55,12 @@ impl Queue {
         self.parcels.is_empty()
     }
 
+    pub fn clear(&mut self)
+        ensures { self.new ≡ [] }
+    {
+        self.parcels.clear();
+    }
+
     /// Whether a message of the identity is queued.
     pub fn has(&self, identity: &Identity) -> bool
         ensures { result ≡ list_any (is_message identity.now) self.now }

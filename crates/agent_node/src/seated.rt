@@ -4,7 +4,7 @@ ghost use Rattle.std.specs.Prelude.{◌≡◌, ◌≤◌, ◌<◌, ◌+◌, ◌�
 ghost use Rattle.std.specs.List.{All};
 ghost use Rattle.nsi_primitive.specs.Printable.{IsPrintable, IsPrintableAsk, IsPrintableEntry, IsPrintableEvent, IsPrintableInput, IsPrintableParcel, IsPrintableTaken, is_ask};
 ghost use Rattle.nsi_primitive.specs.declared.entry.Input.{Input as AnInput};
-ghost use Rattle.stp_topology.specs.Network.{kind_of};
+ghost use Rattle.stp_topology.specs.Network.{kind_of, name_of};
 ghost use Rattle.agent_state.specs.Entries.{most_entries};
 ghost use Rattle.requester_agent.specs.Setting.{IsRequester};
 ghost use Rattle.nsi_agent.specs.Homes.{Routes, home_in};
@@ -14,18 +14,21 @@ ghost use Rattle.agent_node.specs.Seat.{enters, enters_if, enters_now, enters_wi
 ghost use Rattle.agent_node.specs.Turns.{cleared, takes, takes_all, worked, syncs, pushed};
 ghost use Rattle.agent_node.specs.Acts.{asked, forced, ticked, overdue, is_overdue, is_quiet};
 ghost use Rattle.agent_node.specs.Meetings.{met};
+ghost use Rattle.agent_node.specs.Restarts.{reads, begun_again, tells_restart};
 ghost use Rattle.agent_node.specs.Kept.{fault_in};
 ghost use Rattle.agent_node.specs.Seated.{AtSeat, Stays, Goes, IsSameSeat, entry_at, is_for, is_tick, stepped};
 
 use crate::fault::TurnFault;
 use crate::links::Links;
 use crate::lists::{Entries, Events, Messages};
+use crate::reading::{copy_waiting, let_go, read_all};
 use nsi_agent::Agent;
 use nsi_agent::laws::works;
-use nsi_base::{AgentNo, RecordNo, Second};
+use nsi_base::{AgentNo, Name, RecordNo, Second};
 use nsi_primitive::{Ask, AskAnswer, Entry, Event, Input, Message, Parcel};
 use std::alloc::{AllocError, Global};
 use std::marker::Model;
+use std::mem;
 use stp_topology::Topology;
 
 #[derive(Drop)]
@@ -117,6 +120,14 @@ impl<'t> Core<'t> {
         ensures { result ≡ self.now.seat.state.base.taken }
     {
         self.agent.taken()
+    }
+
+    /// Its name in the topology.
+    pub fn name(&self) -> &'t Name
+        ensures { result.now ≡ name_of self.now.network self.now.seat.number }
+    {
+        self.agent.facts();
+        self.topology.name(self.agent.number())
     }
 
     /// Entries that aren't synced.
@@ -305,6 +316,48 @@ impl<'t> Core<'t> {
         self.links.say_all(self.topology, said)?;
         self.fresh.clear();
         self.synced = count;
+        Ok(())
+    }
+
+    /// It has read these entries, which are all that it has taken; what they cause and isn't acknowledged is queued.
+    pub fn read_again(&mut self, alloc: Global, entries: &[Entry]) -> Result<(), AllocError>
+        requires { All IsPrintableEntry entries.now }
+        ensures ok { AtSeat self.old
+            (λ h. OnOk result (self.new.seat ≡ reads h 0 entries.now self.old.seat)) }
+        ensures stays { Stays self.old self.new }
+    {
+        self.agent.facts();
+        let agent = read_all(alloc, self.topology, self.agent.number(), entries)?;
+        self.begin_again(agent, entries.len() as u64);
+        let waiting = copy_waiting(alloc, &self.agent)?;
+        self.tell_restart(waiting)?;
+        Ok(())
+    }
+
+    /// The same agent in another state, so many of whose entries are synced. Nothing more is fresh, unsaid or queued.
+    fn begin_again(&mut self, agent: Agent<'t>, count: u64)
+        requires network { agent.network ≡ self.old.network }
+        requires number { agent.number ≡ self.old.seat.number }
+        ensures seat { self.new.seat ≡ begun_again agent.entry.state count self.old.seat }
+        ensures stays { Stays self.old self.new }
+    {
+        let_go(mem::replace(&mut self.agent, agent));
+        self.synced = count;
+        self.fresh.clear();
+        self.unsaid.clear();
+        self.links.drop_queues();
+    }
+
+    /// That it has begun again is told, and these messages are queued.
+    fn tell_restart(&mut self, waiting: Vec<Message>) -> Result<(), AllocError>
+        requires { All IsPrintable waiting.items }
+        ensures ok { AtSeat self.old
+            (λ h. OnOk result (self.new.seat ≡ tells_restart h waiting.items self.old.seat)) }
+        ensures stays { Stays self.old self.new }
+    {
+        let agent = self.agent.number();
+        self.events.push_restart(agent, self.synced)?;
+        self.links.say_all(self.topology, waiting)?;
         Ok(())
     }
 

@@ -1,0 +1,82 @@
+//! An agent is made anew from its journal.
+
+ghost use Rattle.std.specs.Prelude.{◌≡◌, ◌≤◌, List, ℕ, None, true, false, IfOk, IfErr, OnOk};
+ghost use Rattle.std.specs.List.{All};
+ghost use Rattle.nsi_primitive.specs.Printable.{IsPrintableEntry};
+ghost use Rattle.disk_journal.specs.declared.opening.StartCause.{StartCause as ACause};
+ghost use Rattle.agent_node.specs.declared.reopen.ReopenFault.{ReopenFault as AFault};
+ghost use Rattle.agent_node.specs.Restarts.{reads};
+ghost use Rattle.agent_node.specs.Seated.{AtSeat, Stays};
+ghost use Rattle.stp_topology.specs.Network.{name_of};
+ghost use Rattle.agent_node.specs.Kept.{kept_with};
+ghost use Rattle.agent_node.specs.Reopening.{HasReopenCause, IsReread};
+
+use crate::reopen::{Reopen, ReopenFault};
+use crate::seated::Core;
+use disk_journal::StartCause;
+use journal_entry::Journal;
+use nsi_base::Name;
+use nsi_primitive::Entry;
+use std::alloc::Global;
+
+/// The agent is made anew from these entries. Where memory is wanting for that, its journal is taken back.
+fn remake<J: Journal, B: Reopen<J>>(
+    alloc: Global,
+    core: &mut Core<'_>,
+    journal: J,
+    entries: Vec<Entry>,
+    name: &Name,
+    shelf: &mut B,
+) -> Result<J, ReopenFault>
+    requires listed { B.listed shelf.old name.now ≡ true }
+    requires printable { All IsPrintableEntry entries.items }
+    ensures journal { IfOk result (λ j. j ≡ journal) }
+    ensures seat { AtSeat core.old
+        (λ h. OnOk result (core.new.seat ≡ reads h 0 entries.items core.old.seat)) }
+    ensures core { Stays core.old core.new }
+    ensures same { OnOk result (shelf.new ≡ shelf.old) }
+    ensures memory { IfErr result (λ f. f ≡ AFault.GivenBack ACause.NoMemory) }
+    ensures faults { B.faults shelf.old ≤ B.faults shelf.new }
+    ensures stops { B.stops shelf.old ≤ B.stops shelf.new }
+    ensures stays { (n : List ℕ) → B.listed shelf.old n ≡ true → B.listed shelf.new n ≡ true }
+{
+    let made = core.read_again(alloc, &entries);
+    drop(entries);
+    match made {
+        Ok(()) => Ok(journal),
+        Err(_) => {
+            shelf.take_back(name, journal);
+            Err(ReopenFault::GivenBack(StartCause::NoMemory))
+        }
+    }
+}
+
+/// Reads the journal of an agent again, and makes the agent anew from it.
+pub fn read_again<J: Journal, B: Reopen<J>>(
+    alloc: Global,
+    core: &mut Core<'_>,
+    journal: J,
+    shelf: &mut B,
+) -> Result<J, ReopenFault>
+    requires ready { J.is_ready journal }
+    requires none { J.waits journal ≡ false }
+    requires listed { B.listed shelf.old (name_of core.old.network core.old.seat.number) ≡ true }
+    ensures ready { IfOk result (λ j. J.is_ready j) }
+    ensures none { IfOk result (λ j. J.waits j ≡ false) }
+    ensures made { IfOk result (λ j. IsReread
+        (kept_with core.old None (J.meter journal) (J.kept journal))
+        (kept_with core.new None (J.meter j) (J.kept j))) }
+    ensures same_faults { OnOk result (B.faults shelf.new ≡ B.faults shelf.old) }
+    ensures same_stops { OnOk result (B.stops shelf.new ≡ B.stops shelf.old) }
+    ensures cause { IfErr result (HasReopenCause (B.faults shelf.old) (B.faults shelf.new)
+        (B.stops shelf.old) (B.stops shelf.new) (λ place. J.kept journal ≡ None)) }
+    ensures faults { B.faults shelf.old ≤ B.faults shelf.new }
+    ensures stops { B.stops shelf.old ≤ B.stops shelf.new }
+    ensures stays { (n : List ℕ) → B.listed shelf.old n ≡ true → B.listed shelf.new n ≡ true }
+{
+    let name = core.name();
+    match shelf.reopen(alloc, name, journal) {
+        Ok((journal, entries)) => remake(alloc, core, journal, entries, name, shelf),
+        Err(fault) => Err(fault),
+    }
+}
