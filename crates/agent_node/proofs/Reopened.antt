@@ -1,5 +1,5 @@
 -- A journal that is read again.
-use Rattle.std.proofs.Common.{ℕ, ◌<◌, ◌≤◌, ◌≡◌, inl, inr, ◌∙◌, ◌-◌, List, [], Option, Some, None, is_some, IfSome, Result, Ok, Err, IfOk, OnOk, refl, sym, ap, subst, arith}
+use Rattle.std.proofs.Common.{ℕ, ◌<◌, ◌≡◌, inl, ◌∙◌, ◌-◌, List, [], Option, Some, None, is_some, IfSome, Result, Ok, Err, IfOk, OnOk, refl, sym, ap, subst, arith}
 use Rattle.nsi_primitive.specs.declared.entry.Entry.{Entry}
 use Rattle.nsi_disk.specs.Disk.{History, Fresh, Meter, MayLeave, seen}
 use Rattle.nsi_disk.specs.ShelfCounts.{Raised}
