@@ -1,0 +1,4 @@
+pub mod Places
+pub mod Answering
+pub mod Moments
+pub mod Runs

@@ -1,0 +1,14 @@
+//! The law of the text of a run. The function is its contract.
+
+ghost use Rattle.run_text.specs.Laws.{RunsAreTold};
+
+use ask_text::laws::asks_are_read_again;
+use json_primitives::laws::lines_are_read_again;
+
+/// The text of a run is of no other run: whoever reads what `run` printed knows every step of every agent.
+pub fn runs_are_told()
+    ensures { RunsAreTold }
+{
+    asks_are_read_again();
+    lines_are_read_again();
+}
