@@ -31,14 +31,14 @@ taken_one h s e = by (may_take_as h.role s e) refl
     by true may = omega (arith, (entries_are_taken h s e may).taken)
     by false may = omega (arith, ap (λ (x : AgentStepped). x.state.base.taken) (others_are_left_out h s e may))
 
-taken_among : (h : Home) (s : AgentState) (es : List Entry) → (goes_on h s es).state.base.taken ≤ s.base.taken + length es
+pub taken_among : (h : Home) (s : AgentState) (es : List Entry) → (goes_on h s es).state.base.taken ≤ s.base.taken + length es
 unfolding goes_on
 taken_among h s [] = omega arith
 taken_among h s (e ∷ es) = omega (arith, taken_one h s e, taken_among h (after h s e).state es)
 
 ---- What comes is for the agent, and in time
 
-timely : (input : Input) (second now : ℕ) → IsInTime input second now → is_on_time input second now ≡ true
+pub timely : (input : Input) (second now : ℕ) → IsInTime input second now → is_on_time input second now ≡ true
 timely Input.Tick second now h = grind (arith, nat_tests, h)
 timely (Input.Got m) second now h = grind (arith, nat_tests, h)
 timely (Input.Work n machine) second now h = grind (arith, nat_tests, h)

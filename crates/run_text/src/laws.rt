@@ -1,5 +1,6 @@
-//! The law of the text of a run. The function is its contract.
+//! Laws of the text of a run. Each function is its contract.
 
+ghost use Rattle.run_text.specs.Committed.{ConfirmedIsCommitted};
 ghost use Rattle.run_text.specs.Laws.{RunsAreTold};
 
 use ask_text::laws::asks_are_read_again;
@@ -12,3 +13,9 @@ pub fn runs_are_told()
     asks_are_read_again();
     lines_are_read_again();
 }
+
+/// Where a line says that a requester got the confirmation of a commit, for the first time, the view that awaits it has the version as committed
+/// from there on.
+pub fn confirmed_is_committed()
+    ensures { ConfirmedIsCommitted }
+{}
