@@ -1,4 +1,4 @@
--- What a line says of a commit.
+-- What a requester knows once it gets the confirmation of a commit.
 use Rattle.std.specs.Prelude.{◌≡◌, ℕ, [], ◌∷◌, ◌++◌, Some, None, slice_get}
 use Rattle.nsi_primitive.specs.declared.entry.Event.{Event}
 use Rattle.nsi_primitive.specs.declared.entry.Happening.{Happening}
@@ -36,7 +36,8 @@ pub record Commits (x y : ChildConnection) (version : ℕ) : Type 0 where
   pub pending : y.pending ≡ None
   pub asked : y.reserve_request ≡ None
 
--- Where a requester gets the confirmation of a commit that it hadn't got before, the view that awaits it has the version as committed then.
+-- Where a requester gets the confirmation of a commit that it hadn't got before, the view that awaits it has the version as its last
+-- committed one then.
 abbrev pub ConfirmedIsCommitted : Type 0
 ConfirmedIsCommitted =
     (homes : Homes) (w : World) (a second id place version : ℕ) (m : Message) (setting : RequesterSetting) (x : View) → IsAllowed homes w (gets a second m)

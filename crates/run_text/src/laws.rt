@@ -14,8 +14,8 @@ pub fn runs_are_told()
     lines_are_read_again();
 }
 
-/// Where a line says that a requester got the confirmation of a commit, for the first time, the view that awaits it has the version as committed
-/// from there on.
+/// Where a requester gets the confirmation of a commit that it hadn't got before, the view that awaits it has the version as its last committed
+/// one then.
 pub fn confirmed_is_committed()
     ensures { ConfirmedIsCommitted }
 {}
