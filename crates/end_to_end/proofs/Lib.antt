@@ -1,0 +1,9 @@
+pub mod Joining
+pub mod Naming
+pub mod Apart
+pub mod Whole
+pub mod Learning
+pub mod Pointing
+pub mod Between
+pub mod Versions
+pub mod Together

@@ -1,0 +1,115 @@
+-- The laws of circuits from end to end.
+use Rattle.std.specs.Prelude.{ℕ, ◌≡◌, ◌≤◌, true, List, [], length, Some, Contains, slice_get}
+use Rattle.std.specs.List.{All}
+use Rattle.nsi_primitive.specs.declared.entry.Event.{Event}
+use Rattle.nsi_primitive.specs.declared.message.Criteria.{Criteria}
+use Rattle.stp_topology.specs.Laws.{IsWellFormed}
+use Rattle.stp_topology.specs.Sound.{IsSound}
+use Rattle.stp_topology.specs.declared.network.Network.{Network}
+use Rattle.stp_topology.specs.Network.{stp_of}
+use Rattle.agent_state.specs.State.{record_at}
+use Rattle.agent_state.specs.declared.parent.View.{View}
+use Rattle.connection_record.specs.declared.record.Record.{Record}
+use Rattle.connection_record.specs.Moves.{is_live}
+use Rattle.connection_record.specs.Refusal.{place_of}
+use Rattle.child_connection.specs.Views.{ChildConnection}
+use Rattle.requester_agent.specs.Setting.{Setting as RequesterSetting}
+use Rattle.aggregator_agent.specs.Setting.{Setting as AggregatorSetting}
+use Rattle.nsi_agent.specs.Homes.{Routes, AreRoutes, aggregates, requests, home_in}
+use Rattle.nsi_world.specs.Worlds.{Homes, IsAgent, World, empty}
+use Rattle.nsi_world.specs.Runs.{IsRun, world_after}
+use Rattle.run_growth.specs.Cuts.{IsCutOf, state_of_cut}
+use Rattle.run_growth.specs.Safe.{InEachWorld}
+use Rattle.circuit_laws.specs.Backed.{IsChildOf, IsBetween, WasAskedFor}
+use Rattle.circuit_laws.specs.Laws.{InEveryRun}
+use Rattle.end_to_end.specs.EndToEnd.{Booking, IsEndToEnd, IsLiving}
+
+-- A connection has these criteria from end to end: it is booked so between its own two ports, and while it lives each of the bookings does.
+pub record StandsEndToEnd (t : Network) (homes : Homes) (w : World) (own : Record) (k : Criteria) : Type 0 where
+  pub bookings : List Booking
+  pub circuit : IsEndToEnd t homes w own.source own.dest k bookings
+  pub living : is_live own.lsm ≡ true → All IsLiving bookings
+
+-- Whatever a crash leaves of an aggregator: each criteria that a connection of it has as committed stand from end to end.
+abbrev pub EachConnectionStands : Network → Homes → World → Type 0
+EachConnectionStands t homes w =
+    (a k n : ℕ) (setting : AggregatorSetting) (own : Record) (c : Criteria) → IsAgent homes a → (homes a).role ≡ aggregates setting → IsCutOf w a k →
+    slice_get (state_of_cut homes w a k).base.records n ≡ Some own → Contains own.committed c → StandsEndToEnd t homes w own c
+
+-- Whatever a crash leaves of a requester and of the agent that it asks: the record of a view that knows its connection is between the view's two points.
+abbrev pub EachViewIsBetween : Network → Homes → World → Type 0
+EachViewIsBetween t homes w =
+    (a b k j i id place : ℕ) (setting : RequesterSetting) (x : View) → IsAgent homes a → (homes a).role ≡ requests setting → IsCutOf w a k →
+    slice_get (state_of_cut homes w a k).views i ≡ Some x → IsChildOf t homes a x.child.child b → IsCutOf w b j → x.child.connection ≡ Some id →
+    place_of id (homes a).name (state_of_cut homes w b j).base.records ≡ Some place → IsBetween x.child (record_at place (state_of_cut homes w b j).base.records)
+
+-- A version that a view has as committed: it is booked from end to end between the view's own two points, with criteria that have this version and
+-- that were asked for, by a reserve that was sent.
+pub record IsKnownEndToEnd (t : Network) (homes : Homes) (w : World) (a : ℕ) (x : ChildConnection) (v : ℕ) : Type 0 where
+  pub criteria : Criteria
+  pub version : criteria.version ≡ v
+  pub source : ℕ
+  pub from : stp_of t x.source ≡ Some source
+  pub dest : ℕ
+  pub to : stp_of t x.dest ≡ Some dest
+  pub bookings : List Booking
+  pub circuit : IsEndToEnd t homes w source dest criteria bookings
+  pub provider : ℕ
+  pub below : IsChildOf t homes a x.child provider
+  pub asked : WasAskedFor homes w provider (homes a).name criteria
+
+-- Whatever a crash leaves of a requester: so is each version that it knows as committed.
+abbrev pub EachVersionIsKnown : Network → Homes → World → Type 0
+EachVersionIsKnown t homes w =
+    (a k i v : ℕ) (setting : RequesterSetting) (x : View) → IsAgent homes a → (homes a).role ≡ requests setting → IsCutOf w a k →
+    slice_get (state_of_cut homes w a k).views i ≡ Some x → Contains x.child.committed v → IsKnownEndToEnd t homes w a x.child v
+
+abbrev pub ConnectionsStand : Type 0
+ConnectionsStand = InEveryRun EachConnectionStands
+
+abbrev pub ViewsAreBetween : Type 0
+ViewsAreBetween = InEveryRun EachViewIsBetween
+
+abbrev pub VersionsAreKnown : Type 0
+VersionsAreKnown = InEveryRun EachVersionIsKnown
+
+---- Every run
+
+-- in the world after each front of the events
+pub record StandsInEachWorld (t : Network) (routes : Routes) (events : List Event) : Type 0 where
+  pub connections : InEachWorld events (EachConnectionStands t (home_in t routes))
+  pub versions : InEachWorld events (EachVersionIsKnown t (home_in t routes))
+
+-- in a topology that a text gives, whatever is lost, comes twice or comes late, and whoever begins again from what was synced
+abbrev pub EveryRunStands : Type 0
+EveryRunStands = (t : Network) (routes : Routes) (events : List Event) → IsSound t → IsWellFormed t → AreRoutes t routes → IsRun (home_in t routes) events → StandsInEachWorld t routes events
+
+-- where nothing has happened it is so whatever the topology is
+abbrev pub NothingStands : Type 0
+NothingStands = (t : Network) (routes : Routes) → StandsInEachWorld t routes []
+
+---- There are such circuits
+
+-- A run of a topology that a text gives, over the legs of its least paths, after which an aggregator's record has criteria as committed that stand so:
+-- booked at two places at least.
+pub record IsEndToEndRun (t : Network) (routes : Routes) (events : List Event) : Type 0 where
+  pub sound : IsSound t
+  pub formed : IsWellFormed t
+  pub routed : AreRoutes t routes
+  pub run : IsRun (home_in t routes) events
+  pub agent : ℕ
+  pub setting : AggregatorSetting
+  pub is_agent : IsAgent (home_in t routes) agent
+  pub role : (home_in t routes agent).role ≡ aggregates setting
+  pub cut : ℕ
+  pub is_cut : IsCutOf (world_after empty events) agent cut
+  pub place : ℕ
+  pub own : Record
+  pub there : slice_get (state_of_cut (home_in t routes) (world_after empty events) agent cut).base.records place ≡ Some own
+  pub criteria : Criteria
+  pub committed : Contains own.committed criteria
+  pub stands : StandsEndToEnd t (home_in t routes) (world_after empty events) own criteria
+  pub two : 2 ≤ length stands.bookings
+
+abbrev pub ItIsReached : Type 0
+ItIsReached = (t : Network) × (routes : Routes) × (events : List Event) × IsEndToEndRun t routes events
