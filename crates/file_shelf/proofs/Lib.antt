@@ -1,2 +1,3 @@
 mod Names
 pub mod Rows
+pub mod Whole

@@ -1,8 +1,6 @@
 -- What the calls of std come to.
 use Rattle.std.specs.Prelude.{ℕ, ◌-◌, ◌≤◌, nat_le, ⊤, Result, Ok, Err, if◌then◌else◌, ◌==◌}
 use Rattle.std.specs.IoError.{error_kind}
-use Rattle.std.specs.Fs.{metadata_len}
-use Rattle.std.specs.declared.fs.attrs.Metadata.{Metadata}
 use Rattle.std.specs.declared.fs.locks.TryLockError.{TryLockError}
 use Rattle.std.specs.declared.io.Error.{Error}
 use Rattle.std.specs.declared.io.ErrorKind.{ErrorKind}
@@ -32,8 +30,8 @@ GoesOnWithin left PieceOutcome.Whole = ⊤
 GoesOnWithin left PieceOutcome.Failed = ⊤
 
 -- with the length in bytes
-abbrev pub length_outcome : {E : Type 0} → Result Metadata E → CallOutcome × ℕ
-length_outcome (Ok m) = (CallOutcome.Done, metadata_len m)
+abbrev pub length_outcome : {E : Type 0} → Result ℕ E → CallOutcome × ℕ
+length_outcome (Ok n) = (CallOutcome.Done, n)
 length_outcome (Err e) = (CallOutcome.Failed, 0)
 
 abbrev pub fetch_outcome : {T E : Type 0} → Result T E → Result T ShelfError

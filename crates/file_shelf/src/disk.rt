@@ -1,36 +1,35 @@
 //! A disk over an open file.
 
-ghost use Rattle.std.specs.Prelude.{◌≡◌, ◌+◌, ◌-◌, ◌^◌, min};
+ghost use Rattle.std.specs.Prelude.{◌≡◌, ◌+◌, length, true, false, OnOk, IfSome, Some};
+ghost use Rattle.nsi_disk.specs.Disk.{Broke, Wrote, wrote};
 ghost use Rattle.file_shelf.specs.Tallies.{fresh_meter};
+ghost use Rattle.file_shelf.specs.Told.{Goes, ReadsAll, Reaches, is_kept};
 
+use crate::file::DiskFile;
 use crate::outcome::{CallOutcome, PieceOutcome, call_outcome, length_outcome, piece_outcome};
 use crate::tally::Tally;
 use nsi_disk::{Disk, DiskError};
 use std::alloc::AllocError;
-use std::fs::OpenFile;
-use std::marker::Model;
-use std::os::unix::fs::FileExt;
 
 /// A file that the system keeps. It is closed where it is dropped. Once a sync has failed each later one fails too, since the
-/// system may have let go of what it couldn't write.
+/// system may have let go of what it couldn't write. A fault that can't be counted stops it.
 #[derive(Drop)]
-pub struct FileDisk<F> {
+pub struct FileDisk<F: DiskFile> {
     file: F,
     tally: Tally,
     has_lost: bool,
+    ghost kept: { is_kept (F.DiskFile.told file) has_lost ≡ true },
 }
 
-impl<F> Model for FileDisk<F> {
-    ghost use Rattle.nsi_disk.specs.Disk.{Meter};
+impl<F: DiskFile> FileDisk<F> {
+    ghost use Rattle.nsi_disk.specs.Disk.{Fresh, HasCause, seen};
+    ghost use Rattle.file_shelf.specs.DiskOf.{file_of, meter_of};
+    ghost use Rattle.file_shelf.specs.Told.{past_of};
 
-    ghost Value = { Meter };
-
-    ghost view = { λ d. d.tally };
-}
-
-impl<F> FileDisk<F> {
     pub fn new(file: F) -> FileDisk<F>
-        ensures { result ≡ fresh_meter }
+        requires { is_kept (F.DiskFile.told file) false ≡ true }
+        ensures file { file_of result ≡ file }
+        ensures meter { meter_of result ≡ fresh_meter }
     {
         FileDisk {
             file,
@@ -39,27 +38,57 @@ impl<F> FileDisk<F> {
         }
     }
 
+    pub fn into_file(self) -> F
+        ensures { result ≡ file_of self }
+    {
+        let FileDisk {
+            file,
+            tally: _,
+            has_lost: _,
+        } = self;
+        file
+    }
+
+    /// Syncs it. From here on it is a disk that nothing has happened to, with its counts.
+    pub fn settle(&mut self) -> Result<(), DiskError>
+        ensures fresh { OnOk result (IfSome (past_of (F.DiskFile.told (file_of self.old))) (λ h.
+            past_of (F.DiskFile.told (file_of self.new)) ≡ Some (Fresh (seen h)))) }
+        ensures cause { HasCause (meter_of self.old) (meter_of self.new) result }
+    {
+        self.tally.begin()?;
+        if self.has_lost {
+            return self.tally.settle(CallOutcome::Failed);
+        }
+        let came = call_outcome(self.file.settle());
+        self.has_lost = came == CallOutcome::Failed;
+        self.tally.settle(came)
+    }
+
     /// How many of its calls failed.
     pub fn faults(&self) -> u64
-        ensures faults { result ≡ self.now.faults }
-        ensures stops { self.now.stops ≡ 0 }
+        ensures { result ≡ (meter_of self.now).faults }
     {
         self.tally.faults()
     }
+
+    /// How many of its calls stopped it.
+    pub fn stops(&self) -> u64
+        ensures { result ≡ (meter_of self.now).stops }
+    {
+        self.tally.stops()
+    }
 }
 
-/// The first place of what is left. No file has a byte at the greatest place.
-fn place_of(place: u64, done: usize) -> u64
-    ensures { result ≡ min (place + done) (2 ^ 64 - 1) }
+fn read_whole<F: DiskFile>(file: &mut F, place: u64, buffer: &mut [u8]) -> CallOutcome
+    requires { Reaches (place + length buffer.old) (F.DiskFile.told file.old) }
+    ensures bytes { ReadsAll place (F.DiskFile.told file.old) buffer.old buffer.new result }
+    ensures goes { Goes Broke (λ h. h)
+        (F.DiskFile.told file.old) (F.DiskFile.told file.new) result }
 {
-    place.saturating_add(done as u64)
-}
-
-fn read_whole<F: FileExt>(file: &F, place: u64, buffer: &mut [u8]) -> CallOutcome {
     let mut left = buffer.len();
     for _ in 0..u64::MAX {
         let done = buffer.len() - left;
-        let read = file.read_at(&mut buffer[done..], place_of(place, done));
+        let read = file.read(place, buffer, done);
         match piece_outcome(left, read) {
             PieceOutcome::Whole => return CallOutcome::Done,
             PieceOutcome::Left(n) => left = n,
@@ -69,11 +98,15 @@ fn read_whole<F: FileExt>(file: &F, place: u64, buffer: &mut [u8]) -> CallOutcom
     CallOutcome::Failed
 }
 
-fn write_whole<F: FileExt>(file: &F, place: u64, piece: &[u8]) -> CallOutcome {
+fn write_whole<F: DiskFile>(file: &mut F, place: u64, piece: &[u8]) -> CallOutcome
+    requires { Reaches place (F.DiskFile.told file.old) }
+    ensures { Goes (Wrote place (length piece.now)) (λ h. wrote place piece.now h)
+        (F.DiskFile.told file.old) (F.DiskFile.told file.new) result }
+{
     let mut left = piece.len();
     for _ in 0..u64::MAX {
         let done = piece.len() - left;
-        let written = file.write_at(&piece[done..], place_of(place, done));
+        let written = file.write(place, piece, done);
         match piece_outcome(left, written) {
             PieceOutcome::Whole => return CallOutcome::Done,
             PieceOutcome::Left(n) => left = n,
@@ -83,17 +116,19 @@ fn write_whole<F: FileExt>(file: &F, place: u64, piece: &[u8]) -> CallOutcome {
     CallOutcome::Failed
 }
 
-impl<F: FileExt + OpenFile> Disk for FileDisk<F> {
-    ghost use Rattle.std.specs.Prelude.{None};
+impl<F: DiskFile> Disk for FileDisk<F> {
+    ghost use Rattle.file_shelf.specs.Told.{past_of};
+    ghost use Rattle.file_shelf.specs.ToldLaws.{past_image};
 
-    ghost history = { λ _. None };
+    ghost history = { λ d. past_of (F.DiskFile.told d.file) };
 
-    ghost meter = { λ d. d };
+    ghost meter = { λ d. d.tally };
 
-    ghost reads_image = { λ _. tt };
+    ghost reads_image = { λ d. past_image (F.DiskFile.told d.file) (F.DiskFile.reads_image d.file) };
 
     fn length(&mut self) -> Result<u64, DiskError> {
-        let (came, length) = length_outcome(self.file.metadata());
+        self.tally.begin()?;
+        let (came, length) = length_outcome(self.file.length());
         match self.tally.settle(came) {
             Ok(()) => Ok(length),
             Err(error) => Err(error),
@@ -101,24 +136,29 @@ impl<F: FileExt + OpenFile> Disk for FileDisk<F> {
     }
 
     fn read_at(&mut self, place: u64, buffer: &mut [u8]) -> Result<(), DiskError> {
-        let came = read_whole(&self.file, place, buffer);
+        self.tally.begin()?;
+        let came = read_whole(&mut self.file, place, buffer);
         self.tally.settle(came)
     }
 
     fn write_at(&mut self, place: u64, piece: &[u8]) -> Result<(), DiskError> {
-        let came = write_whole(&self.file, place, piece);
+        self.tally.begin()?;
+        let came = write_whole(&mut self.file, place, piece);
         self.tally.settle(came)
     }
 
     fn cut(&mut self, len: u64) -> Result<(), DiskError> {
-        self.tally.settle(call_outcome(self.file.set_len(len)))
+        self.tally.begin()?;
+        let came = call_outcome(self.file.cut(len));
+        self.tally.settle(came)
     }
 
     fn sync(&mut self) -> Result<(), DiskError> {
+        self.tally.begin()?;
         if self.has_lost {
             return self.tally.settle(CallOutcome::Failed);
         }
-        let came = call_outcome(self.file.sync_all());
+        let came = call_outcome(self.file.sync());
         self.has_lost = came == CallOutcome::Failed;
         self.tally.settle(came)
     }

@@ -5,7 +5,7 @@ ghost use Rattle.file_shelf.specs.Outcomes.{call_outcome, fetch_outcome, length_
 ghost use Rattle.file_shelf.specs.Outcomes.{piece_outcome, GoesOnWithin};
 
 use nsi_disk::ShelfError;
-use std::fs::{Metadata, TryLockError};
+use std::fs::TryLockError;
 use std::io::{self, ErrorKind};
 
 /// What a call of a file came to.
@@ -51,12 +51,12 @@ pub fn piece_outcome(left: usize, given: io::Result<usize>) -> PieceOutcome
     }
 }
 
-/// The length of a file in bytes, or zero where std gives none.
-pub fn length_outcome(given: io::Result<Metadata>) -> (CallOutcome, u64)
+/// The length of a file in bytes, or zero where there is none.
+pub fn length_outcome(given: io::Result<u64>) -> (CallOutcome, u64)
     ensures { result ≡ length_outcome given }
 {
     match given {
-        Ok(metadata) => (CallOutcome::Done, metadata.len()),
+        Ok(length) => (CallOutcome::Done, length),
         Err(_) => (CallOutcome::Failed, 0),
     }
 }

@@ -1,75 +1,79 @@
 //! A shelf over a folder of files.
 
-ghost use Rattle.std.specs.Prelude.{◌≡◌};
+ghost use Rattle.std.specs.Prelude.{◌≡◌, IfOk};
 ghost use Rattle.file_shelf.specs.Tallies.{refusal, refused};
+ghost use Rattle.file_shelf.specs.Told.{IsReady};
 
+use crate::adapters::StdFolder;
 use crate::disk::FileDisk;
-use crate::name::file_name;
+use crate::file::DiskFile;
+use crate::folder::Folder;
 use crate::outcome::{fetch_outcome, lock_outcome};
 use nsi_base::Name;
-use nsi_disk::{Disk, Shelf, ShelfError, Stop};
+use nsi_disk::{Shelf, ShelfError, Stop};
 use std::alloc::Global;
-use std::fs::{File, OpenOptions};
 use std::marker::Model;
-use std::path::PathBuf;
 
 /// The files of a folder, one for each agent. A file that is missing is made. While a disk is out no other program, and no
 /// second fetch, gets it, where the file system has locks.
 #[derive(Drop)]
-pub struct FileShelf<'a> {
-    rt: &'a HostRuntime,
-    folder: &'a str,
+pub struct FolderShelf<D> {
+    folder: D,
     faults: u64,
+    stops: u64,
 }
 
-impl<'a> Model for FileShelf<'a> {
-    ghost use Rattle.std.specs.Prelude.{ℕ};
+/// The files of a folder of the system.
+pub type FileShelf<'a> = FolderShelf<StdFolder<'a>>;
 
-    ghost Value = { ℕ };
-
-    ghost view = { λ s. s.faults };
-}
-
-/// The file of this name in the folder, for this program alone.
-fn open_alone(
-    rt: &HostRuntime,
-    alloc: Global,
-    folder: &str,
-    name: &Name,
-) -> Result<File, ShelfError> {
-    let mut path = PathBuf::from_str(alloc, folder)?;
-    path.push(file_name(alloc, name)?.as_str())?;
-    let mut options = OpenOptions::new();
-    options.read(true).write(true).create(true);
-    let file = fetch_outcome(options.open(rt, path.as_path()))?;
-    lock_outcome(file.try_lock())?;
-    let folder = fetch_outcome(File::open(rt, folder))?;
-    make_lasting(&file, &folder)?;
+/// The file of this name, for this program alone. From now on a crash leaves what is read, whatever a program that was killed
+/// before had written or made.
+fn open_alone<D: Folder>(folder: &D, alloc: Global, name: &Name) -> Result<D::File, ShelfError>
+    ensures { IfOk result (λ f. IsReady (D.Folder.holds folder.now name.now)
+        (D.File.told f)) }
+{
+    let mut file = folder.open(alloc, name)?;
+    lock_outcome(folder.lock(&mut file))?;
+    fetch_outcome(file.settle())?;
+    fetch_outcome(folder.sync(&mut file))?;
     Ok(file)
 }
 
-/// From now on a crash leaves what is read, whatever a program that was killed before had written or made.
-fn make_lasting(file: &File, folder: &File) -> Result<(), ShelfError> {
-    fetch_outcome(file.sync_all())?;
-    fetch_outcome(folder.sync_all())
+impl<'a> FolderShelf<StdFolder<'a>> {
+    ghost use Rattle.file_shelf.specs.ShelfOf.{folder_of, path_of, faults_of, stops_of};
+
+    /// The files in the folder of this path.
+    pub fn new(rt: &'a HostRuntime, path: &'a str) -> FolderShelf<StdFolder<'a>>
+        ensures path { path_of (folder_of result) ≡ path.now }
+        ensures faults { faults_of result ≡ 0 }
+        ensures stops { stops_of result ≡ 0 }
+    {
+        FolderShelf::over(StdFolder::new(rt, path))
+    }
 }
 
-impl<'a> FileShelf<'a> {
+impl<D> FolderShelf<D> {
+    ghost use Rattle.file_shelf.specs.ShelfOf.{folder_of, faults_of, stops_of};
+
     /// The files in this folder.
-    pub fn new(rt: &'a HostRuntime, folder: &'a str) -> FileShelf<'a>
-        ensures faults { result ≡ 0 }
+    pub fn over(folder: D) -> FolderShelf<D>
+        ensures folder { folder_of result ≡ folder }
+        ensures faults { faults_of result ≡ 0 }
+        ensures stops { stops_of result ≡ 0 }
     {
-        FileShelf {
-            rt,
+        FolderShelf {
             folder,
             faults: 0,
+            stops: 0,
         }
     }
 
     /// Counts a fault, and tells why there is no disk.
     fn refuse(&mut self, error: ShelfError) -> ShelfError
-        ensures answer { result ≡ refusal self.old error }
-        ensures counted { self.new ≡ refused self.old error }
+        ensures answer { result ≡ refusal (faults_of self.old) error }
+        ensures counted { faults_of self.new ≡ refused (faults_of self.old) error }
+        ensures stops { stops_of self.new ≡ stops_of self.old }
+        ensures folder { folder_of self.new ≡ folder_of self.old }
     {
         match error {
             ShelfError::Failed if self.faults < u64::MAX => {
@@ -81,26 +85,26 @@ impl<'a> FileShelf<'a> {
     }
 }
 
-impl<'a> Shelf for FileShelf<'a> {
-    ghost use Rattle.std.specs.Prelude.{None, true};
+impl<D: Folder> Shelf for FolderShelf<D> {
+    ghost use Rattle.std.specs.Prelude.{true};
 
-    type Disk = FileDisk<File>;
+    type Disk = FileDisk<D::File>;
 
-    ghost holds = { λ _ _. None };
+    ghost holds = { λ s name. D.Folder.holds s.folder name };
 
     ghost listed = { λ _ _. true };
 
-    ghost faults = { λ s. s };
+    ghost faults = { λ s. s.faults };
 
-    ghost stops = { λ _. 0 };
+    ghost stops = { λ s. s.stops };
 
     fn fetch(
         &mut self,
         alloc: Global,
         name: &Name,
         _: &[Stop],
-    ) -> Result<FileDisk<File>, ShelfError> {
-        match open_alone(self.rt, alloc, self.folder, name) {
+    ) -> Result<FileDisk<D::File>, ShelfError> {
+        match open_alone(&self.folder, alloc, name) {
             Ok(file) => Ok(FileDisk::new(file)),
             Err(error) => Err(self.refuse(error)),
         }
@@ -110,15 +114,17 @@ impl<'a> Shelf for FileShelf<'a> {
         &mut self,
         _: Global,
         _: &Name,
-        mut disk: FileDisk<File>,
-    ) -> Result<FileDisk<File>, ShelfError> {
-        match disk.sync() {
+        mut disk: FileDisk<D::File>,
+    ) -> Result<FileDisk<D::File>, ShelfError> {
+        match disk.settle() {
             Ok(()) => Ok(disk),
             Err(_) => Err(self.refuse(ShelfError::Failed)),
         }
     }
 
-    fn give_back(&mut self, _: &Name, disk: FileDisk<File>) {
+    fn give_back(&mut self, name: &Name, disk: FileDisk<D::File>) {
         self.faults = self.faults.saturating_add(disk.faults());
+        self.stops = self.stops.saturating_add(disk.stops());
+        self.folder.close(name, disk.into_file());
     }
 }

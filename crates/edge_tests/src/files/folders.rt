@@ -22,13 +22,18 @@ fn read_all(disk: &mut FileDisk<File>) -> Result<(u64, [u8; 5]), DiskError> {
     Ok((length, buffer))
 }
 
+/// What may go to another thread.
+fn hand_over<T: Send>(value: T) -> T {
+    value
+}
+
 #[test]
 fn what_is_written_is_read_again(rt: HostRuntime) -> Result<(), Fail> {
     let _ = fs::remove_dir_all(&rt, "edge_tests_written");
     fs::create_dir(&rt, "edge_tests_written")?;
     let mut shelf = FileShelf::new(&rt, "edge_tests_written");
     let name = Name::of(rt.alloc(), b"urn:a/../b")?;
-    let mut disk = shelf.fetch(rt.alloc(), &name, &[])?;
+    let mut disk = hand_over(shelf.fetch(rt.alloc(), &name, &[])?);
     let empty = disk.length();
     assert!(rt; empty == Ok(0));
     let written = write_all(&mut disk);
