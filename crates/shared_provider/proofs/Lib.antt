@@ -1,0 +1,9 @@
+pub mod Kept
+pub mod Histories
+pub mod Sounds
+pub mod Exits
+pub mod Opening
+pub mod Asking
+pub mod Places
+pub mod Calling
+pub mod Works
