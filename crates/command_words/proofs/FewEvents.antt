@@ -8,7 +8,7 @@ use Rattle.nsi_base.specs.Digits.{number_of, ranged, are_digits, value_from}
 use Rattle.command_words.specs.declared.command.Command.{Command}
 use Rattle.command_words.specs.declared.command.Load.{Load}
 use Rattle.command_words.specs.declared.command.Play.{Play}
-use Rattle.command_words.specs.Words.{Given, check_of, command_of, events_in, from_in, generate_of, generate_options, is_end, load_of, options_from, play_of, provide_of, provide_options, report_in, run_of, run_options, size_in, value_of, with_options, workers_in, is_given}
+use Rattle.command_words.specs.Words.{Given, check_of, command_of, events_in, from_in, generate_of, generate_options, is_end, limit_in, limit_of, events_options, load_of, options_from, play_of, report_in, run_of, run_options, size_in, value_of, with_options, workers_in, is_given}
 
 ranged_few : (low high : ℕ) (digits : Bool) (n most : ℕ) → ranged low high digits n ≡ Some most → most ≤ high
 ranged_few low high digits n most e = grind (arith, nat_tests)
@@ -25,16 +25,16 @@ events_few (Some word) most e = ranged_few 1 2000000 (are_digits word) (value_fr
 abbrev provides : ℕ → Option Command
 provides most = Some (Command.Provide most)
 
-provide_few : (given : Option (List Given)) (most : ℕ) → option_and_then provide_of given ≡ provides most → most ≤ 2000000
-provide_few None most e = cc
-provide_few (Some given) most e = go (events_in (value_of (codes "events") given)) refl e
+limit_within : (given : Option (List Given)) (most : ℕ) → option_and_then limit_of given ≡ Some most → most ≤ 2000000
+limit_within None most e = cc
+limit_within (Some given) most e = events_few (value_of (codes "events") given) most e
+
+provide_few : (o : Option ℕ) (most : ℕ) → ((n : ℕ) → o ≡ Some n → n ≤ 2000000) → option_map Command.Provide o ≡ provides most → most ≤ 2000000
+provide_few None most few e = cc
+provide_few (Some n) most few e = let s = same n most e in omega (arith, few n refl)
   where
     same : (a b : ℕ) → provides a ≡ provides b → a ≡ b
     same a b h = cc
-
-    go : (o : Option ℕ) → events_in (value_of (codes "events") given) ≡ o → option_map Command.Provide o ≡ provides most → most ≤ 2000000
-    go None h e = cc
-    go (Some n) h e = let s = same n most e in omega (arith, events_few (value_of (codes "events") given) n h)
 
 run_apart : (given : Option (List Given)) (most : ℕ) → option_and_then run_of given ≡ provides most → most ≤ 2000000
 run_apart None most e = cc
@@ -60,13 +60,14 @@ generate_apart (Some given) most e = go (load_of (from_in (value_of (codes "from
 -- a limit that the words name is within the greatest
 pub limit_few : (words : List (List ℕ)) (most : ℕ) → command_of words ≡ provides most → most ≤ 2000000
 limit_few [] most e = cc
-limit_few (name ∷ words) most e = go (list_any is_end (name ∷ words)) (bytes_eq name (codes "provide")) (bytes_eq name (codes "run")) (bytes_eq name (codes "check")) (bytes_eq name (codes "generate")) e
+limit_few (name ∷ words) most e =
+    go (list_any is_end (name ∷ words)) (bytes_eq name (codes "provide")) (bytes_eq name (codes "run")) (bytes_eq name (codes "check")) (bytes_eq name (codes "generate")) e
   where
     go : (a b r c d : Bool)
-        → cond a None (cond b (with_options provide_options provide_of words) (cond r (with_options run_options run_of words) (cond c (with_options [] check_of words)
+        → cond a None (cond b (option_map Command.Provide (limit_in words)) (cond r (with_options run_options run_of words) (cond c (with_options [] check_of words)
         (cond d (with_options generate_options generate_of words) None)))) ≡ provides most → most ≤ 2000000
     go true b r c d e = cc
-    go false true r c d e = provide_few (options_from provide_options [] words) most e
+    go false true r c d e = provide_few (limit_in words) most (limit_within (options_from events_options [] words)) e
     go false false true c d e = run_apart (options_from run_options [] words) most e
     go false false false true d e = check_apart (options_from [] [] words) most e
     go false false false false true e = generate_apart (options_from generate_options [] words) most e

@@ -22,8 +22,8 @@ use Rattle.clap.specs.declared.parser.matches.Found.{Found}
 use Rattle.clap.proofs.WalkLemmas.{list_any-map, first_value-rows, one_text-rows}
 use Rattle.command_words.specs.Parsing.{flag_text, has_end, Parses}
 use Rattle.command_words.specs.declared.command.Command.{Command}
-use Rattle.command_words.specs.Words.{Known, Given, check_of, command_of, flag, named, from_in, generate_of, generate_options, generate_with, is_end, is_given, load_of, options_from, provide_of, provide_options, provide_with, run_of, run_options, run_with, value_of, with_options, with_value}
-use Rattle.command_words.proofs.Shapes.{app_for, check_app, generate_app, provide_app, run_app, parser_at, values_for, row_for, rule_at, rule_for, rules_for, shape_for}
+use Rattle.command_words.specs.Words.{Known, Given, by_first, check_of, flag, events_in, events_options, from_in, generate_of, generate_options, generate_with, is_end, is_given, limit_in, limit_of, load_of, options_from, run_of, run_options, run_with, value_of, with_options, with_value}
+use Rattle.command_words.proofs.Shapes.{app_for, check_app, generate_app, events_app, run_app, parser_at, values_for, row_for, rule_at, rule_for, rules_for, shape_for}
 use Rattle.command_words.proofs.Walking.{Agrees, AreTexts, Refuses, end_rows, first_refuses, has_row_given, idle_at, in_turn, no_row_at, row_of, rows_of, total, walks}
 
 abbrev with_defaults : List Rule → List Row → List Row
@@ -193,7 +193,7 @@ abbrev rows_by : Bool → List Known → List Text → List Row
 rows_by needed known words = rows_after (rules_for needed known) [] words
 
 -- words that are refused are no options
-pub refused : (name : Text) (known : List Known) (make : List Given → Option Command) (words : List Text) → AreTexts words → Refuses (kinds_of name false known words)
+pub refused : {C : Type 0} (name : Text) (known : List Known) (make : List Given → Option C) (words : List Text) → AreTexts words → Refuses (kinds_of name false known words)
     → None ≡ with_options known make words
 refused name known make words t r = go (options_from known [] words) (outcome name false known words t)
   where
@@ -202,7 +202,7 @@ refused name known make words t r = go (options_from known [] words) (outcome na
     go (Some given) h = absurd (r (h.0 ∙ ap (λ b. cond b (MissingRequiredArgument ∷ []) []) (none_lacks known (with_defaults (rules_for false known) (rows_of known given)))))
 
 -- and words that are taken are options, whose rows are found
-pub taken : (name : Text) (needed : Bool) (known : List Known) (make : List Given → Option Command) (words : List Text) (result : Option Command) → AreTexts words → kinds_of name needed known words ≡ []
+pub taken : {C : Type 0} (name : Text) (needed : Bool) (known : List Known) (make : List Given → Option C) (words : List Text) (result : Option C) → AreTexts words → kinds_of name needed known words ≡ []
     → ((given : List Given) → rows_by needed known words ≡ with_defaults (rules_for needed known) (rows_of known given) → result ≡ make given) → result ≡ with_options known make words
 taken name needed known make words result t none read = go (options_from known [] words) (outcome name needed known words t)
   where
@@ -230,17 +230,17 @@ are_texts (word ∷ words) e = (all_texts (word ∷ words) e).2
 parses_as : (app own : App) (words : List Text) (m m2 : Option ArgMatches) → app ≡ own → m ≡ m2 → Parses app words m → Parses own words m2
 parses_as app own words m m2 e f p = subst (λ x. Parses own words x) f (subst (λ a. Parses a words m) e p)
 
-pub provide_refused : (app : App) (words : List Text) (m : Option ArgMatches) → app ≡ provide_app → AreTexts (drop 1 words) → Parses app words m → m ≡ None → None ≡ with_options provide_options provide_of (drop 1 words)
-provide_refused app words m e t p f = refused (codes "provide") provide_options provide_of (drop 1 words) t (parses_as app provide_app words m None e f p)
+pub events_refused : (name : Text) (app : App) (words : List Text) (m : Option ArgMatches) → app ≡ events_app name → AreTexts (drop 1 words) → Parses app words m → m ≡ None → None ≡ limit_in (drop 1 words)
+events_refused name app words m e t p f = refused name events_options limit_of (drop 1 words) t (parses_as app (events_app name) words m None e f p)
 
-pub provide_taken : (app : App) (words : List Text) (m : Option ArgMatches) (x : ArgMatches) → app ≡ provide_app → AreTexts (drop 1 words) → Parses app words m → m ≡ Some x
-    → provide_with (first_value (found_of x) (codes "events")) ≡ with_options provide_options provide_of (drop 1 words)
-provide_taken app words m x e t p f =
-    let q = parses_as app provide_app words m (Some x) e f p in
-    taken (codes "provide") false provide_options provide_of (drop 1 words) (provide_with (first_value (found_of x) (codes "events"))) t q.0
-    (λ given rows. ap provide_with (first_value-rows (found_of x) (codes "events")
-    ∙ (ap (first_of (codes "events")) (q.1 ∙ (rows ∙ value_kept false (codes "events") (rows_of provide_options given)))
-    ∙ first_given provide_options (codes "events") (with_value (codes "events")) refl refl given)))
+pub events_taken : (name : Text) (app : App) (words : List Text) (m : Option ArgMatches) (x : ArgMatches) → app ≡ events_app name → AreTexts (drop 1 words) → Parses app words m → m ≡ Some x
+    → events_in (first_value (found_of x) (codes "events")) ≡ limit_in (drop 1 words)
+events_taken name app words m x e t p f =
+    let q = parses_as app (events_app name) words m (Some x) e f p in
+    taken name false events_options limit_of (drop 1 words) (events_in (first_value (found_of x) (codes "events"))) t q.0
+    (λ given rows. ap events_in (first_value-rows (found_of x) (codes "events")
+    ∙ (ap (first_of (codes "events")) (q.1 ∙ (rows ∙ value_kept false (codes "events") (rows_of events_options given)))
+    ∙ first_given events_options (codes "events") (with_value (codes "events")) refl refl given)))
 
 pub check_refused : (app : App) (words : List Text) (m : Option ArgMatches) → app ≡ check_app → AreTexts (drop 1 words) → Parses app words m → m ≡ None → None ≡ with_options [] check_of (drop 1 words)
 check_refused app words m e t p f = refused (codes "check") [] check_of (drop 1 words) t (parses_as app check_app words m None e f p)
@@ -344,19 +344,19 @@ generate_taken app words m x e t p f =
     (first_value-rows (found_of x) (codes "from") ∙ (ap (first_of (codes "from")) found ∙ first_given generate_options (codes "from") (with_value (codes "from")) refl refl given))
     (first_value-rows (found_of x) (codes "size") ∙ (ap (first_of (codes "size")) found ∙ first_given generate_options (codes "size") (with_value (codes "size")) refl refl given)))
 
--- words of which one is `--` name no command
-pub none_named : {Z : Type 0} (words : List (String Z)) → has_end words ≡ true → None ≡ command_of (map string_bytes words)
-none_named [] e = refl
-none_named (word ∷ words) e =
-    ap (λ b. cond b None (named (string_bytes word) (map string_bytes words))) (sym e ∙ list_any-map is_end string_bytes (word ∷ words))
+-- words of which one is `--` say nothing
+pub none_said : {Z C : Type 0} (says : List ℕ → List (List ℕ) → Option C) (words : List (String Z)) → has_end words ≡ true → None ≡ by_first says (map string_bytes words)
+none_said says [] e = refl
+none_said says (word ∷ words) e =
+    ap (λ b. cond b None (says (string_bytes word) (map string_bytes words))) (sym e ∙ list_any-map is_end string_bytes (word ∷ words))
 
--- others name what the first one names
-pub first_names : {Z : Type 0} (words : List (String Z)) (name : String Z) → slice_get words 0 ≡ Some name → has_end words ≡ false
-    → named (string_bytes name) (drop 1 (map string_bytes words)) ≡ command_of (map string_bytes words)
-first_names [] name e h = cc
-first_names {Z} (word ∷ words) name e h =
-    ap (λ (w : String Z). named (string_bytes w) (map string_bytes words)) (sym (same word name e))
-    ∙ ap (λ b. cond b None (named (string_bytes word) (map string_bytes words))) (sym h ∙ list_any-map is_end string_bytes (word ∷ words))
+-- others say what the first one says
+pub first_says : {Z C : Type 0} (says : List ℕ → List (List ℕ) → Option C) (words : List (String Z)) (name : String Z) → slice_get words 0 ≡ Some name → has_end words ≡ false
+    → says (string_bytes name) (drop 1 (map string_bytes words)) ≡ by_first says (map string_bytes words)
+first_says says [] name e h = cc
+first_says {Z} says (word ∷ words) name e h =
+    ap (λ (w : String Z). says (string_bytes w) (map string_bytes words)) (sym (same word name e))
+    ∙ ap (λ b. cond b None (says (string_bytes word) (map string_bytes words))) (sym h ∙ list_any-map is_end string_bytes (word ∷ words))
   where
     same : (a b : String Z) → Some a ≡ Some b → a ≡ b
     same a b h = cc

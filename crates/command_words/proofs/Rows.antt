@@ -4,7 +4,7 @@ use Rattle.std.specs.Prelude.{codes}
 use Rattle.nsi_base.specs.Digits.{number_of, value_from}
 use Rattle.run_totals.specs.declared.report.Report.{Report}
 use Rattle.command_words.specs.declared.command.Command.{Command}
-use Rattle.command_words.specs.Words.{command_of, options_from}
+use Rattle.command_words.specs.Words.{command_of, options_from, race_of}
 
 pub one_word_is_a_command : command_of (codes "check" ∷ []) ≡ Some Command.Check
 unfolding options_from
@@ -65,3 +65,14 @@ help_is_none = refl
 
 pub an_end_is_none : command_of (codes "run" ∷ codes "--" ∷ []) ≡ None
 an_end_is_none = refl
+
+pub a_race_is_no_command : command_of (codes "race" ∷ []) ≡ None
+a_race_is_no_command = refl
+
+pub a_race : race_of (codes "race" ∷ codes "--events" ∷ codes "9" ∷ []) ≡ Some 9
+unfolding options_from number_of value_from
+a_race = refl
+
+pub no_race_with_workers : race_of (codes "race" ∷ codes "--workers=2" ∷ []) ≡ None
+unfolding options_from
+no_race_with_workers = refl

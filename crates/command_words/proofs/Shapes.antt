@@ -10,7 +10,7 @@ use Rattle.clap.specs.declared.builder.value_parser.ValueParser.{ValueParser}
 use Rattle.clap.specs.declared.builder.value_parser.ValueParser.TheVariants as vp
 use Rattle.clap.specs.declared.parser.matches.ValueSource.TheVariants.{CommandLine}
 use Rattle.command_words.specs.Parsing.{flag_rule, needed_rule, plain_app, value_rule}
-use Rattle.command_words.specs.Words.{Known, Given, generate_options, provide_options, run_options}
+use Rattle.command_words.specs.Words.{Known, Given, events_options, generate_options, run_options}
 
 abbrev pub parser_at : Bool → ValueParser
 parser_at true = vp.String
@@ -59,8 +59,8 @@ shape_for name needed known = record (new_shape name) {
 abbrev pub app_for : Text → Bool → List Known → App
 app_for name needed known = record { top = shape_for name needed known; subs = [] }
 
-abbrev pub provide_app : App
-provide_app = with_rule (plain_app (codes "provide")) (value_rule (codes "events"))
+abbrev pub events_app : Text → App
+events_app name = with_rule (plain_app name) (value_rule (codes "events"))
 
 abbrev pub run_app : App
 run_app = with_rule (with_rule (with_rule (plain_app (codes "run")) (value_rule (codes "events"))) (value_rule (codes "workers"))) (flag_rule (codes "summary"))
@@ -71,8 +71,8 @@ check_app = plain_app (codes "check")
 abbrev pub generate_app : App
 generate_app = with_rule (with_rule (plain_app (codes "generate")) (needed_rule (codes "from"))) (needed_rule (codes "size"))
 
-pub provide_built : built provide_app ≡ app_for (codes "provide") false provide_options
-provide_built = refl
+pub events_built : (name : Text) → built (events_app name) ≡ app_for name false events_options
+events_built name = refl
 
 pub run_built : built run_app ≡ app_for (codes "run") false run_options
 run_built = refl
@@ -83,8 +83,8 @@ check_built = refl
 pub generate_built : built generate_app ≡ app_for (codes "generate") true generate_options
 generate_built = refl
 
-pub provide_simple : is_simple provide_app ≡ true
-provide_simple = refl
+pub events_simple : (name : Text) → is_simple (events_app name) ≡ true
+events_simple name = refl
 
 pub run_simple : is_simple run_app ≡ true
 run_simple = refl
@@ -95,8 +95,8 @@ check_simple = refl
 pub generate_simple : is_simple generate_app ≡ true
 generate_simple = refl
 
-pub provide_free : is_simple_and_free provide_app ≡ true
-provide_free = refl
+pub events_free : (name : Text) → is_simple_and_free (events_app name) ≡ true
+events_free name = refl
 
 pub run_free : is_simple_and_free run_app ≡ true
 run_free = refl

@@ -3,6 +3,7 @@ use Rattle.std.specs.Prelude.{ℕ, List, [], ◌∷◌, ◌++◌, ◌==◌, ◌&
 use Rattle.std.specs.List.{starts_with, list_any, before_first, after_first}
 use Rattle.std.specs.Str.{bytes_eq}
 use Rattle.nsi_base.specs.Digits.{number_of}
+use Rattle.command_limits.specs.Limits.{most_events, most_workers}
 use Rattle.run_totals.specs.declared.report.Report.{Report}
 use Rattle.command_words.specs.declared.command.Command.{Command}
 use Rattle.command_words.specs.declared.command.Load.{Load}
@@ -83,14 +84,6 @@ value_of name given = option_map (λ (g : Given). g.value) (find (λ g. bytes_eq
 
 ---- Numbers
 
--- the most events that can be asked for
-abbrev pub most_events : ℕ
-most_events = 2000000
-
--- the most workers that can be asked for
-abbrev pub most_workers : ℕ
-most_workers = 64
-
 abbrev pub greatest_number : ℕ
 greatest_number = 18446744073709551615
 
@@ -128,14 +121,11 @@ with_value name = record { name = name; takes_value = true }
 abbrev pub flag : List ℕ → Known
 flag name = record { name = name; takes_value = false }
 
-abbrev pub provide_options : List Known
-provide_options = with_value (codes "events") ∷ []
+abbrev pub events_options : List Known
+events_options = with_value (codes "events") ∷ []
 
-abbrev pub provide_with : Option (List ℕ) → Option Command
-provide_with events = option_map Command.Provide (events_in events)
-
-abbrev pub provide_of : List Given → Option Command
-provide_of given = provide_with (value_of (codes "events") given)
+abbrev pub limit_of : List Given → Option ℕ
+limit_of given = events_in (value_of (codes "events") given)
 
 abbrev pub run_options : List Known
 run_options = with_value (codes "events") ∷ with_value (codes "workers") ∷ flag (codes "summary") ∷ []
@@ -166,14 +156,18 @@ generate_with from size = option_map Command.Generate (load_of (from_in from) (s
 abbrev pub generate_of : List Given → Option Command
 generate_of given = generate_with (value_of (codes "from") given) (value_of (codes "size") given)
 
--- the command that the options make, where the words are such options
-abbrev pub with_options : List Known → (List Given → Option Command) → List (List ℕ) → Option Command
+-- what the options make, where the words are such options
+abbrev pub with_options : {C : Type 0} → List Known → (List Given → Option C) → List (List ℕ) → Option C
 with_options known make words = option_and_then make (options_from known [] words)
+
+-- how many events there may be, where the words are that option alone, or nothing
+abbrev pub limit_in : List (List ℕ) → Option ℕ
+limit_in words = with_options events_options limit_of words
 
 -- the first word names the command, and its options stand behind it
 abbrev pub named : List ℕ → List (List ℕ) → Option Command
 named name words =
-    if bytes_eq name (codes "provide") then with_options provide_options provide_of words
+    if bytes_eq name (codes "provide") then option_map Command.Provide (limit_in words)
     else if bytes_eq name (codes "run") then with_options run_options run_of words
     else if bytes_eq name (codes "check") then with_options [] check_of words
     else if bytes_eq name (codes "generate") then with_options generate_options generate_of words
@@ -182,7 +176,17 @@ named name words =
 abbrev pub is_end : List ℕ → Bool
 is_end word = bytes_eq word (codes "--")
 
--- the command, and none where a word is `--`
+-- what the first word and those behind it say, and nothing where a word is `--`
+abbrev pub by_first : {C : Type 0} → (List ℕ → List (List ℕ) → Option C) → List (List ℕ) → Option C
+by_first says [] = None
+by_first says (name ∷ words) = if list_any is_end (name ∷ words) then None else says name words
+
 abbrev pub command_of : List (List ℕ) → Option Command
-command_of [] = None
-command_of (name ∷ words) = if list_any is_end (name ∷ words) then None else named name words
+command_of words = by_first named words
+
+-- In how many events at most requesters are to race, where the words say that. They name no command then.
+abbrev pub race_named : List ℕ → List (List ℕ) → Option ℕ
+race_named name words = if bytes_eq name (codes "race") then limit_in words else None
+
+abbrev pub race_of : List (List ℕ) → Option ℕ
+race_of words = by_first race_named words

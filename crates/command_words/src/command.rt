@@ -1,6 +1,6 @@
 //! What the program is asked to do.
 
-use crate::limits::{EventLimit, Workers};
+use command_limits::{EventLimit, Workers};
 use run_totals::Report;
 
 /// A load that is to be made: the number that it is drawn from, and how many reserves it has.

@@ -2,10 +2,8 @@
 #![tactic(auto)]
 
 mod command;
-mod limits;
 mod parsing;
 mod words;
 
 pub use command::{Command, Load, Play};
-pub use limits::{EventLimit, Workers};
-pub use words::command_of;
+pub use words::{command_of, race_of};

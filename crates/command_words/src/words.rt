@@ -3,12 +3,12 @@
 ghost use Rattle.std.specs.Prelude.{◌≡◌, Bool, IfOk, Some, [], codes, false, map, string_bytes, option_map};
 ghost use Rattle.clap.specs.Matches.{first_value, found_of, one_text};
 ghost use Rattle.command_words.specs.Parsing.{Names, flag_text, has_end};
-ghost use Rattle.command_words.specs.Words.{check_of, command_of, events_in, generate_of, generate_options, generate_with, named, provide_of, provide_options, provide_with, run_of, run_options, run_with, with_options, workers_in};
+ghost use Rattle.command_words.specs.Words.{check_of, command_of, events_in, events_options, generate_of, generate_options, generate_with, limit_in, limit_of, named, race_named, race_of, run_of, run_options, run_with, with_options, workers_in};
 
 use crate::command::{Command, Load, Play};
-use crate::limits::{EventLimit, Workers};
 use crate::parsing::{flag, parsed, plain_command, value};
 use clap::ArgMatches;
+use command_limits::{EventLimit, Workers};
 use nsi_base::digits::number_of;
 use run_totals::Report;
 use std::alloc::{AllocError, Global};
@@ -52,24 +52,58 @@ fn has_end(words: &[String]) -> bool
     words.iter().any(|word| word.as_str() == "--")
 }
 
-/// `provide`, with the options behind it.
-fn provide_in(alloc: Global, words: &[String]) -> Result<Option<Command>, AllocError>
-    requires { has_end words.now ≡ false }
-    ensures { Names (with_options provide_options provide_of) words.now result }
+/// In how many events at most requesters are to race, where that is what the words say: this one takes locks, so it is no
+/// command. The words are those behind the program's name.
+pub fn race_of(alloc: Global, words: &[String]) -> Result<Option<EventLimit>, AllocError>
+    ensures { IfOk result (λ most. most ≡ race_of (map string_bytes words.now)) }
 {
-    let command = plain_command(alloc, "provide").arg(value(alloc, "events"))?;
+    let Some(name) = words.first() else {
+        return Ok(None);
+    };
+    if has_end(words) {
+        return Ok(None);
+    }
+    race_named(alloc, name.as_str(), words)
+}
+
+/// The limit of a race, where that is the name, with the options behind it.
+fn race_named(alloc: Global, name: &str, words: &[String]) -> Result<Option<EventLimit>, AllocError>
+    requires { has_end words.now ≡ false }
+    ensures { Names (race_named name.now) words.now result }
+{
+    if name == "race" {
+        limit_in(alloc, "race", words)
+    } else {
+        Ok(None)
+    }
+}
+
+/// How many events the command of this name may have, whose one option says that.
+fn limit_in(alloc: Global, name: &str, words: &[String]) -> Result<Option<EventLimit>, AllocError>
+    requires { has_end words.now ≡ false }
+    ensures { Names limit_in words.now result }
+{
+    let command = plain_command(alloc, name).arg(value(alloc, "events"))?;
     let Some(matches) = parsed(command, words)? else {
         return Ok(None);
     };
-    Ok(provide_with(&matches))
+    Ok(limit_with(&matches))
 }
 
 /// What its matches ask for.
-fn provide_with(matches: &ArgMatches<'_>) -> Option<Command>
-    ensures { result ≡ provide_with (first_value (found_of matches.now) (codes "events")) }
+fn limit_with(matches: &ArgMatches<'_>) -> Option<EventLimit>
+    ensures { result ≡ events_in (first_value (found_of matches.now) (codes "events")) }
 {
-    let most = events_in(matches.get_str("events"))?;
-    Some(Command::Provide(most))
+    events_in(matches.get_str("events"))
+}
+
+/// `provide`, with the options behind it.
+fn provide_in(alloc: Global, words: &[String]) -> Result<Option<Command>, AllocError>
+    requires { has_end words.now ≡ false }
+    ensures { Names (λ words. option_map Command.Provide (limit_in words)) words.now result }
+{
+    let most = limit_in(alloc, "provide", words)?;
+    Ok(most.map(Command::Provide))
 }
 
 /// `run`, with the options behind it.

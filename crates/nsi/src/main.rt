@@ -7,7 +7,7 @@ ghost use Rattle.nsi.specs.Usage.{IsUsageAsNamed};
 use file_shelf::FileShelf;
 use nsi_disk::{MemoryShelf, Shelf};
 use nsi_outside::{StdSink, StdSource};
-use nsi_program::{Status, top_plain};
+use nsi_program::{Status, top};
 use std::env::VarError;
 use std::process::ExitCode;
 use std::thread::Threads;
@@ -82,7 +82,7 @@ where
 {
     let mut input = StdSource::new(rt.reader());
     let mut out = StdSink::new(io::writer(rt));
-    top_plain(threads, rt.alloc(), words, &mut input, &mut out, shelf)
+    top(threads, rt.alloc(), words, &mut input, &mut out, shelf)
 }
 
 /// The words behind the program's name. There are none where one isn't UTF-8, which no command is either.

@@ -2,4 +2,5 @@ pub mod Checks
 pub mod Ended
 pub mod OneText
 pub mod Nothing
+pub mod Plainly
 mod CheckRows

@@ -15,6 +15,7 @@ use Rattle.nsi_program.specs.Ends.{IsCutShort}
 use Rattle.fault_lines.specs.Lines.{as_line}
 use Rattle.provide_command.specs.Phases.{Phase, Reading, in_topology}
 use Rattle.nsi_program.specs.RunsTo.{options_of}
+use Rattle.provide_command.proofs.Written.{nothing_some}
 use Rattle.nsi_script.specs.Load.{load_of}
 use Rattle.run_command.specs.Ends.{WritesSomeFront}
 use Rattle.run_command.specs.Runs.{Begins}

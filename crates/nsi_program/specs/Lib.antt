@@ -2,3 +2,4 @@ pub mod RunsTo
 pub mod Asked
 pub mod Check
 pub mod Ends
+pub mod Plain

@@ -2,12 +2,12 @@
 #![tactic(auto)]
 
 mod asked;
+mod calls;
 mod check;
 mod generating;
 mod paths;
 mod running;
-mod top;
 
+pub use calls::{top, top_plain};
 pub use check::one_check;
 pub use provide_command::Status;
-pub use top::top_plain;

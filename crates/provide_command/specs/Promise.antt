@@ -62,6 +62,7 @@ code_of Status.BadTopology = 5
 code_of Status.BadScript = 6
 code_of Status.DiskFault = 7
 code_of Status.Long = 8
+code_of Status.Differ = 9
 code_of Status.NotAJournal = 10
 
 -- the command `provide` before its first line

@@ -16,7 +16,7 @@ ghost use Rattle.provide_command.specs.Phases.{Reading, in_service};
 ghost use Rattle.provide_command.specs.Promise.{Writes, WritesFront, promised, promise_of, ended, IsSameEnd};
 ghost use Rattle.provide_command.specs.UpTo.{IsUpToIf, HaltsAt, IsBegun};
 ghost use Rattle.provide_command.specs.Provided.{IsUnread, HasFailed, refused_text, file_of, ServedTo, ConcludesFault, Concludes, HasProvided, CountsEnd};
-ghost use Rattle.command_words.specs.Words.{most_events};
+ghost use Rattle.command_limits.specs.Limits.{most_events};
 ghost use Rattle.provide_command.specs.declared.status.Status.{Status as AStatus};
 ghost use Rattle.stp_topology.specs.Network.{name_of};
 
@@ -25,7 +25,7 @@ use crate::output::{Fault, Halt, disk_fault, read_fault, write_text};
 use crate::service::Service;
 use crate::serving::{Desk, serve_all};
 use crate::status::{Ending, Status};
-use command_words::EventLimit;
+use command_limits::EventLimit;
 use disk_journal::{DiskJournal, StartCause, StartFault};
 use fault_lines::journal_fault;
 use journal_entry::Journal;

@@ -15,7 +15,7 @@ ghost use Rattle.provide_command.specs.Declares.{DeclaresLine, DeclaresNext, goe
 
 use crate::output::{Fault, write_text};
 use crate::status::Ending;
-use command_words::EventLimit;
+use command_limits::EventLimit;
 use fault_lines::topology_fault;
 use line_reader::{LineReader, Next, ReadError};
 use nsi_base::AgentNo;

@@ -10,7 +10,7 @@ use crate::batch::{Batch, take_batch};
 use crate::payload::payload;
 use crate::receiving::{Received, receive};
 use crate::replay::replay;
-use command_words::EventLimit;
+use command_limits::EventLimit;
 use json_primitives::print_message;
 use nsi_base::AgentNo;
 use nsi_primitive::{Entry, Message};

@@ -16,6 +16,7 @@ pub enum Status {
     BadScript = 6,
     DiskFault = 7,
     Long = 8,
+    Differ = 9,
     NotAJournal = 10,
 }
 

@@ -17,11 +17,10 @@ use Rattle.fault_lines.specs.Lines.{topology_fault, script_fault, long_line}
 use Rattle.agent_threads.specs.Reports.{written}
 use Rattle.run_totals.specs.declared.report.Report.{Report}
 use Rattle.agent_threads.specs.declared.report.RunOptions.{RunOptions}
-use Rattle.circuit_laws.specs.SafeLaws.{NothingIsSafe}
 use Rattle.run_command.specs.declared.command.RunEnd.{RunEnd}
-use Rattle.run_command.specs.declared.reading.Declared.{Declared}
-use Rattle.run_command.specs.Reading.{IsDeclared}
-use Rattle.run_command.specs.Runs.{script_behind, AreRead, Plays, StartsPlay, BeginsPlay, BreaksPlay, no_text, RunsScript, RunsRead, RunsIf, Runs, Begins, Breaks}
+use Rattle.topology_input.specs.declared.Declared.{Declared}
+use Rattle.topology_input.specs.Reading.{IsDeclared}
+use Rattle.run_command.specs.Runs.{NothingIsSafeThroughout, script_behind, AreRead, Plays, StartsPlay, BeginsPlay, BreaksPlay, no_text, RunsScript, RunsRead, RunsIf, Runs, Begins, Breaks}
 use Rattle.run_command.specs.Ends.{WritesSomeFront, Counts, Closes, IsQuiet, HasPlayed, HasRead}
 use Rattle.run_command.proofs.Closing.{nothing_front}
 use Rattle.run_command.proofs.Running.{none_all, some_front, told_run, run_along}
@@ -110,13 +109,13 @@ none_written Report.Trace t = refl
 none_written Report.Summary t = refl
 
 -- nothing is played yet
-nothing_starts : NothingIsSafe → (options : RunOptions) (t : Network) (script : Script) → StartsPlay options t script no_text []
+nothing_starts : NothingIsSafeThroughout → (options : RunOptions) (t : Network) (script : Script) → StartsPlay options t script no_text []
 unfolding plays
 nothing_starts none options t script =
     record { groups = 0; events = []; first = record { play = λ routes r. (opening t (plans_of script.lose), (0, refl)); run = λ routes r. none t routes; within = omega arith }; spelled = none_written options.report t }
 
 -- every input begins with some text
-pub some_begins : NothingIsSafe → (options : RunOptions) (bytes : List ℕ) → (text : List ℕ) × Begins options bytes text
+pub some_begins : NothingIsSafeThroughout → (options : RunOptions) (bytes : List ℕ) → (text : List ℕ) × Begins options bytes text
 some_begins none options bytes = by_size (leb (length bytes) greatest_input) refl
   where
     by_size : (b : Bool) → leb (length bytes) greatest_input ≡ b → (text : List ℕ) × Begins options bytes text
@@ -141,7 +140,7 @@ some_begins none options bytes = by_size (leb (length bytes) greatest_input) ref
     by_size false e = let P : Bool → Type 0 = λ b. RunsIf b options bytes RunEnd.Long long_line in (long_line, inl (RunEnd.Long, subst P (sym e) (refl, refl)))
 
 -- nothing was written, for want of memory
-pub nothing_begun : NothingIsSafe → (options : RunOptions) (left old : Option (List ℕ)) → IfSome left (λ bytes. WritesSomeFront (Begins options bytes) old old)
+pub nothing_begun : NothingIsSafeThroughout → (options : RunOptions) (left old : Option (List ℕ)) → IfSome left (λ bytes. WritesSomeFront (Begins options bytes) old old)
 nothing_begun none options None old = tt
 nothing_begun none options (Some bytes) old = let b = some_begins none options bytes in some_front (Begins options bytes) old old b.0 b.1 (nothing_front old b.0)
 
@@ -153,7 +152,7 @@ long_begun options (Some bytes) old new l w =
     some_front (Begins options bytes) old new long_line (inl (RunEnd.Long, subst P (sym (passes (length bytes) greatest_input l)) (refl, refl))) w
 
 -- nothing was written of an input that was read
-pub wanting_read : NothingIsSafe → (options : RunOptions) (bytes : List ℕ) (old : Option (List ℕ)) (counts : Counts) (faults : ℕ) → HasRead options bytes old old counts counts faults faults RunEnd.NoMemory
+pub wanting_read : NothingIsSafeThroughout → (options : RunOptions) (bytes : List ℕ) (old : Option (List ℕ)) (counts : Counts) (faults : ℕ) → HasRead options bytes old old counts counts faults faults RunEnd.NoMemory
 wanting_read none options bytes old counts faults =
     let b = some_begins none options bytes in
     record {

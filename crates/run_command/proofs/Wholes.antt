@@ -15,10 +15,12 @@ use Rattle.nsi_agent.specs.Homes.{Routes, AreRoutes}
 use Rattle.nsi_play.specs.Openings.{plans_of}
 use Rattle.nsi_play.specs.Play.{IsPlay}
 use Rattle.nsi_world.specs.Laws.{PlayIsRun, PlayRests, AsksWhole}
-use Rattle.circuit_laws.specs.Safe.{IsSafeRun}
 use Rattle.circuit_laws.specs.SafeLaws.{EveryRunIsSafe}
 use Rattle.settled_play.specs.Settled.{PlaySettles, PlayLeavesNone}
-use Rattle.run_command.specs.Runs.{IsWholeRun}
+use Rattle.end_to_end.specs.Laws.{EveryRunStands}
+use Rattle.nsi_agent.specs.Homes.{home_in}
+use Rattle.nsi_world.specs.Runs.{IsRun}
+use Rattle.run_command.specs.Runs.{IsSafeThroughout, IsWholeRun}
 
 -- a play of no more events than that is such a run
 abbrev pub PlaysRun : ℕ → Network → Script → Type 0
@@ -31,14 +33,18 @@ pub record PlayLaws : Type 0 where
   pub rests : PlayRests
   pub asks : AsksWhole
   pub safe : EveryRunIsSafe
+  pub stands : EveryRunStands
   pub left : PlaySettles
   pub over : PlayLeavesNone
+
+safe_throughout : PlayLaws → (t : Network) (routes : Routes) (events : List Event) → IsSound t → IsWellFormed t → AreRoutes t routes → IsRun (home_in t routes) events → IsSafeThroughout t routes events
+safe_throughout laws t routes events sound well r run = record { safe = laws.safe t routes events sound well r run; stands = laws.stands t routes events sound well r run }
 
 pub plays_run : PlayLaws → (limit : ℕ) (t : Network) (s : Script) → limit ≤ 2000000 → IsSound t → IsWellFormed t → Fits t s → PlaysRun limit t s
 plays_run laws limit t s few sound well fits = λ events play within routes r.
     let p = play routes r in
     record {
-      run = laws.safe t routes events sound well r
+      run = safe_throughout laws t routes events sound well r
           (laws.is_run t routes (plans_of s.lose) s.groups events p.0 well fits.rising fits.acts p.1 (omega (arith, few, within)));
       asks = laws.asks t routes (plans_of s.lose) s.groups events p.0 well fits.rising fits.acts p.1;
       rests = laws.rests t routes (plans_of s.lose) s.groups events p.0 well fits.rising fits.acts p.1;
@@ -68,12 +74,12 @@ module _ (P : Act → Type 0) where
 -- the play of some first groups is a safe run
 abbrev pub FrontsRun : ℕ → Network → Script → Type 0
 FrontsRun limit t script =
-    (groups : ℕ) (events : List Event) → IsPlay t (plans_of script.lose) (take groups script.groups) events → length events ≤ limit → (routes : Routes) → AreRoutes t routes → IsSafeRun t routes events
+    (groups : ℕ) (events : List Event) → IsPlay t (plans_of script.lose) (take groups script.groups) events → length events ≤ limit → (routes : Routes) → AreRoutes t routes → IsSafeThroughout t routes events
 
 pub fronts_run : PlayLaws → (limit : ℕ) (t : Network) (s : Script) → limit ≤ 2000000 → IsSound t → IsWellFormed t → Fits t s → FrontsRun limit t s
 fronts_run laws limit t s few sound well fits = λ groups events play within routes r.
     let p = play routes r in
     let rising = rising_take groups s.groups fits.rising in
     let acts = acts_take (IsActOf t) groups s.groups fits.acts in
-    laws.safe t routes events sound well r
+    safe_throughout laws t routes events sound well r
     (laws.is_run t routes (plans_of s.lose) (take groups s.groups) events p.0 well rising acts p.1 (omega (arith, few, within)))

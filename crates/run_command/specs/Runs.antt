@@ -19,6 +19,7 @@ use Rattle.nsi_world.specs.Runs.{world_after, asks_of, numbered}
 use Rattle.nsi_world.specs.Scripts.{wishes_of}
 use Rattle.nsi_world.specs.Rest.{IsAtRest}
 use Rattle.circuit_laws.specs.Safe.{IsSafeRun}
+use Rattle.end_to_end.specs.Laws.{StandsInEachWorld}
 use Rattle.settled_play.specs.Settled.{LeavesOnlyLost, LoseNothing, GoesOn, IsDone}
 use Rattle.run_totals.specs.Totals.{totals_of}
 use Rattle.run_totals.specs.declared.totals.Totals.{Totals}
@@ -45,10 +46,19 @@ closing_line Report.Summary n = summary_line n
 
 ---- Plays
 
+-- a safe run, in each world of which what is committed stands from end to end
+pub record IsSafeThroughout (t : Network) (routes : Routes) (events : List Event) : Type 0 where
+  pub safe : IsSafeRun t routes events
+  pub stands : StandsInEachWorld t routes events
+
+-- as no events are, whatever the topology
+abbrev pub NothingIsSafeThroughout : Type 0
+NothingIsSafeThroughout = (t : Network) (routes : Routes) → IsSafeThroughout t routes []
+
 -- the play of some first groups of a script, which has no more events than that, and is such a run whichever legs are those of the least paths
 pub record IsTextOf (options : RunOptions) (t : Network) (script : Script) (groups : ℕ) (events : List Event) : Type 0 where
   pub play : IsPlay t (plans_of script.lose) (take groups script.groups) events
-  pub run : (routes : Routes) → AreRoutes t routes → IsSafeRun t routes events
+  pub run : (routes : Routes) → AreRoutes t routes → IsSafeThroughout t routes events
   pub within : length events ≤ options.limit
 
 -- These events are a safe run that asks the whole script, in order. In the world that they make each journal is synced whole and no work
@@ -56,7 +66,7 @@ pub record IsTextOf (options : RunOptions) (t : Network) (script : Script) (grou
 -- acknowledged, than lines of the script lose on the two ways between them. So where it plans no loss, and no event is a restart, each message
 -- that was said was got and acknowledged.
 pub record IsWholeRun (t : Network) (routes : Routes) (script : Script) (events : List Event) : Type 0 where
-  pub run : IsSafeRun t routes events
+  pub run : IsSafeThroughout t routes events
   pub asks : asks_of events ≡ numbered 0 (wishes_of script.groups)
   pub rests : (a : ℕ) → a < length t.agents → IsAtRest (home_in t routes) (world_after empty events) a
   pub left : LeavesOnlyLost t (home_in t routes) (plans_of script.lose) events

@@ -8,14 +8,14 @@ ghost use Rattle.nsi_script.specs.Fits.{Fits};
 ghost use Rattle.nsi_play.specs.Openings.{plans_of};
 ghost use Rattle.fault_lines.specs.Lines.{topology_fault, script_fault, disk_fault_line, read_fault_line};
 ghost use Rattle.run_command.specs.Ends.{is_told, WritesSome, WritesSomeFront, IsCutShort, IsQuiet, HasDiskFault, IsTold, Closes, IsOfAgent, FailsAs, HasPlayed, HasRead, counted};
-ghost use Rattle.run_command.specs.Reading.{IsDeclared};
+ghost use Rattle.topology_input.specs.Reading.{IsDeclared};
 ghost use Rattle.net_run.specs.Held.{HoldsJournals};
-ghost use Rattle.run_command.specs.Runs.{Runs, Begins, Breaks, KeepsRun, closing_line};
+ghost use Rattle.run_command.specs.Runs.{NothingIsSafeThroughout, Runs, Begins, Breaks, KeepsRun, closing_line};
 
-use crate::reading::{Declared, read_declared};
 use crate::texts::closing_line;
 use agent_threads::{Resources, RunFault, RunOptions};
 use circuit_laws::safety::{every_run_safe, nothing_safe};
+use end_to_end::laws::{every_run, nothing};
 use fault_lines::{disk_fault_text, script_fault, topology_fault};
 use line_reader::{ReadError, read_whole};
 use net_run::run_world;
@@ -29,6 +29,7 @@ use settled_play::laws::settled;
 use std::alloc::Global;
 use std::thread::Threads;
 use stp_topology::{Topology, TopologyFault, TopologyRefusal};
+use topology_input::{Declared, read_declared};
 
 /// How a run ends.
 #[derive(Clone, Copy, Debug, PartialEq, Eq)]
@@ -44,6 +45,14 @@ pub enum RunEnd {
     /// An agent's disk failed or stopped.
     DiskFault,
     NoMemory,
+}
+
+/// No events are a safe run.
+fn nothing_throughout()
+    ensures { NothingIsSafeThroughout }
+{
+    nothing_safe();
+    nothing();
 }
 
 /// Writes a text with which a run ends.
@@ -144,6 +153,7 @@ where
     play_runs();
     asks_whole();
     every_run_safe();
+    every_run();
     settled();
     match run_world(resources, topology, script, options, shelf, out) {
         Ok(totals) => tell_totals(resources.alloc, out, options.report, totals),
@@ -173,7 +183,7 @@ where
     ensures journals { result ≡ RunEnd.Done →
         KeepsRun bytes.now (H.holds shelf.old) (H.holds shelf.new) }
 {
-    nothing_safe();
+    nothing_throughout();
     let alloc = resources.alloc;
     match read_script(
         alloc,
@@ -206,7 +216,7 @@ where
     ensures journals { result ≡ RunEnd.Done →
         KeepsRun bytes.now (H.holds shelf.old) (H.holds shelf.new) }
 {
-    nothing_safe();
+    nothing_throughout();
     let alloc = resources.alloc;
     match read_declared(alloc, bytes) {
         Ok(declared) => run_script(resources, options, bytes, &declared, out, shelf),
@@ -260,7 +270,7 @@ where
     ensures journals { result ≡ RunEnd.Done → IfSome (S.left input.old)
         (λ bytes. KeepsRun bytes (H.holds shelf.old) (H.holds shelf.new)) }
 {
-    nothing_safe();
+    nothing_throughout();
     match read_whole(resources.alloc, input, GREATEST_INPUT) {
         Ok(Some(bytes)) => run_bytes(resources, options, &bytes, out, shelf),
         Ok(None) => close(out, b"fault long\n", RunEnd::Long),
@@ -274,5 +284,5 @@ pub fn begins_with_nothing()
     ensures { (options : _) (left old : Option (List ℕ)) → IfSome left
         (λ bytes. WritesSomeFront (Begins options bytes) old old) }
 {
-    nothing_safe();
+    nothing_throughout();
 }

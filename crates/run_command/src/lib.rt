@@ -2,7 +2,6 @@
 #![tactic(auto)]
 
 mod command;
-mod reading;
 mod texts;
 
 pub use command::{RunEnd, begins_with_nothing, run};

@@ -13,6 +13,7 @@ returns-in-Ok-clause-played g c =
       rests = c.play_runs.ensures.rests;
       asks = c.asks_whole.ensures;
       safe = c.every_run_safe.ensures;
+      stands = c.every_run.ensures;
       left = c.settled.ensures.counts;
       over = c.settled.ensures.each;
     }
@@ -39,6 +40,7 @@ returns-in-Err-clause-played g c =
       rests = c.play_runs.ensures.rests;
       asks = c.asks_whole.ensures;
       safe = c.every_run_safe.ensures;
+      stands = c.every_run.ensures;
       left = c.settled.ensures.counts;
       over = c.settled.ensures.each;
     }

@@ -15,7 +15,7 @@ pub returns-in-Err-NoMemory-clause-unfinished : goal.returns-in-Err-NoMemory-cla
 returns-in-Err-NoMemory-clause-unfinished g c = λ _.
     inl (
       c.in-Err-NoMemory.ensures.memory (ap (λ e. Err e) c.in-Err-NoMemory.field-0-is),
-      nothing_begun c.nothing_safe.ensures c.args.options (g.S.Source.left c.args.input.now) (g.K.Sink.content c.args.out.now),
+      nothing_begun c.nothing_throughout.ensures c.args.options (g.S.Source.left c.args.input.now) (g.K.Sink.content c.args.out.now),
     )
 
 pub returns-in-Ok-None-clause-journals : goal.returns-in-Ok-None-clause-journals

@@ -10,7 +10,7 @@ pub returns-in-Err-Fault-clause-journals : goal.returns-in-Err-Fault-clause-jour
 returns-in-Err-Fault-clause-journals g c = λ done. absurd (kinds RunEnd.BadTopology c.bad_topology.result c.bad_topology.ensures.kind (λ d. cc) done)
 
 pub returns-in-Err-NoMemory-clause-read : goal.returns-in-Err-NoMemory-clause-read
-returns-in-Err-NoMemory-clause-read g c = wanting_read c.nothing_safe.ensures c.args.options c.args.bytes.now (g.K.Sink.content c.args.out.now) _ _
+returns-in-Err-NoMemory-clause-read g c = wanting_read c.nothing_throughout.ensures c.args.options c.args.bytes.now (g.K.Sink.content c.args.out.now) _ _
 
 pub returns-in-Err-NoMemory-clause-journals : goal.returns-in-Err-NoMemory-clause-journals
 returns-in-Err-NoMemory-clause-journals g c = λ done. cc

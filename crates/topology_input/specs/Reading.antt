@@ -5,7 +5,7 @@ use Rattle.stp_topology.specs.declared.fault.TopologyRefusal.{TopologyRefusal}
 use Rattle.stp_topology.specs.declared.fault.TopologyRefusal.TheVariants.{Fault, NoMemory}
 use Rattle.stp_topology.specs.Network.{nothing}
 use Rattle.stp_topology.specs.Text.{read_lines, behind_lines}
-use Rattle.run_command.specs.declared.reading.Declared.{Declared}
+use Rattle.topology_input.specs.declared.Declared.{Declared}
 
 -- the topology stands on these first lines, and that text behind it
 pub record IsDeclared (text : List ℕ) (d : Declared) : Type 0 where

@@ -4,7 +4,7 @@ use Rattle.stp_topology.specs.declared.topology.Taken.{Taken}
 use Rattle.stp_topology.specs.declared.network.Network.{Network}
 use Rattle.stp_topology.specs.Text.{behind_lines, read_lines}
 use Rattle.stp_topology.proofs.TextLemmas.{goes_on, is_whole, fails, without_end, behind_next}
-use Rattle.run_command.proofs.reading.read_declared.Goals as goal
+use Rattle.topology_input.proofs.read_declared.Goals as goal
 
 pub lines-init : goal.lines-init
 unfolding behind_lines

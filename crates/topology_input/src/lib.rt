@@ -1,8 +1,9 @@
-//! The topology that a text begins with, and the text behind it.
+//! The topology that an input begins with, and the text behind it.
+#![tactic(auto)]
 
 ghost use Rattle.std.specs.Prelude.{◌≤◌, ◌+◌, length, IfOk};
 ghost use Rattle.nsi_base.specs.Range.{greatest_input};
-ghost use Rattle.run_command.specs.Reading.{Declares};
+ghost use Rattle.topology_input.specs.Reading.{Declares};
 
 use nsi_base::line::cut_line;
 use std::alloc::Global;

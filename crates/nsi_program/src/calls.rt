@@ -1,4 +1,4 @@
-//! The top call.
+//! The top calls.
 
 ghost use Rattle.std.specs.Prelude.{◌≡◌, ℕ, ◌<◌, ◌↔◌, ◌⊎◌, codes, map, string_bytes, true, false, None, Some, IfSome};
 ghost use Rattle.nsi_disk.specs.ShelfCounts.{Raised};
@@ -14,6 +14,7 @@ ghost use Rattle.run_command.specs.Runs.{KeepsRun};
 ghost use Rattle.fault_lines.specs.Counts.{counted, HasDiskFault};
 ghost use Rattle.provide_command.specs.Ends.{WithReading};
 ghost use Rattle.nsi_program.specs.Ends.{HasEnded, IsChecked, IsCut, IsBroken, IsCutShort, ReadsTopology, TellsDisks};
+ghost use Rattle.nsi_program.specs.Plain.{EndsPlainly, outside};
 
 use crate::check::check;
 use crate::generating::generate;
@@ -30,7 +31,7 @@ use std::thread::Threads;
 ///
 /// `provide` reads as it goes: a line is answered before the next one is read. A line of more than 65,536 bytes is
 /// refused; an input of more than 67,108,864 bytes is answered up to there. `check` and `run` read the whole input first,
-/// `generate` none.
+/// `generate` none. The words of a race name no command.
 pub fn top_plain<R: Threads + Sync, S: Source, K: Sink, H: Shelf>(
     rt: &R,
     alloc: Global,
@@ -108,6 +109,29 @@ where
         × Raised (H.stops shelf.old) 0 (H.stops shelf.new) }
     ensures reading { result ≡ Status.ReadFault → K.faults out.new ≡ K.faults out.old }
     ensures memory { result ≡ Status.NoMemory → K.faults out.new ≡ K.faults out.old }
+{
+    top(rt, alloc, words, input, out, shelf)
+}
+
+/// The same, with all its promises as one. This is the call that the program makes.
+pub fn top<R: Threads + Sync, S: Source, K: Sink, H: Shelf>(
+    rt: &R,
+    alloc: Global,
+    words: &[String],
+    input: &mut S,
+    out: &mut K,
+    shelf: &mut H,
+) -> Status
+where
+    H::Disk: Drop + Send,
+    ensures plain { EndsPlainly (command_of (map string_bytes words.now))
+        (outside (K.content out.old) (S.left input.old) (H.holds shelf.old)
+        (S.faults input.old) (H.faults shelf.old) (H.stops shelf.old) (K.faults out.old))
+        (outside (K.content out.new) (S.left input.new) (H.holds shelf.new)
+        (S.faults input.new) (H.faults shelf.new) (H.stops shelf.new) (K.faults out.new))
+        result }
+    ensures usage { is_told result ≡ true →
+        ((result ≡ Status.Usage) ↔ (command_of (map string_bytes words.now) ≡ None)) }
 {
     let Ok(named) = command_of(alloc, words) else {
         begins_with_nothing();

@@ -2,7 +2,7 @@ use Rattle.std.proofs.Common.{◌≡◌, ◌+◌, ◌≤◌, length}
 use Rattle.nsi_base.specs.Lines.{lines_of}
 use Rattle.stp_topology.specs.Network.{nothing}
 use Rattle.stp_topology.specs.Text.{read_lines, behind_lines}
-use Rattle.run_command.proofs.reading.read_declared.Given as goal
+use Rattle.topology_input.proofs.read_declared.Given as goal
 
 abbrev pub invariant-lines : goal.invariant-lines
 invariant-lines l = record {

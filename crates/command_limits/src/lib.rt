@@ -1,8 +1,9 @@
-//! How much may be asked for.
+//! How much a command may be asked for.
+#![tactic(auto)]
 
 ghost use Rattle.std.specs.Prelude.{◌≡◌, ◌≤◌};
 ghost use Rattle.nsi_base.specs.Range.{within};
-ghost use Rattle.command_words.specs.Words.{most_events};
+ghost use Rattle.command_limits.specs.Limits.{most_events};
 
 use std::marker::Model;
 
