@@ -1,0 +1,4 @@
+pub mod Found
+pub mod Compared
+pub mod Replay
+pub mod Scripts
