@@ -18,6 +18,7 @@ use Rattle.nsi_world.specs.Laws.{PlayIsRun, PlayRests, AsksWhole}
 use Rattle.circuit_laws.specs.SafeLaws.{EveryRunIsSafe}
 use Rattle.settled_play.specs.Settled.{PlaySettles, PlayLeavesNone}
 use Rattle.end_to_end.specs.Laws.{EveryRunStands}
+use Rattle.answered_play.specs.Laws.{PlayAnswers}
 use Rattle.nsi_agent.specs.Homes.{home_in}
 use Rattle.nsi_world.specs.Runs.{IsRun}
 use Rattle.run_command.specs.Runs.{IsSafeThroughout, IsWholeRun}
@@ -34,6 +35,7 @@ pub record PlayLaws : Type 0 where
   pub asks : AsksWhole
   pub safe : EveryRunIsSafe
   pub stands : EveryRunStands
+  pub answers : PlayAnswers
   pub left : PlaySettles
   pub over : PlayLeavesNone
 
@@ -48,6 +50,7 @@ plays_run laws limit t s few sound well fits = λ events play within routes r.
           (laws.is_run t routes (plans_of s.lose) s.groups events p.0 well fits.rising fits.acts p.1 (omega (arith, few, within)));
       asks = laws.asks t routes (plans_of s.lose) s.groups events p.0 well fits.rising fits.acts p.1;
       rests = laws.rests t routes (plans_of s.lose) s.groups events p.0 well fits.rising fits.acts p.1;
+      answered = laws.answers t routes (plans_of s.lose) s.groups events p.0 sound well fits.rising fits.acts p.1 (omega (arith, few, within));
       left = laws.left t routes (plans_of s.lose) s.groups events p.0 sound well r fits.rising fits.acts p.1;
       over = λ none. laws.over t routes (plans_of s.lose) s.groups events p.0 none sound well r fits.rising fits.acts p.1;
     }

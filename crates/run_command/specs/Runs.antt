@@ -20,6 +20,7 @@ use Rattle.nsi_world.specs.Scripts.{wishes_of}
 use Rattle.nsi_world.specs.Rest.{IsAtRest}
 use Rattle.circuit_laws.specs.Safe.{IsSafeRun}
 use Rattle.end_to_end.specs.Laws.{StandsInEachWorld}
+use Rattle.answered_play.specs.Answered.{AnswersAll}
 use Rattle.settled_play.specs.Settled.{LeavesOnlyLost, LoseNothing, GoesOn, IsDone}
 use Rattle.run_totals.specs.Totals.{totals_of}
 use Rattle.run_totals.specs.declared.totals.Totals.{Totals}
@@ -62,13 +63,15 @@ pub record IsTextOf (options : RunOptions) (t : Network) (script : Script) (grou
   pub within : length events ≤ options.limit
 
 -- These events are a safe run that asks the whole script, in order. In the world that they make each journal is synced whole and no work
--- waits; and of the messages of a kind that one agent has said to another that it isn't cut off from no more weren't got, or weren't
--- acknowledged, than lines of the script lose on the two ways between them. So where it plans no loss, and no event is a restart, each message
--- that was said was got and acknowledged.
+-- waits; each request that a provider or an aggregator got is answered, but where an aggregator waits for the answer of a child; and of the
+-- messages of a kind that one agent has said to another that it isn't cut off from no more weren't got, or weren't acknowledged, than lines of
+-- the script lose on the two ways between them. So where it plans no loss, and no event is a restart, each message that was said was got and
+-- acknowledged.
 pub record IsWholeRun (t : Network) (routes : Routes) (script : Script) (events : List Event) : Type 0 where
   pub run : IsSafeThroughout t routes events
   pub asks : asks_of events ≡ numbered 0 (wishes_of script.groups)
   pub rests : (a : ℕ) → a < length t.agents → IsAtRest (home_in t routes) (world_after empty events) a
+  pub answered : AnswersAll t (home_in t routes) (world_after empty events)
   pub left : LeavesOnlyLost t (home_in t routes) (plans_of script.lose) events
   pub over : LoseNothing (plans_of script.lose) → All GoesOn events → (a : ℕ) → a < length t.agents → All (IsDone t (home_in t routes) (world_after empty events) a) (said (home_in t routes) (world_after empty events) a)
 

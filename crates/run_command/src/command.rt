@@ -14,6 +14,7 @@ ghost use Rattle.run_command.specs.Runs.{NothingIsSafeThroughout, Runs, Begins, 
 
 use crate::texts::closing_line;
 use agent_threads::{Resources, RunFault, RunOptions};
+use answered_play::laws::every_play;
 use circuit_laws::safety::{every_run_safe, nothing_safe};
 use end_to_end::laws::{every_run, nothing};
 use fault_lines::{disk_fault_text, script_fault, topology_fault};
@@ -154,6 +155,7 @@ where
     asks_whole();
     every_run_safe();
     every_run();
+    every_play();
     settled();
     match run_world(resources, topology, script, options, shelf, out) {
         Ok(totals) => tell_totals(resources.alloc, out, options.report, totals),

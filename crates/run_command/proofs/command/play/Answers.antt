@@ -14,6 +14,7 @@ returns-in-Ok-clause-played g c =
       asks = c.asks_whole.ensures;
       safe = c.every_run_safe.ensures;
       stands = c.every_run.ensures;
+      answers = c.every_play.ensures;
       left = c.settled.ensures.counts;
       over = c.settled.ensures.each;
     }
@@ -41,6 +42,7 @@ returns-in-Err-clause-played g c =
       asks = c.asks_whole.ensures;
       safe = c.every_run_safe.ensures;
       stands = c.every_run.ensures;
+      answers = c.every_play.ensures;
       left = c.settled.ensures.counts;
       over = c.settled.ensures.each;
     }
