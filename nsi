@@ -136,6 +136,7 @@ test_all() {
     step tools/differential-test --seeds 6
     step tools/differential-run --seeds 1..200 --keep "${TMPDIR:-/tmp}"
     step tools/differential-run --seeds 1..80 --all --keep "${TMPDIR:-/tmp}"
+    step tools/plain-verify --compare --seeds 1..20
     echo "$passed passed, $failed failed"
     [ "$failed" -eq 0 ]
 }

@@ -36,6 +36,10 @@ provide_few (Some n) most few e = let s = same n most e in omega (arith, few n r
     same : (a b : ℕ) → provides a ≡ provides b → a ≡ b
     same a b h = cc
 
+verify_apart : (o : Option ℕ) (most : ℕ) → option_map Command.Verify o ≡ provides most → most ≤ 2000000
+verify_apart None most e = cc
+verify_apart (Some n) most e = cc
+
 run_apart : (given : Option (List Given)) (most : ℕ) → option_and_then run_of given ≡ provides most → most ≤ 2000000
 run_apart None most e = cc
 run_apart (Some given) most e =
@@ -61,17 +65,18 @@ generate_apart (Some given) most e = go (load_of (from_in (value_of (codes "from
 pub limit_few : (words : List (List ℕ)) (most : ℕ) → command_of words ≡ provides most → most ≤ 2000000
 limit_few [] most e = cc
 limit_few (name ∷ words) most e =
-    go (list_any is_end (name ∷ words)) (bytes_eq name (codes "provide")) (bytes_eq name (codes "run")) (bytes_eq name (codes "check")) (bytes_eq name (codes "generate")) e
+    go (list_any is_end (name ∷ words)) (bytes_eq name (codes "provide")) (bytes_eq name (codes "run")) (bytes_eq name (codes "check")) (bytes_eq name (codes "verify")) (bytes_eq name (codes "generate")) e
   where
-    go : (a b r c d : Bool)
+    go : (a b r c v d : Bool)
         → cond a None (cond b (option_map Command.Provide (limit_in words)) (cond r (with_options run_options run_of words) (cond c (with_options [] check_of words)
-        (cond d (with_options generate_options generate_of words) None)))) ≡ provides most → most ≤ 2000000
-    go true b r c d e = cc
-    go false true r c d e = provide_few (limit_in words) most (limit_within (options_from events_options [] words)) e
-    go false false true c d e = run_apart (options_from run_options [] words) most e
-    go false false false true d e = check_apart (options_from [] [] words) most e
-    go false false false false true e = generate_apart (options_from generate_options [] words) most e
-    go false false false false false e = cc
+        (cond v (option_map Command.Verify (limit_in words)) (cond d (with_options generate_options generate_of words) None))))) ≡ provides most → most ≤ 2000000
+    go true b r c v d e = cc
+    go false true r c v d e = provide_few (limit_in words) most (limit_within (options_from events_options [] words)) e
+    go false false true c v d e = run_apart (options_from run_options [] words) most e
+    go false false false true v d e = check_apart (options_from [] [] words) most e
+    go false false false false true d e = verify_apart (limit_in words) most e
+    go false false false false false true e = generate_apart (options_from generate_options [] words) most e
+    go false false false false false false e = cc
 
 -- and it is one
 pub limit_is : (words : List (List ℕ)) (a b : ℕ) → command_of words ≡ provides a → command_of words ≡ provides b → a ≡ b

@@ -66,6 +66,10 @@ help_is_none = refl
 pub an_end_is_none : command_of (codes "run" ∷ codes "--" ∷ []) ≡ None
 an_end_is_none = refl
 
+pub a_check_of_a_printed_run : command_of (codes "verify" ∷ codes "--events=7" ∷ []) ≡ Some (Command.Verify 7)
+unfolding options_from number_of value_from
+a_check_of_a_printed_run = refl
+
 pub a_race_is_no_command : command_of (codes "race" ∷ []) ≡ None
 a_race_is_no_command = refl
 

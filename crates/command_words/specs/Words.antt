@@ -170,6 +170,7 @@ named name words =
     if bytes_eq name (codes "provide") then option_map Command.Provide (limit_in words)
     else if bytes_eq name (codes "run") then with_options run_options run_of words
     else if bytes_eq name (codes "check") then with_options [] check_of words
+    else if bytes_eq name (codes "verify") then option_map Command.Verify (limit_in words)
     else if bytes_eq name (codes "generate") then with_options generate_options generate_of words
     else None
 

@@ -29,4 +29,6 @@ pub enum Command {
     Check,
     /// A topology and a script are made.
     Generate(Load),
+    /// A printed run is checked, of no more events than that.
+    Verify(EventLimit),
 }

@@ -38,6 +38,8 @@ fn named(alloc: Global, name: &str, words: &[String]) -> Result<Option<Command>,
         run_in(alloc, words)
     } else if name == "check" {
         check_in(alloc, words)
+    } else if name == "verify" {
+        verify_in(alloc, words)
     } else if name == "generate" {
         generate_in(alloc, words)
     } else {
@@ -104,6 +106,15 @@ fn provide_in(alloc: Global, words: &[String]) -> Result<Option<Command>, AllocE
 {
     let most = limit_in(alloc, "provide", words)?;
     Ok(most.map(Command::Provide))
+}
+
+/// `verify`, with the options behind it.
+fn verify_in(alloc: Global, words: &[String]) -> Result<Option<Command>, AllocError>
+    requires { has_end words.now ≡ false }
+    ensures { Names (λ words. option_map Command.Verify (limit_in words)) words.now result }
+{
+    let most = limit_in(alloc, "verify", words)?;
+    Ok(most.map(Command::Verify))
 }
 
 /// `run`, with the options behind it.

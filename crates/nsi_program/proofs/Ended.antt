@@ -20,6 +20,8 @@ use Rattle.agent_threads.specs.declared.report.RunOptions.{RunOptions}
 use Rattle.run_command.specs.Runs.{RunsIf, RunsRead, Breaks}
 use Rattle.run_command.specs.Ends.{IsCutShort as RunIsCutShort}
 use Rattle.nsi_program.specs.RunsTo.{RunsTo, options_of, status_of_run}
+use Rattle.nsi_program.specs.VerifiesTo.{VerifiesTo, status_of_verify}
+use Rattle.verify_command.specs.Verifies.{VerifiesIf, VerifiesRead}
 use Rattle.nsi_base.specs.Lines.{lines_of}
 use Rattle.nsi_base.specs.Range.{greatest_input}
 use Rattle.stp_topology.specs.declared.fault.TopologyFault.{TopologyFault}
@@ -167,3 +169,28 @@ run_names_fault options (Some c) (Some bytes) new status k = λ n fault few h. r
 
 pub tells_disks : (command : Option Command) (play : Play) (status : Status) → command ≡ runs play → TellsDisks command status → status ≡ Status.Long → ⊥
 tells_disks command play status e t = subst (λ (x : Option Command). TellsDisks x status) e t
+
+---- Verdicts
+
+pub verify_ended : (most : ℕ) (holds : Holds) (content left new : Option (List ℕ)) (status : Status) → IfSome left (λ bytes. WritesSome (VerifiesTo most bytes status) content new)
+    → HasEnded (Some (Command.Verify most)) holds content left status new
+verify_ended most holds None left new status h = (None, refl, tt)
+verify_ended most holds (Some c) None new status h = (None, refl, tt)
+verify_ended most holds (Some c) (Some bytes) new status h = (Some (status, c ++ h.0), ((status, h.0), h.1, refl), (refl, h.2))
+
+-- a faulty topology is all that is told of a trace
+verdict_named : (most : ℕ) (bytes c text : List ℕ) (status : Status) (new : Option (List ℕ)) → VerifiesTo most bytes status text → new ≡ Some (c ++ text)
+    → (n : ℕ) (fault : TopologyFault) → length bytes ≤ greatest_input → read_lines nothing 0 (lines_of bytes) ≡ Err (n, fault) → (status ≡ Status.BadTopology) × (new ≡ Some (c ++ topology_fault n fault))
+verdict_named most bytes c text status new r w n fault few h =
+    let P : Bool → Type 0 = λ b. VerifiesIf b most bytes r.0 text in
+    let Q : Result (Network × ℕ) (ℕ × TopologyFault) → Type 0 = λ x. VerifiesRead most bytes x r.0 text in
+    let o = subst Q h (subst P (within (length bytes) greatest_input few) r.2) in
+    (r.1 ∙ ap status_of_verify o.0, w ∙ ap (λ x. Some (c ++ x)) o.1)
+  where
+    within : (a b : ℕ) → a ≤ b → leb a b ≡ true
+    within a b few = grind arith
+
+pub verify_names_fault : (most : ℕ) (content left new : Option (List ℕ)) (status : Status) → IfSome left (λ bytes. WritesSome (VerifiesTo most bytes status) content new) → NamesFault content left status new
+verify_names_fault most None left new status k = tt
+verify_names_fault most (Some c) None new status k = tt
+verify_names_fault most (Some c) (Some bytes) new status k = λ n fault few h. verdict_named most bytes c k.0 status new k.1 k.2 n fault few h

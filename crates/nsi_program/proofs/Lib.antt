@@ -3,4 +3,5 @@ pub mod Ended
 pub mod OneText
 pub mod Nothing
 pub mod Plainly
+mod Verdicts
 mod CheckRows

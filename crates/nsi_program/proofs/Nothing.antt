@@ -15,6 +15,7 @@ use Rattle.nsi_program.specs.Ends.{IsCutShort}
 use Rattle.fault_lines.specs.Lines.{as_line}
 use Rattle.provide_command.specs.Phases.{Phase, Reading, in_topology}
 use Rattle.nsi_program.specs.RunsTo.{options_of}
+use Rattle.nsi_program.specs.VerifiesTo.{BeginsVerify}
 use Rattle.provide_command.proofs.Written.{nothing_some}
 use Rattle.nsi_script.specs.Load.{load_of}
 use Rattle.run_command.specs.Ends.{WritesSomeFront}
@@ -47,6 +48,10 @@ nothing_stopped read most content left few =
 abbrev pub BeginWithNothing : Type 0
 BeginWithNothing = (options : RunOptions) (left old : Option (List ℕ)) → IfSome left (λ bytes. WritesSomeFront (Begins options bytes) old old)
 
+no_verdict : (most : ℕ) (left old : Option (List ℕ)) → IfSome left (λ bytes. WritesSomeFront (BeginsVerify most bytes) old old)
+no_verdict most None old = tt
+no_verdict most (Some bytes) old = nothing_some (BeginsVerify most bytes) old old [] (inl refl) refl
+
 -- whatever the words are
 pub nothing_cut_short : BeginWithNothing → (words : List (List ℕ)) (holds : Holds) (content left : Option (List ℕ)) (counts : Counts) → IsCutShort (command_of words) holds content left left counts counts content
 nothing_cut_short none words holds content left counts = go (command_of words) refl
@@ -57,6 +62,7 @@ nothing_cut_short none words holds content left counts = go (command_of words) r
         inl (refl, any_reading holds left (λ read. IsStopped read most content left content) (λ read. nothing_stopped read most content left (limit_few words most e)))
     go (Some (Command.Run play)) e = inl (refl, none (options_of play) left content)
     go (Some Command.Check) e = inl (refl, nothing_begun left content content refl)
+    go (Some (Command.Verify most)) e = inl (refl, no_verdict most left content)
     go (Some (Command.Generate load)) e = inl (refl, nothing_front content content (load_of load.from load.size) refl)
 
 pub nothing_backs : (holds : Holds) (content left : Option (List ℕ)) → Backs holds holds content left content

@@ -25,12 +25,13 @@ use Rattle.stp_topology.specs.Network.{nothing}
 use Rattle.stp_topology.specs.Text.{placed, read_lines}
 use Rattle.fault_lines.specs.Lines.{topology_fault}
 use Rattle.nsi_program.specs.Check.{Checks, ChecksIf, ChecksRead, Begins}
-use Rattle.nsi_program.specs.Ends.{HasTopology, IsChecked}
+use Rattle.nsi_program.specs.Ends.{HasTopology, IsChecked, IsCutShort}
 use Rattle.nsi_program.proofs.Nothing.{BeginWithNothing, nothing_backs, nothing_cut_short}
 use Rattle.command_words.specs.Words.{command_of}
 use Rattle.nsi_program.specs.Plain.{Outside, EndsPlainly}
 use Rattle.nsi_program.specs.RunsTo.{RunsTo, options_of}
-use Rattle.nsi_program.proofs.Ended.{provide_ended, with_reading, check_ended, usage_ended, check_cut_short, usage_cut_short, generate_ended, generate_cut_short, generated_is, run_ended, run_names_fault}
+use Rattle.nsi_program.specs.VerifiesTo.{VerifiesTo, BeginsVerify}
+use Rattle.nsi_program.proofs.Ended.{provide_ended, with_reading, check_ended, usage_ended, check_cut_short, usage_cut_short, generate_ended, generate_cut_short, generated_is, run_ended, run_names_fault, verify_ended, verify_names_fault}
 
 -- the command that is named ends as its own
 pub as_named : {old new : Outside} {status : Status} (command own : Option Command) → command ≡ own → EndsPlainly own old new status → EndsPlainly command old new status
@@ -328,3 +329,62 @@ run_plain play old new status p = record {
 
     no_load : (load : Load) → Some (Command.Run play) ≡ Some (Command.Generate load) → ⊥
     no_load load e = cc
+
+---- Verdicts
+
+-- what `verify` promises
+pub record HasVerified (most : ℕ) (old : Outside) (content left : Option (List ℕ)) (reads writes : ℕ) (status : Status) : Type 0 where
+  pub ends : is_told status ≡ true → IfSome old.left (λ bytes. WritesSome (VerifiesTo most bytes status) old.content content)
+  pub not_disk : status ≡ Status.DiskFault → ⊥
+  pub read_fault : status ≡ Status.ReadFault → old.counts.reads < reads
+  pub alone : status ≡ Status.ReadFault → Writes old.content content read_fault_line
+  pub write_fault : status ≡ Status.WriteFault → old.writes < writes
+  pub unfinished :
+      (status ≡ Status.WriteFault) ⊎ (status ≡ Status.NoMemory)
+      → ((reads ≡ old.counts.reads) × IfSome old.left (λ bytes. WritesSomeFront (BeginsVerify most bytes) old.content content)) ⊎ ((old.counts.reads < reads) × WritesFront old.content content read_fault_line)
+  pub quiet_in : is_told status ≡ true → reads ≡ old.counts.reads
+  pub quiet_out : is_told status ≡ true → writes ≡ old.writes
+  pub reading : status ≡ Status.ReadFault → writes ≡ old.writes
+  pub memory : status ≡ Status.NoMemory → writes ≡ old.writes
+
+pub verify_plain : (most : ℕ) (old : Outside) (content left : Option (List ℕ)) (reads writes : ℕ) (status : Status) → HasVerified most old content left reads writes status
+    → EndsPlainly (Some (Command.Verify most)) old (after old content left reads writes) status
+verify_plain most old content left reads writes status p = record {
+  ends = λ told. verify_ended most old.holds old.content old.left content status (p.ends told);
+  complete = λ m e. absurd (no_provide m e);
+  safe = λ m e. absurd (no_provide m e);
+  checked = λ e. absurd (no_check e);
+  generated = λ load e. absurd (no_load load e);
+  bad_topology = λ _ told. verify_names_fault most old.content old.left content status (p.ends told);
+  read_fault = p.read_fault;
+  cut = p.alone;
+  alone = λ e. p.alone;
+  write_fault = p.write_fault;
+  unfinished = λ short. by_fault (p.unfinished short);
+  disk_fault = λ e. absurd (p.not_disk e);
+  broken = λ e. absurd (p.not_disk e);
+  backed = λ m e. absurd (no_provide m e);
+  journals = λ play e. absurd (no_play play e);
+  quiet_in = p.quiet_in;
+  quiet_out = p.quiet_out;
+  quiet_disk = λ told _. (raised_none old.counts.faults, raised_none old.counts.stops);
+  reading = p.reading;
+  memory = p.memory;
+}
+  where
+    no_provide : (m : ℕ) → Some (Command.Verify most) ≡ Some (Command.Provide m) → ⊥
+    no_provide m e = cc
+
+    no_check : Some (Command.Verify most) ≡ Some Command.Check → ⊥
+    no_check e = cc
+
+    no_load : (load : Load) → Some (Command.Verify most) ≡ Some (Command.Generate load) → ⊥
+    no_load load e = cc
+
+    no_play : (play : Play) → Some (Command.Verify most) ≡ Some (Command.Run play) → ⊥
+    no_play play e = cc
+
+    by_fault : ((reads ≡ old.counts.reads) × IfSome old.left (λ bytes. WritesSomeFront (BeginsVerify most bytes) old.content content)) ⊎ ((old.counts.reads < reads) × WritesFront old.content content read_fault_line)
+        → IsCutShort (Some (Command.Verify most)) old.holds old.content old.left left old.counts (record old.counts { reads = reads }) content
+    by_fault (inl w) = inl w
+    by_fault (inr w) = inr (inl w)

@@ -18,6 +18,7 @@ use Rattle.provide_command.specs.Writes.{WritesSome, WritesSomeFront}
 use Rattle.run_command.specs.Runs.{Begins as RunBegins, Breaks}
 use Rattle.nsi_program.specs.Check.{Checks, Begins}
 use Rattle.nsi_program.specs.RunsTo.{RunsTo, options_of}
+use Rattle.nsi_program.specs.VerifiesTo.{VerifiesTo, BeginsVerify}
 
 -- words of no form are answered by a fault, whatever the input
 abbrev pub usage_promise : Option (List ℕ) → Option (Status × List ℕ)
@@ -41,18 +42,20 @@ MayEnd None holds content left promise = promise ≡ usage_promise content
 MayEnd (Some (Command.Provide most)) holds content left promise = WithReading holds left (λ read. promise ≡ promise_of read most content left)
 MayEnd (Some (Command.Run play)) holds content left promise = Promises (λ bytes end. RunsTo (options_of play) bytes end.0 end.1) content left promise
 MayEnd (Some Command.Check) holds content left promise = Promises (λ bytes end. Checks bytes end.0 end.1) content left promise
+MayEnd (Some (Command.Verify most)) holds content left promise = Promises (λ bytes end. VerifiesTo most bytes end.0 end.1) content left promise
 MayEnd (Some (Command.Generate load)) holds content left promise = promise ≡ load_promise load content
 
 -- the command has ended as it may
 abbrev pub HasEnded : Option Command → (List ℕ → Option (List ℕ)) → Option (List ℕ) → Option (List ℕ) → Status → Option (List ℕ) → Type 0
 HasEnded command holds content left status new = (promise : Option (Status × List ℕ)) × MayEnd command holds content left promise × IsKept promise status new
 
--- Reading failed. `provide` has answered all lines that ended within what was read, `check` and `run` none; `generate` and words of no form read nothing.
+-- Reading failed. `provide` has answered all lines that ended within what was read, `check`, `run` and `verify` none; `generate` and words of no form read nothing.
 abbrev pub IsCut : Option Command → (List ℕ → Option (List ℕ)) → (content left rest new : Option (List ℕ)) → Type 0
 IsCut None holds content left rest new = ⊥
 IsCut (Some (Command.Provide most)) holds content left rest new = WithReading holds left (λ read. IsCutByFault read most content left rest new)
 IsCut (Some (Command.Run play)) holds content left rest new = Writes content new read_fault_line
 IsCut (Some Command.Check) holds content left rest new = Writes content new read_fault_line
+IsCut (Some (Command.Verify most)) holds content left rest new = Writes content new read_fault_line
 IsCut (Some (Command.Generate load)) holds content left rest new = ⊥
 
 -- A disk failed or stopped. `provide` has answered some first lines, `run` has written some first groups, and behind them stands whose disk it was; no
@@ -68,6 +71,7 @@ IsCutInAnswers None holds content left new = WritesFront content new (as_line (c
 IsCutInAnswers (Some (Command.Provide most)) holds content left new = WithReading holds left (λ read. IsStopped read most content left new)
 IsCutInAnswers (Some (Command.Run play)) holds content left new = IfSome left (λ bytes. WritesSomeFront (RunBegins (options_of play) bytes) content new)
 IsCutInAnswers (Some Command.Check) holds content left new = IfSome left (λ bytes. WritesSomeFront (Begins bytes) content new)
+IsCutInAnswers (Some (Command.Verify most)) holds content left new = IfSome left (λ bytes. WritesSomeFront (BeginsVerify most bytes) content new)
 IsCutInAnswers (Some (Command.Generate load)) holds content left new = WritesFront content new (load_of load.from load.size)
 
 -- Writing was cut short within the line of a fault of reading.
@@ -76,6 +80,7 @@ IsCutInFault None holds content left rest new = ⊥
 IsCutInFault (Some (Command.Provide most)) holds content left rest new = WithReading holds left (λ read. IsFrontOfCut read most content left rest new)
 IsCutInFault (Some (Command.Run play)) holds content left rest new = WritesFront content new read_fault_line
 IsCutInFault (Some Command.Check) holds content left rest new = WritesFront content new read_fault_line
+IsCutInFault (Some (Command.Verify most)) holds content left rest new = WritesFront content new read_fault_line
 IsCutInFault (Some (Command.Generate load)) holds content left rest new = ⊥
 
 -- Writing was cut short within the line of a disk's fault.
@@ -104,6 +109,7 @@ ReadsTopology None = ⊥
 ReadsTopology (Some (Command.Provide most)) = ⊤
 ReadsTopology (Some (Command.Run play)) = ⊤
 ReadsTopology (Some Command.Check) = ⊤
+ReadsTopology (Some (Command.Verify most)) = ⊤
 ReadsTopology (Some (Command.Generate load)) = ⊥
 
 -- A fault of a disk is told: but where `run` has too many events.

@@ -1,4 +1,5 @@
 pub mod RunsTo
+pub mod VerifiesTo
 pub mod Asked
 pub mod Check
 pub mod Ends

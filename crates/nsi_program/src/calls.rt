@@ -19,6 +19,7 @@ ghost use Rattle.nsi_program.specs.Plain.{EndsPlainly, outside};
 use crate::check::check;
 use crate::generating::generate;
 use crate::running::run;
+use crate::verifying::verify;
 use command_words::{Command, command_of};
 use nsi_disk::Shelf;
 use nsi_outside::{Sink, Source};
@@ -30,8 +31,8 @@ use std::thread::Threads;
 /// Runs the command that the words name, on the bytes of the input. The words are those behind the program's name.
 ///
 /// `provide` reads as it goes: a line is answered before the next one is read. A line of more than 65,536 bytes is
-/// refused; an input of more than 67,108,864 bytes is answered up to there. `check` and `run` read the whole input first,
-/// `generate` none. The words of a race name no command.
+/// refused; an input of more than 67,108,864 bytes is answered up to there. `check`, `run` and `verify` read the whole input
+/// first, `generate` none. The words of a race name no command.
 pub fn top_plain<R: Threads + Sync, S: Source, K: Sink, H: Shelf>(
     rt: &R,
     alloc: Global,
@@ -91,8 +92,9 @@ where
         (S.left input.old) (K.content out.new) }
 
     // With every status, each whole line of a message is caused by entries that the disk given back recovers to.
-    ensures backed { (most : ℕ) → command_of (map string_bytes words.now) ≡ Some (ProvideValue most)
-        → Backs (H.holds shelf.old) (H.holds shelf.new) (K.content out.old) (S.left input.old)
+    ensures backed { (most : ℕ) →
+        command_of (map string_bytes words.now) ≡ Some (ProvideValue most) →
+        Backs (H.holds shelf.old) (H.holds shelf.new) (K.content out.old) (S.left input.old)
         (K.content out.new) }
 
     // With Done the disk of each agent of `run` reads as its journal of the play, where the shelf told what it held.
@@ -144,6 +146,7 @@ where
         Command::Provide(most) => provide(alloc, *most, input, out, shelf),
         Command::Run(play) => run(rt, alloc, *play, input, out, shelf),
         Command::Check => check(alloc, input, out),
+        Command::Verify(most) => verify(alloc, *most, input, out),
         Command::Generate(load) => generate(alloc, *load, out),
     }
 }

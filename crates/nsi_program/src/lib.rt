@@ -7,6 +7,7 @@ mod check;
 mod generating;
 mod paths;
 mod running;
+mod verifying;
 
 pub use calls::{top, top_plain};
 pub use check::one_check;

@@ -3,7 +3,7 @@ use Rattle.std.specs.Prelude.{string_bytes}
 use Rattle.command_words.specs.declared.command.Command.{Command}
 use Rattle.command_words.specs.Words.{command_of}
 use Rattle.command_words.proofs.FewEvents.{limit_few}
-use Rattle.nsi_program.proofs.Plainly.{as_named, provide_plain, check_plain, generate_plain, usage_plain, nothing_plain, run_plain}
+use Rattle.nsi_program.proofs.Plainly.{as_named, provide_plain, check_plain, generate_plain, usage_plain, nothing_plain, run_plain, verify_plain}
 use Rattle.nsi_program.proofs.calls.top.Goals as goal
 
 -- the words name this command
@@ -49,6 +49,24 @@ returns-in-Check-clause-plain g c =
     let e = c.check.ensures in
     as_named (command_of words) _ (named_by words c.in-Ok.named c.in-Some.command Command.Check c.in-Ok.ensures c.in-Some.is c.in-Check.is)
     (check_plain _ (g.K.Sink.content c.check.new.out) (g.S.Source.left c.check.new.input) (g.S.Source.faults c.check.new.input) (g.K.Sink.faults c.check.new.out) c.check.result (record {
+      ends = e.ends;
+      not_disk = e.not_disk;
+      read_fault = e.read_fault;
+      alone = e.alone;
+      write_fault = e.write_fault;
+      unfinished = e.unfinished;
+      quiet_in = e.quiet_in;
+      quiet_out = e.quiet_out;
+      reading = e.reading;
+      memory = e.memory;
+    }))
+
+pub returns-in-Verify-clause-plain : goal.returns-in-Verify-clause-plain
+returns-in-Verify-clause-plain g c =
+    let words = map string_bytes c.args.words.now in
+    let e = c.verify.ensures in
+    as_named (command_of words) _ (named_by words c.in-Ok.named c.in-Some.command (Command.Verify c.in-Verify.most) c.in-Ok.ensures c.in-Some.is c.in-Verify.is)
+    (verify_plain c.in-Verify.most _ (g.K.Sink.content c.verify.new.out) (g.S.Source.left c.verify.new.input) (g.S.Source.faults c.verify.new.input) (g.K.Sink.faults c.verify.new.out) c.verify.result (record {
       ends = e.ends;
       not_disk = e.not_disk;
       read_fault = e.read_fault;

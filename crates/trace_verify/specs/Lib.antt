@@ -1,0 +1,5 @@
+pub mod Lines
+pub mod Traces
+pub mod Verdicts
+pub mod Standing
+pub mod Steps
