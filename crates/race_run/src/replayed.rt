@@ -35,6 +35,14 @@ pub struct Call {
     pub second: Second,
 }
 
+/// A place in the history of a provider, and the second of its callers' clocks.
+#[derive(Drop)]
+struct Spot {
+    provider: AgentNo,
+    second: Second,
+    place: u64,
+}
+
 /// Whose request an entry is, or whose record it is work on.
 pub(crate) fn owner(topology: &Topology, provider: &Provider, input: &Input) -> Option<AgentNo>
     ensures owner { result ≡ owner topology.now provider.now.state input.now }
@@ -109,7 +117,8 @@ pub fn push_got(
     second: Second,
     message: &Message,
 ) -> Result<(), AllocError>
-    ensures { OnOk result (items.new ≡ items.old ++ heard_item agent second place message.now ∷ []) }
+    ensures { OnOk result
+        (items.new ≡ items.old ++ heard_item agent second place message.now ∷ []) }
 {
     let message = message.copy()?;
     let entry = Entry {
@@ -213,27 +222,25 @@ fn add_found(
 /// Notes an entry in the list of its owner, if it has one.
 fn add_owned(
     found: &mut Vec<List<Item>>,
-    place: u64,
+    spot: &Spot,
     owner: Option<AgentNo>,
-    provider: AgentNo,
-    second: Second,
     entry: &Entry,
     out: &[Message],
 ) -> Result<(), AllocError>
     requires { IfSome owner (λ a. a < length found.old.items) }
     ensures found { OnOk result ((a : ℕ) → items_at found.new.items a
         ≡ items_at found.old.items a
-        ++ owned_items provider a second place owner entry.now out.now) }
+        ++ owned_items spot.now.provider a spot.now.second spot.now.place owner entry.now out.now) }
     ensures all { OnOk result (length found.new.items ≡ length found.old.items) }
 {
     match owner {
         Some(agent) => {
             let call = Call {
-                provider,
+                provider: spot.provider,
                 agent,
-                second,
+                second: spot.second,
             };
-            add_found(found, place, call, entry, out)
+            add_found(found, spot.place, call, entry, out)
         }
         None => Ok(()),
     }
@@ -257,21 +264,19 @@ impl Lists {
     /// Notes an entry, whose owner is known, with what it causes.
     fn add(
         &mut self,
-        provider: AgentNo,
-        second: Second,
-        place: u64,
+        spot: &Spot,
         entry: &Entry,
         owner: Option<AgentNo>,
         is_asked: bool,
         out: &[Message],
     ) -> Result<(), AllocError>
         requires { IfSome owner (λ a. a < length self.old.found.items) }
-        ensures { OnOk result (Added provider second place entry.now owner is_asked out.now
-            self.old self.new) }
+        ensures { OnOk result (Added spot.now.provider spot.now.second spot.now.place
+            entry.now owner is_asked out.now self.old self.new) }
     {
-        add_tick(&mut self.ticks, place, provider, entry)?;
-        add_owned(&mut self.found, place, owner, provider, second, entry, out)?;
-        add_stray(&mut self.strays, place, provider, entry, is_asked)?;
+        add_tick(&mut self.ticks, spot.place, spot.provider, entry)?;
+        add_owned(&mut self.found, spot, owner, entry, out)?;
+        add_stray(&mut self.strays, spot.place, spot.provider, entry, is_asked)?;
         Ok(())
     }
 
@@ -281,26 +286,24 @@ impl Lists {
         alloc: Global,
         topology: &Topology,
         provider: &mut Provider,
-        agent: AgentNo,
-        second: Second,
-        place: u64,
+        spot: &Spot,
         entry: &Entry,
     ) -> Result<(), AllocError>
         requires may { may_take provider.old.state entry.now ≡ true }
         requires printable { IsPrintableEntry entry.now }
-        requires own { provider.old.setting ≡ setting_of topology.now agent }
+        requires own { provider.old.setting ≡ setting_of topology.now spot.now.provider }
         requires all { length self.old.found.items ≡ length topology.now.agents }
         ensures state { OnOk result (provider.new ≡ record {
-          setting = setting_of topology.now agent;
-          state = (after_at topology.now agent provider.old.state entry.now).state;
+          setting = setting_of topology.now spot.now.provider;
+          state = (after_at topology.now spot.now.provider provider.old.state entry.now).state;
         }) }
-        ensures adds { OnOk result (Adds topology.now agent second place
-            provider.old.state (Some entry.now) self.old self.new) }
+        ensures adds { OnOk result (Adds topology.now spot.now.provider spot.now.second
+            spot.now.place provider.old.state (Some entry.now) self.old self.new) }
     {
         let owner = owner(topology, provider, &entry.input);
-        let is_asked = is_one_of_callers(topology, agent, &owner);
+        let is_asked = is_one_of_callers(topology, spot.provider, &owner);
         let out = provider.next(alloc, topology, entry)?;
-        self.add(agent, second, place, entry, owner, is_asked, &out)?;
+        self.add(spot, entry, owner, is_asked, &out)?;
         Ok(())
     }
 
@@ -310,24 +313,22 @@ impl Lists {
         alloc: Global,
         topology: &Topology,
         provider: &mut Provider,
-        agent: AgentNo,
-        second: Second,
-        place: u64,
+        spot: &Spot,
         event: &Event,
     ) -> Result<(), AllocError>
         requires may { MayBeAt provider.old.state event.now.what }
-        requires own { provider.old.setting ≡ setting_of topology.now agent }
+        requires own { provider.old.setting ≡ setting_of topology.now spot.now.provider }
         requires all { length self.old.found.items ≡ length topology.now.agents }
         ensures state { OnOk result (provider.new ≡ record {
-          setting = setting_of topology.now agent;
-          state = state_by topology.now agent provider.old.state event.now.what;
+          setting = setting_of topology.now spot.now.provider;
+          state = state_by topology.now spot.now.provider provider.old.state event.now.what;
         }) }
-        ensures adds { OnOk result (Adds topology.now agent second place
-            provider.old.state (entry_in event.now.what) self.old self.new) }
+        ensures adds { OnOk result (Adds topology.now spot.now.provider spot.now.second
+            spot.now.place provider.old.state (entry_in event.now.what) self.old self.new) }
     {
         match &event.what {
             Happening::Entry { entry, answer: _ } => {
-                self.take_entry(alloc, topology, provider, agent, second, place, entry)
+                self.take_entry(alloc, topology, provider, spot, entry)
             }
             Happening::Sync { count: _ } => Ok(()),
             Happening::Restart { count: _ } => Ok(()),
@@ -368,15 +369,12 @@ pub fn replay(
     let mut provider = Provider::new(alloc, topology, agent)?;
     let mut lists = Lists::new(alloc, topology)?;
     for place in 0..history.len() {
-        lists.take(
-            alloc,
-            topology,
-            &mut provider,
-            agent,
+        let spot = Spot {
+            provider: agent,
             second,
-            place as u64,
-            &history[place],
-        )?;
+            place: place as u64,
+        };
+        lists.take(alloc, topology, &mut provider, &spot, &history[place])?;
     }
     Ok((lists, provider))
 }
