@@ -1,7 +1,8 @@
 -- What is gone, what is known and what was let through since are what the plan lets through of all that was put.
 use Rattle.std.proofs.Common.{List, [], ◌∷◌, ◌++◌, ◌≡◌, refl, sym, ap, ◌∙◌, append_assoc, append-nil, Bool, true, false}
 use Rattle.nsi_primitive.specs.declared.message.Parcel.{Parcel}
-use Rattle.agent_link.specs.Plans.{Plan, comes, passed, let_through, passed_all}
+use Rattle.agent_link.specs.Plans.{Plan}
+use Rattle.agent_link.specs.Fates.{comes, passed, let_through, passed_all}
 use Rattle.agent_link.specs.Link.{is_full}
 use Rattle.agent_link.specs.Line.{Line, Step, Push, Take, Clear, Meet, unused, pushed_if, met_if, after, after_all}
 

@@ -1,4 +1,5 @@
 pub mod Plans
+pub mod Fates
 pub mod Link
 pub mod Ring
 pub mod Line

@@ -1,7 +1,8 @@
 -- All that the ends of a link do, one call after another.
 use Rattle.std.specs.Prelude.{Bool, true, false, List, [], ◌∷◌, ◌++◌, option_to_list}
 use Rattle.nsi_primitive.specs.declared.message.Parcel.{Parcel}
-use Rattle.agent_link.specs.Plans.{Plan, comes, passed}
+use Rattle.agent_link.specs.Plans.{Plan}
+use Rattle.agent_link.specs.Fates.{comes, passed}
 use Rattle.agent_link.specs.Link.{is_full, next_of, taken}
 
 -- all that was put, what was let through since the ends met, what is planned from here on, what is known, and what was given or let go of

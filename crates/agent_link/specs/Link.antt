@@ -4,7 +4,8 @@ use Rattle.rtrb.specs.Shared.{Names}
 use Rattle.std.specs.Prelude.{ℕ, ◌+◌, Bool, nat_lt, List, [], ◌∷◌, ◌++◌, length, drop, Option, Some, None, Box, box_value}
 use Rattle.std.specs.declared.alloc.Global.{Global}
 use Rattle.nsi_primitive.specs.declared.message.Parcel.{Parcel}
-use Rattle.agent_link.specs.Plans.{Plan, comes, passed}
+use Rattle.agent_link.specs.Plans.{Plan}
+use Rattle.agent_link.specs.Fates.{comes, passed}
 use Rattle.agent_link.specs.declared.ends.PushFault.{PushFault}
 
 -- which link it is, and how many parcels had been let through when its ends last met

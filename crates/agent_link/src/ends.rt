@@ -2,7 +2,7 @@
 
 ghost use Rattle.std.specs.Prelude.{◌≡◌, ◌==◌, ◌≤◌, ◌<◌, ◌+◌, ◌↔◌, [], ◌∷◌, ◌++◌, true, length, IfOk, IfErr, OnOk, OnErr, IsErrOf, IfSome};
 ghost use Rattle.nsi_primitive.specs.Printable.{IsPrintableParcel};
-ghost use Rattle.agent_link.specs.Plans.{fate_of, copies};
+ghost use Rattle.agent_link.specs.Fates.{fate_of, copies};
 ghost use Rattle.agent_link.specs.Link.{most_parcels, is_full, pushed, next_of, taken, ends, met, handed_back, unboxed};
 
 use crate::plan::{LinkFault, ParcelKind, Plan, Pushed};

@@ -4,7 +4,8 @@ ghost use Rattle.std.specs.Prelude.{◌≡◌, [], length, option_copied};
 ghost use Rattle.std.specs.List.{find};
 ghost use Rattle.nsi_primitive.specs.Kinds.{kind_number};
 ghost use Rattle.nsi_primitive.specs.declared.message.Parcel.{Parcel};
-ghost use Rattle.agent_link.specs.Plans.{parcel_kind, parcel_number, is_due, made_how, fate_of, nearer, passed, copies};
+ghost use Rattle.agent_link.specs.Plans.{parcel_number};
+ghost use Rattle.agent_link.specs.Fates.{parcel_kind, is_due, made_how, fate_of, nearer, passed, copies};
 
 use nsi_base::List;
 use nsi_primitive::{Kind, Parcel};

@@ -6,7 +6,8 @@ use Rattle.std.proofs.lemmas.List.Elements.{All-head, All-tail}
 use Rattle.agent_link.specs.Link.{Half, OutHalf}
 use Rattle.agent_link.specs.Plans.{Plan}
 use Rattle.agent_node.specs.declared.links.Link.{Link}
-use Rattle.agent_node.specs.Doors.{Door, Plug}
+use Rattle.agent_node.specs.Doors.{Door}
+use Rattle.agent_node.specs.Passing.{Plug}
 use Rattle.agent_node.specs.Kept.{AreEnds, IsShut, KnowsNone, ArePlanned, plan_of, plugs_of}
 use Rattle.agent_node.specs.Linked.{door_of, plug_of, doors, plugs}
 use Rattle.agent_node.specs.Openings.{first_door, opened}

@@ -3,7 +3,8 @@ use Rattle.std.proofs.Common.{ℕ, ◌≡◌, Bool, true, false, cond, List, [],
 use Rattle.nsi_primitive.specs.declared.message.Message.{Message}
 use Rattle.nsi_agent.specs.Homes.{Home}
 use Rattle.agent_node.specs.Acts.{overdue, tick_at, ticked}
-use Rattle.agent_node.specs.Doors.{Door, says_all}
+use Rattle.agent_node.specs.Doors.{Door}
+use Rattle.agent_node.specs.Passing.{says_all}
 use Rattle.agent_node.specs.Seat.{Seat, enters}
 
 pub kept_in : (f : Message → Bool) (front rest : List Message) (m : Message) → f m ≡ true → (front ++ m ∷ []) ++ filter f rest ≡ front ++ filter f (m ∷ rest)

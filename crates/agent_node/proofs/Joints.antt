@@ -7,7 +7,8 @@ use Rattle.nsi_primitive.specs.declared.message.Message.{Message}
 use Rattle.nsi_primitive.specs.declared.message.Parcel.{Parcel}
 use Rattle.agent_link.specs.Link.{Wire}
 use Rattle.agent_node.specs.declared.links.Link.{Link}
-use Rattle.agent_node.specs.Doors.{Door, Plug, change_first, let_through, plug_to, crossed, is_queued, says, says_all, all_idle, others, learns}
+use Rattle.agent_node.specs.Doors.{Door, change_first}
+use Rattle.agent_node.specs.Passing.{Plug, let_through, plug_to, crossed, is_queued, says, says_all, all_idle, others, learns}
 use Rattle.agent_node.specs.Linked.{door_of, plug_of, doors, plugs, Linked, HasSameLinks}
 
 pub change_nil : (n : ℕ) (f : Door → Door) → change_first n f [] ≡ []

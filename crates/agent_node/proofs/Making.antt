@@ -11,7 +11,8 @@ use Rattle.journal_entry.specs.declared.journal.JournalFault.{JournalFault}
 use Rattle.journal_entry.specs.Journal.{Kept as Journaled, Adds, HasJournalCause}
 use Rattle.nsi_agent.specs.Homes.{Home, Routes, home_in}
 use Rattle.agent_node.specs.declared.fault.TurnFault.{TurnFault}
-use Rattle.agent_node.specs.Doors.{Door, says_all}
+use Rattle.agent_node.specs.Doors.{Door}
+use Rattle.agent_node.specs.Passing.{says_all}
 use Rattle.agent_node.specs.Seat.{Seat}
 use Rattle.agent_node.specs.Turns.{lying, cleared, adds, syncs, syncs_if, synced_all, sync_event, pushed, turn_entered, turn_with}
 use Rattle.agent_node.specs.Faults.{fault_by}

@@ -1,7 +1,7 @@
 -- Two agents with one link.
 use Rattle.std.proofs.Common.{ℕ, ◌≡◌, List, [], ◌∷◌, Some, refl, sym, ap, ◌∙◌}
 use Rattle.agent_link.specs.Link.{Half, OutHalf, Wire}
-use Rattle.agent_node.specs.Doors.{Plug, plug_to, crossed}
+use Rattle.agent_node.specs.Passing.{Plug, plug_to, crossed}
 use Rattle.agent_node.specs.Kept.{Kept, AreLinked, plug_by}
 use Rattle.agent_node.proofs.Joints.{plug_here}
 

@@ -6,8 +6,10 @@ use Rattle.std.proofs.lemmas.List.Elements.{All-nil, All-cons, All-head, All-tai
 use Rattle.nsi_primitive.specs.declared.message.Parcel.{Parcel}
 use Rattle.agent_link.specs.declared.plan.Pushed.{Pushed}
 use Rattle.agent_link.specs.Link.{is_full, most_parcels}
-use Rattle.agent_link.specs.Plans.{Plan, copies, comes, fate_of, passed, let_through}
-use Rattle.agent_node.specs.Doors.{Door, Passing, passes, pushes}
+use Rattle.agent_link.specs.Plans.{Plan}
+use Rattle.agent_link.specs.Fates.{copies, comes, fate_of, passed, let_through}
+use Rattle.agent_node.specs.Doors.{Door}
+use Rattle.agent_node.specs.Passing.{Passing, passes, pushes}
 
 ---- What is so of all that is queued
 

@@ -8,8 +8,9 @@ use Rattle.nsi_primitive.specs.declared.message.Parcel.{Parcel}
 use Rattle.agent_link.specs.declared.plan.Pushed.{Pushed}
 use Rattle.agent_link.specs.declared.ends.PushFault.{PushFault}
 use Rattle.agent_link.specs.Link.{is_full, handed_back}
-use Rattle.agent_link.specs.Plans.{Plan, comes, passed}
-use Rattle.agent_node.specs.Doors.{Passing, passes}
+use Rattle.agent_link.specs.Plans.{Plan}
+use Rattle.agent_link.specs.Fates.{comes, passed}
+use Rattle.agent_node.specs.Passing.{Passing, passes}
 
 -- what was taken from the front
 pub taken : (q rest : List Parcel) (o : Option Parcel) (p : Parcel) → q ≡ option_to_list o ++ rest → o ≡ Some p → q ≡ p ∷ rest

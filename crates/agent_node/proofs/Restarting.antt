@@ -6,7 +6,8 @@ use Rattle.nsi_primitive.specs.declared.message.Message.{Message}
 use Rattle.agent_state.specs.State.{AgentState}
 use Rattle.nsi_agent.specs.Homes.{Home}
 use Rattle.nsi_agent.specs.Told.{told}
-use Rattle.agent_node.specs.Doors.{Door, says_all}
+use Rattle.agent_node.specs.Doors.{Door}
+use Rattle.agent_node.specs.Passing.{says_all}
 use Rattle.agent_node.specs.Seat.{Seat}
 use Rattle.agent_node.specs.Restarts.{restart_event, drops, instead, reads, begun_again, tells_restart}
 

@@ -7,7 +7,8 @@ use Rattle.journal_entry.specs.Journal.{Kept as Journaled, Adds}
 use Rattle.nsi_agent.specs.Homes.{Home, Routes, home_in}
 use Rattle.nsi_agent.specs.Steps.{work_of}
 use Rattle.agent_node.specs.Acts.{is_quiet, is_idle, all_idle}
-use Rattle.agent_node.specs.Doors.{Door, Passing, with_passing, clears, pushes, come_through, lying}
+use Rattle.agent_node.specs.Doors.{Door}
+use Rattle.agent_node.specs.Passing.{Passing, with_passing, clears, pushes, come_through, lying}
 use Rattle.agent_node.specs.Seat.{Seat}
 use Rattle.agent_node.specs.Seated.{Seated, AtSeat}
 use Rattle.agent_node.specs.Turns.{cleared, takes_all, pushed, synced_all, worked, turn_entered, turn_with, turned}

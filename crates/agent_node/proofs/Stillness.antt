@@ -3,7 +3,8 @@ use Rattle.std.proofs.Common.{ℕ, ◌≡◌, List, [], ◌∷◌, true, ◌==�
 use Rattle.std.proofs.lemmas.Bool.{cases_eq}
 use Rattle.nsi_primitive.specs.declared.message.Parcel.{Parcel}
 use Rattle.agent_node.specs.declared.links.Link.{Link}
-use Rattle.agent_node.specs.Doors.{Door, change_first, let_through, learns, is_still, all_still, is_still_to}
+use Rattle.agent_node.specs.Doors.{Door, change_first}
+use Rattle.agent_node.specs.Passing.{let_through, learns, is_still, all_still, is_still_to}
 use Rattle.agent_node.specs.Linked.{doors}
 use Rattle.agent_node.proofs.Joints.{change_nil, change_here, change_there, through_nil, through_here, through_there}
 

@@ -7,7 +7,7 @@ use Rattle.journal_entry.specs.Journal.{Kept as Journaled}
 use Rattle.agent_link.specs.Link.{Half, OutHalf, Wire}
 use Rattle.agent_link.specs.Plans.{Plan}
 use Rattle.agent_node.specs.declared.fault.TurnFault.{TurnFault}
-use Rattle.agent_node.specs.Doors.{others, plug_to, crossed}
+use Rattle.agent_node.specs.Passing.{others, plug_to, crossed}
 pub use Rattle.agent_node.specs.Doors.{Plug}
 use Rattle.agent_node.specs.Seated.{Seated}
 use Rattle.agent_node.specs.Seat.{Seat}

@@ -1,4 +1,5 @@
 pub mod Doors
+pub mod Passing
 pub mod Linked
 pub mod Seat
 pub mod Turns

@@ -3,7 +3,8 @@ use Rattle.std.specs.Prelude.{◌≡◌, List, map}
 use Rattle.agent_node.specs.declared.links.Link.{Link}
 use Rattle.nsi_primitive.specs.declared.message.Parcel.{Parcel}
 use Rattle.agent_link.specs.Link.{OutHalf}
-use Rattle.agent_node.specs.Doors.{Door, Passing, Plug, others}
+use Rattle.agent_node.specs.Doors.{Door}
+use Rattle.agent_node.specs.Passing.{Passing, Plug, others}
 
 abbrev pub door_of : Link → Door
 door_of l = record { other = l.other; queue = l.queue; out = l.out.parcels; plan = l.out.plan; inc = l.inc.parcels }

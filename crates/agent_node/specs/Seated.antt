@@ -12,7 +12,7 @@ use Rattle.provider_agent.specs.Steps.{is_for_provider}
 use Rattle.aggregator_agent.specs.Steps.{is_for_aggregator}
 use Rattle.nsi_agent.specs.Homes.{Home, Routes, AreRoutes, home_in}
 use Rattle.agent_node.specs.declared.fault.TurnFault.{TurnFault}
-use Rattle.agent_node.specs.Doors.{Plug, others}
+use Rattle.agent_node.specs.Passing.{Plug, others}
 use Rattle.agent_node.specs.Seat.{Seat}
 
 -- the topology that it stands in, itself, and its links

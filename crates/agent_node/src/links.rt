@@ -4,7 +4,8 @@ ghost use Rattle.std.specs.Prelude.{◌≡◌, ℕ, Some, ◌++◌, map, OnOk, I
 ghost use Rattle.std.specs.List.{All};
 ghost use Rattle.nsi_primitive.specs.Printable.{IsPrintable, IsPrintableParcel};
 ghost use Rattle.stp_topology.specs.Network.{agent_of};
-ghost use Rattle.agent_node.specs.Doors.{change_first, queue_at, says, says_all, pushes, has_queued, is_queued, come_through, lying, clears, IsPrintableCome, is_idle, all_idle, is_still, all_still, is_still_to, let_through, learns, HasMet, plug_to, crossed};
+ghost use Rattle.agent_node.specs.Doors.{change_first, queue_at};
+ghost use Rattle.agent_node.specs.Passing.{says, says_all, pushes, has_queued, is_queued, come_through, lying, clears, IsPrintableCome, is_idle, all_idle, is_still, all_still, is_still_to, let_through, learns, HasMet, plug_to, crossed};
 ghost use Rattle.agent_node.specs.Restarts.{drops};
 ghost use Rattle.agent_node.specs.Linked.{door_of, plug_of, doors, plugs, HasSameLinks};
 
@@ -259,7 +260,7 @@ pub struct Links {
 
 impl Model for Links {
     ghost use Rattle.std.specs.Prelude.{◌≡◌, true};
-    ghost use Rattle.agent_node.specs.Doors.{all_still};
+    ghost use Rattle.agent_node.specs.Passing.{all_still};
     ghost use Rattle.agent_node.specs.Linked.{Linked, doors, plugs};
 
     ghost Value = { Linked };
@@ -305,7 +306,7 @@ impl Links {
     }
 
     /// Queues messages, in order, each for its addressee.
-    #[tactic(auto, unfolding(crate::specs::Doors::says_all))]
+    #[tactic(auto, unfolding(crate::specs::Passing::says_all))]
     pub fn say_all(&mut self, topology: &Topology, messages: Vec<Message>) -> Result<(), AllocError>
         requires printable { All IsPrintable messages.items }
         ensures doors { OnOk result

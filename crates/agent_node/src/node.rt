@@ -12,7 +12,7 @@ ghost use Rattle.nsi_agent.specs.Steps.{after};
 ghost use Rattle.agent_node.specs.Seat.{now_at};
 ghost use Rattle.agent_node.specs.Acts.{asked, forced, ticked, is_quiet};
 ghost use Rattle.agent_node.specs.Meetings.{met};
-ghost use Rattle.agent_node.specs.Doors.{HasMet, IsPrintableCome};
+ghost use Rattle.agent_node.specs.Passing.{HasMet, IsPrintableCome};
 ghost use Rattle.agent_node.specs.Kept.{plug, AreLinked, IsSameAgent, HasSameJournal, fault_in, lack_of};
 ghost use Rattle.agent_node.specs.Made.{AtHome, IsTurn, IsTurnWith};
 ghost use Rattle.agent_node.specs.Reopening.{HasReopenCause, IsReread};

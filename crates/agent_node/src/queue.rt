@@ -3,7 +3,7 @@
 ghost use Rattle.std.specs.Prelude.{◌≡◌, ◌==◌, [], ◌∷◌, ◌++◌, length, OnOk};
 ghost use Rattle.std.specs.List.{list_any};
 ghost use Rattle.nsi_primitive.specs.Printable.{IsPrintableParcel};
-ghost use Rattle.agent_node.specs.Doors.{is_message, passes};
+ghost use Rattle.agent_node.specs.Passing.{is_message, passes};
 ghost use Rattle.agent_node.specs.Linked.{passing};
 
 use agent_link::{Outgoing, PushFault};

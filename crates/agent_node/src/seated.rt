@@ -9,7 +9,7 @@ ghost use Rattle.agent_state.specs.Entries.{most_entries};
 ghost use Rattle.requester_agent.specs.Setting.{IsRequester};
 ghost use Rattle.nsi_agent.specs.Homes.{Routes, home_in};
 ghost use Rattle.nsi_agent.specs.Steps.{after, is_new, may_take};
-ghost use Rattle.agent_node.specs.Doors.{HasMet, IsPrintableCome, lying, plug_to, crossed};
+ghost use Rattle.agent_node.specs.Passing.{HasMet, IsPrintableCome, lying, plug_to, crossed};
 ghost use Rattle.agent_node.specs.Seat.{enters, enters_if, enters_now, enters_with, now_at};
 ghost use Rattle.agent_node.specs.Turns.{cleared, takes, takes_all, worked, syncs, pushed};
 ghost use Rattle.agent_node.specs.Acts.{asked, forced, ticked, overdue, is_overdue, is_quiet};

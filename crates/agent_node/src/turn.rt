@@ -3,7 +3,7 @@
 ghost use Rattle.std.specs.Prelude.{◌≡◌, ◌≤◌, ◌+◌, None, false, OnOk};
 ghost use Rattle.std.specs.List.{All};
 ghost use Rattle.agent_state.specs.Entries.{most_entries};
-ghost use Rattle.agent_node.specs.Doors.{IsPrintableCome};
+ghost use Rattle.agent_node.specs.Passing.{IsPrintableCome};
 ghost use Rattle.agent_node.specs.Kept.{kept_with, fault_in};
 ghost use Rattle.agent_node.specs.Made.{IsSynced, IsTurn, IsTurnWith};
 

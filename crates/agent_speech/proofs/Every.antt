@@ -19,7 +19,8 @@ use Rattle.requester_agent.specs.Steps.{step as requester_step}
 use Rattle.requester_agent.proofs.Entries.{after_is as requester_takes}
 use Rattle.nsi_agent.specs.Homes.{Role, provides, aggregates, requests, Home}
 use Rattle.nsi_agent.specs.Steps.{after, after_as, may_take_as, with_base}
-use Rattle.nsi_agent.specs.Told.{goes_on, name_in, drawer_of}
+use Rattle.nsi_agent.specs.Told.{goes_on}
+use Rattle.nsi_agent.specs.Said.{name_in, drawer_of}
 use Rattle.nsi_agent.proofs.ProviderKeeps.{HasSeen, provider_saw}
 use Rattle.nsi_agent.proofs.AggregatorKeeps.{aggregator_saw}
 use Rattle.nsi_agent.proofs.RequesterKeeps.{requester_saw}

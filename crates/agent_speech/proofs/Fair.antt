@@ -15,7 +15,8 @@ use Rattle.connection_record.specs.declared.record.Record.{Record}
 use Rattle.connection_record.specs.Replies.{id_or}
 use Rattle.connection_record.specs.Speaking.{one, tally, owed_reserve, owed_provision, owed_life, owed}
 use Rattle.agent_state.specs.State.{AgentState, record_at, no_record}
-use Rattle.nsi_agent.specs.Told.{told, name_in, drawer_of}
+use Rattle.nsi_agent.specs.Told.{told}
+use Rattle.nsi_agent.specs.Said.{name_in, drawer_of}
 use Rattle.agent_speech.specs.Owing.{answers_to, is_drawn, times, owed_under, owed_by, has_id, before, took, HasSaidOnce}
 use Rattle.agent_speech.specs.Laws.{header_to, records_after, IdsAreApart, NothingUnasked, HoldsWereAsked}
 use Rattle.agent_speech.proofs.Measures.{same_bytes}

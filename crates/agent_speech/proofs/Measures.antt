@@ -11,7 +11,8 @@ use Rattle.message_retry.specs.Taken.{is_taken, is_same_request, with_taken}
 use Rattle.connection_record.specs.declared.record.Record.{Record}
 use Rattle.connection_record.specs.declared.moves.Reply.{Reply}
 use Rattle.connection_record.specs.Replies.{Moved, addressed}
-use Rattle.connection_record.specs.Speaking.{one, tally, is_id, is_asking, is_noting, is_answering, answers_as, notes_as, asks_for, Speaks}
+use Rattle.connection_record.specs.Speaking.{one, tally, is_asking, is_noting, is_answering, answers_as, notes_as, asks_for, Speaks}
+use Rattle.connection_record.specs.Ids.{is_id}
 use Rattle.agent_speech.specs.Owing.{answers_to, is_drawn, is_foreign, times, owed_under, before, took}
 
 pub same_bytes : (xs : List ℕ) → bytes_eq xs xs ≡ true

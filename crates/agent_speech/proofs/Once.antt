@@ -9,7 +9,8 @@ use Rattle.nsi_primitive.specs.declared.message.Service.{Service}
 use Rattle.message_retry.specs.Taken.{is_taken, is_same_request, with_taken}
 use Rattle.connection_record.specs.declared.record.Record.{Record}
 use Rattle.connection_record.specs.Moves.{fresh}
-use Rattle.connection_record.specs.Speaking.{one, tally, is_id, is_answering, owed_reserve, owed_provision, owed_life, owed}
+use Rattle.connection_record.specs.Speaking.{one, tally, is_answering, owed_reserve, owed_provision, owed_life, owed}
+use Rattle.connection_record.specs.Ids.{is_id}
 use Rattle.connection_record.proofs.Saying.{tally_append}
 use Rattle.agent_state.specs.State.{State, AgentState, blank_agent, record_at, no_record}
 use Rattle.agent_speech.specs.Owing.{answers_to, is_drawn, is_foreign, times, owed_under, owed_by, owed_below, has_id, before, took, SaysWhatItOwes, HasSaidOnce}

@@ -16,7 +16,8 @@ use Rattle.child_connection.specs.Holding.{is_reservation}
 use Rattle.agent_state.specs.State.{AgentState}
 use Rattle.nsi_agent.specs.Homes.{Role, provides, aggregates, requests, Home}
 use Rattle.nsi_agent.specs.Steps.{is_seen, is_new}
-use Rattle.nsi_agent.specs.Told.{told, Gets, WasGot, name_in, drawer_of}
+use Rattle.nsi_agent.specs.Told.{told, Gets, WasGot}
+use Rattle.nsi_agent.specs.Said.{name_in, drawer_of}
 use Rattle.nsi_agent.proofs.SeenGot.{seen_was_got}
 use Rattle.agent_speech.specs.Owing.{answers_to, is_drawn, is_foreign, before, took, HasSaidOnce}
 use Rattle.agent_speech.specs.Unanswered.{reserves_at}

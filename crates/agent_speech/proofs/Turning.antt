@@ -22,7 +22,8 @@ use Rattle.connection_record.specs.Courses.{IsOwn, IsOwnProvision}
 use Rattle.connection_record.specs.Lives.{lives_if, lives, provisions_if}
 use Rattle.connection_record.specs.Moves.{is_live, reserves_if, is_due}
 use Rattle.connection_record.specs.Replies.{Moved, addressed}
-use Rattle.connection_record.specs.Speaking.{one, tally, is_id, answers_as, notes_as, asks_for, owed, lifecycle_begins, lifecycle_draws, no_ids, drawn_if, Speaks}
+use Rattle.connection_record.specs.Speaking.{one, tally, answers_as, notes_as, asks_for, owed, lifecycle_begins, lifecycle_draws, no_ids, drawn_if, Speaks}
+use Rattle.connection_record.specs.Ids.{is_id}
 use Rattle.connection_record.proofs.Growing.{reserves_if_later, provisions_if_later, lives_if_later, closes_later, moves_if_later, tells_plane_later}
 use Rattle.connection_record.proofs.Saying.{tally_append, stays_speaks, lives_speaks, reserves_if_speaks, provisions_if_speaks, both_speak, closes_speaks, takes_speaks, plane_speaks}
 use Rattle.child_connection.specs.Views.{ChildConnection}

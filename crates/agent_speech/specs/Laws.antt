@@ -14,7 +14,8 @@ use Rattle.connection_record.specs.Speaking.{tally, is_answering, owed}
 use Rattle.agent_state.specs.State.{AgentState, blank_agent, record_at}
 use Rattle.nsi_agent.specs.Homes.{Role, provides, aggregates, requests, Home}
 use Rattle.nsi_agent.specs.Steps.{after}
-use Rattle.nsi_agent.specs.Told.{told, name_in, drawer_of}
+use Rattle.nsi_agent.specs.Told.{told}
+use Rattle.nsi_agent.specs.Said.{name_in, drawer_of}
 use Rattle.agent_speech.specs.Owing.{answers_to, SaysWhatItOwes, HasSaidOnce}
 use Rattle.agent_speech.specs.Unanswered.{held, HoldsWhatItAsks, HasHeld, AreEven}
 

@@ -2,7 +2,8 @@
 use Rattle.std.proofs.Common.{ℕ, ◌≡◌, List, [], ◌∷◌, ◌++◌, inl, inr, refl, sym, ap, ap₂, ◌∙◌, subst, map}
 use Rattle.std.proofs.lemmas.Bool.{cases_eq}
 use Rattle.nsi_primitive.specs.declared.message.Parcel.{Parcel}
-use Rattle.agent_node.specs.Doors.{Door, others, change_first, let_through, learns}
+use Rattle.agent_node.specs.Doors.{Door, change_first}
+use Rattle.agent_node.specs.Passing.{others, let_through, learns}
 use Rattle.agent_node.specs.Seat.{Seat}
 use Rattle.agent_node.specs.Meetings.{met}
 use Rattle.agent_node.proofs.Joints.{change_nil, change_here, change_there, through_here, through_there}

@@ -2,7 +2,7 @@
 use Rattle.std.proofs.Common.{ℕ, zero, suc, ◌<◌, ◌≡◌, List, [], ◌∷◌, refl, sym, ap, ap₂, ◌∙◌, subst, map, length, get_or, arith}
 use Rattle.stp_topology.specs.declared.network.Network.{Network}
 use Rattle.nsi_agent.specs.Homes.{Home, Routes, AreRoutes, home_in}
-use Rattle.agent_node.specs.Doors.{others, plug_to, crossed}
+use Rattle.agent_node.specs.Passing.{others, plug_to, crossed}
 use Rattle.agent_node.specs.Seat.{Seat}
 use Rattle.agent_node.specs.Kept.{Kept, AreLinked, IsSameAgent}
 use Rattle.agent_node.specs.Made.{AtHome}

@@ -1,7 +1,7 @@
 -- Wires of agents that have met others.
 use Rattle.std.proofs.Common.{ℕ, suc, ◌≡◌, List, [], ◌∷◌, ◌++◌, Option, Some, None, refl, sym, ap, ◌∙◌, subst, length}
 use Rattle.agent_link.specs.Link.{Wire}
-use Rattle.agent_node.specs.Doors.{others, crossed}
+use Rattle.agent_node.specs.Passing.{others, crossed}
 use Rattle.agent_node.specs.Kept.{Kept, plug, AreLinked}
 use Rattle.agent_threads.specs.Nets.{seats, numbers, EachIs, IsAbsent, AreApart, IsLinkedToAll, AreWired, plugs_to}
 use Rattle.agent_threads.specs.Made.{Stays}

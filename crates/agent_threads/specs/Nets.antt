@@ -3,7 +3,7 @@ use Rattle.std.specs.Prelude.{ℕ, ◌≡◌, List, [], ◌∷◌, map, Option, 
 use Rattle.stp_topology.specs.declared.network.Network.{Network}
 use Rattle.agent_link.specs.Link.{Wire}
 use Rattle.nsi_agent.specs.Homes.{Routes, AreRoutes, home_in}
-use Rattle.agent_node.specs.Doors.{others}
+use Rattle.agent_node.specs.Passing.{others}
 use Rattle.agent_node.specs.Seat.{Seat}
 use Rattle.agent_node.specs.Kept.{Kept, plug, AreLinked}
 use Rattle.nsi_play.specs.Rounds.{Net, Homes}

@@ -6,7 +6,8 @@ use Rattle.std.specs.List.{Contains}
 use Rattle.std.proofs.lemmas.List.Elements.{Contains-append_left, Contains-push, Contains-push_cases}
 use Rattle.record_index.proofs.Members.{nothing_in}
 use Rattle.std.proofs.lemmas.Bool.Decides.{nat_tests}
-use Rattle.connection_record.specs.Later.{saved_of, IsLater}
+use Rattle.connection_record.specs.Later.{IsLater}
+use Rattle.connection_record.specs.Saved.{saved_of}
 use Rattle.connection_record.proofs.Growing.{later_refl}
 use Rattle.child_connection.specs.Views.{ChildConnection}
 use Rattle.aggregator_agent.specs.declared.keeping.Kept.{Kept}

@@ -1,7 +1,8 @@
 -- How what is done to connections is taken back.
 use Rattle.std.specs.Prelude.{◌≡◌, ◌≢◌, ◌<◌, ℕ, List, length, Contains, Option, Some, None}
 use Rattle.std.specs.Global.{Vec}
-use Rattle.connection_record.specs.Later.{saved_of, IsLater}
+use Rattle.connection_record.specs.Later.{IsLater}
+use Rattle.connection_record.specs.Saved.{saved_of}
 use Rattle.child_connection.specs.Views.{ChildConnection}
 use Rattle.aggregator_agent.specs.declared.keeping.Kept.{Kept}
 use Rattle.aggregator_agent.specs.Bonds.{Bond, bond_at}

@@ -3,7 +3,7 @@
 ghost use Rattle.std.specs.Prelude.{◌≡◌, ◌<◌, ◌++◌, true, length, option_to_list, OnOk};
 ghost use Rattle.nsi_primitive.specs.Messages.{kind_of};
 ghost use Rattle.nsi_primitive.specs.declared.kind.Kind.{Kind as KindValue};
-ghost use Rattle.child_connection.specs.Asks.{is_about};
+ghost use Rattle.child_connection.specs.Refusals.{is_about};
 ghost use Rattle.std.specs.Option.{option_copied};
 ghost use Rattle.aggregator_agent.specs.Asking.{request_if, may_abort, service_for, reserve_if, passed_on, pass_one, next_behind, pass_each};
 ghost use Rattle.aggregator_agent.specs.Connections.{view_at, IsAskOf, IsAsked, IsAskedAt, AreAsked};
@@ -37,7 +37,7 @@ impl Turning {
 }
 
 /// Asks a child whose id is known, and whose machine has nothing unanswered, where there is cause to.
-#[tactic(auto, unfolding(crate::specs::Asking::request_if, crate::specs::Asking::asked_view, child_connection::specs::Asks::ask_refusal))]
+#[tactic(auto, unfolding(crate::specs::Asking::request_if, crate::specs::Asking::asked_view, child_connection::specs::Refusals::ask_refusal))]
 pub fn ask_if(
     is_due: bool,
     child: &mut ChildConnection,

@@ -2,7 +2,7 @@
 
 ghost use Rattle.std.specs.Prelude.{◌≡◌, ◌<◌, length, None, slice_set, Contains, IfOk};
 ghost use Rattle.std.specs.Prelude.{List as Sequence};
-ghost use Rattle.connection_record.specs.Later.{saved_of};
+ghost use Rattle.connection_record.specs.Saved.{saved_of};
 ghost use Rattle.aggregator_agent.specs.declared.keeping.Kept.{Kept as KeptValue};
 ghost use Rattle.aggregator_agent.specs.Bonds.{Bond as BondValue};
 ghost use Rattle.aggregator_agent.specs.Bonds.{bond, bonds, bond_at};

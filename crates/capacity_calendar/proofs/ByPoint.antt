@@ -8,7 +8,7 @@ use Rattle.capacity_calendar.specs.declared.booking.Capacity.{Capacity}
 use Rattle.capacity_calendar.specs.declared.booking.PointCapacities.{PointCapacities}
 use Rattle.capacity_calendar.specs.ByPoint.{of_flow, nothing, AreByPoint}
 use Rattle.capacity_calendar.specs.Lack.{or_else}
-use Rattle.capacity_calendar.specs.Plan.{capacity_at, is_same_flow}
+use Rattle.capacity_calendar.specs.Places.{capacity_at, is_same_flow}
 
 or_same : (n m : ℕ) → (n ≡ m) ⊎ (n ≢ m)
 or_same n m = grind arith

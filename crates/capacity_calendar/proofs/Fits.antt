@@ -5,7 +5,8 @@ use Rattle.nsi_base.specs.Flows.{books}
 use Rattle.nsi_base.specs.declared.flow.Flow.{Flow}
 use Rattle.capacity_calendar.specs.Load.{load, others}
 use Rattle.capacity_calendar.specs.Lack.{loads}
-use Rattle.capacity_calendar.specs.Plan.{Plan, capacity_at, places, first_lack}
+use Rattle.capacity_calendar.specs.Plan.{Plan, first_lack}
+use Rattle.capacity_calendar.specs.Places.{capacity_at, places}
 use Rattle.capacity_calendar.proofs.FirstLack.{room_where_none}
 use Rattle.capacity_calendar.proofs.Places.{booked_among_places}
 

@@ -9,7 +9,8 @@ use Rattle.capacity_calendar.specs.declared.booking.Lack.{Lack}
 use Rattle.capacity_calendar.specs.declared.booking.Place.{Place}
 use Rattle.capacity_calendar.specs.Load.{load, others}
 use Rattle.capacity_calendar.specs.Lack.{or_else, lacks_by, is_lacking, lack_of, lack_at, first_from, first_lack_by, first_lack_among, loads}
-use Rattle.capacity_calendar.specs.Plan.{capacity_at, place_if, first_lack_at}
+use Rattle.capacity_calendar.specs.Plan.{first_lack_at}
+use Rattle.capacity_calendar.specs.Places.{capacity_at, place_if}
 use Rattle.capacity_calendar.specs.Search.{IsFirst, HasRoom}
 
 split : (t f : ℕ) → t ≤ f → (t ≡ f) ⊎ (t < f)

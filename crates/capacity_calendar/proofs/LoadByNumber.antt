@@ -6,7 +6,8 @@ use Rattle.std.specs.Option.{option_map_or}
 use Rattle.nsi_base.specs.declared.flow.Flow.{Flow}
 use Rattle.capacity_calendar.specs.declared.booking.Booking.{Booking}
 use Rattle.capacity_calendar.specs.Load.{claim, load, others}
-use Rattle.capacity_calendar.specs.Plan.{Plan, HasOneEach, HasNoneFrom, booking_of, counted, claim_of, places, first_lack}
+use Rattle.capacity_calendar.specs.Plan.{Plan, HasOneEach, HasNoneFrom, booking_of, counted, claim_of, first_lack}
+use Rattle.capacity_calendar.specs.Places.{places}
 use Rattle.capacity_calendar.specs.Lack.{first_lack_by}
 use Rattle.capacity_calendar.specs.Sums.{sum_upto, sum_but}
 use Rattle.capacity_calendar.proofs.FirstLack.{first_lack_by-same}

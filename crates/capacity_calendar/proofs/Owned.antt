@@ -7,7 +7,8 @@ use Rattle.capacity_calendar.specs.declared.booking.Capacity.{Capacity}
 use Rattle.capacity_calendar.specs.declared.booking.Point.{Point}
 use Rattle.capacity_calendar.specs.declared.booking.Slot.{Slot}
 use Rattle.capacity_calendar.specs.Load.{taken, larger_taken, claim, load, others}
-use Rattle.capacity_calendar.specs.Plan.{capacity_at, HasOneEach, IsSound, committed_of, pending_of, changed, pending_set, with_pending, settled}
+use Rattle.capacity_calendar.specs.Plan.{HasOneEach, IsSound, committed_of, pending_of, changed, pending_set, with_pending, settled}
+use Rattle.capacity_calendar.specs.Places.{capacity_at}
 use Rattle.capacity_calendar.specs.Changes.{booking_with, IsWithinFlow}
 use Rattle.capacity_calendar.specs.Index.{booking_ends, ends, ends_by, Timeline, timeline_at, AreLoads, Tells, IsIndex, IsIndexed, IsIndexedAt, IsIndexFor}
 use Rattle.std.specs.Option.{IfSome}

@@ -8,7 +8,7 @@ use Rattle.nsi_base.specs.declared.flow.Flow.{Flow}
 use Rattle.nsi_base.specs.declared.flow.Flow.TheVariants.{Both, In, Out}
 use Rattle.capacity_calendar.specs.declared.booking.Capacity.{Capacity}
 use Rattle.capacity_calendar.specs.declared.booking.Place.{Place}
-use Rattle.capacity_calendar.specs.Plan.{capacity_at, place_if, booked_place, places_at, places}
+use Rattle.capacity_calendar.specs.Places.{capacity_at, place_if, booked_place, places_at, places}
 
 -- what books is at one end
 at_an_end : (flow : Flow) (both_ways s d : Bool) → books flow both_ways s d ≡ true → (s ≡ true) ⊎ (d ≡ true)

@@ -6,7 +6,8 @@ use Rattle.capacity_calendar.specs.declared.booking.Lack.{Lack}
 use Rattle.capacity_calendar.specs.declared.booking.Slot.{Slot}
 use Rattle.capacity_calendar.specs.Load.{larger_taken, load, others}
 use Rattle.capacity_calendar.specs.Lack.{lack_at, first_from, first_lack_by}
-use Rattle.capacity_calendar.specs.Plan.{Plan, places, first_lack, with_pending, settled, pending_set}
+use Rattle.capacity_calendar.specs.Plan.{Plan, first_lack, with_pending, settled, pending_set}
+use Rattle.capacity_calendar.specs.Places.{places}
 
 -- between two points, both ways or one
 abbrev slot : (source dest : ℕ) → Bool → ℕ → ℕ → ℕ → Slot

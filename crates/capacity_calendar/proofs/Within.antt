@@ -8,7 +8,8 @@ use Rattle.nsi_base.specs.declared.flow.Flow.{Flow}
 use Rattle.capacity_calendar.specs.declared.booking.Booking.{Booking}
 use Rattle.capacity_calendar.specs.declared.booking.Capacity.{Capacity}
 use Rattle.capacity_calendar.specs.Load.{larger_taken, claim, load, others}
-use Rattle.capacity_calendar.specs.Plan.{capacity_at, HasOneEach, IsSound, booking_of, claim_of, counted, placed}
+use Rattle.capacity_calendar.specs.Plan.{HasOneEach, IsSound, booking_of, claim_of, counted, placed}
+use Rattle.capacity_calendar.specs.Places.{capacity_at}
 
 -- the others claim no more than all
 pub others_le : (f : Booking → ℕ) (number : ℕ) (bs : List Booking) → sum_by f (others number bs) ≤ sum_by f bs

@@ -4,7 +4,7 @@ use Rattle.nsi_base.specs.declared.flow.Flow.{Flow}
 use Rattle.nsi_base.specs.declared.flow.Flow.TheVariants.{Both, In, Out}
 use Rattle.capacity_calendar.specs.declared.booking.Capacity.{Capacity}
 use Rattle.capacity_calendar.specs.declared.booking.PointCapacities.{PointCapacities}
-use Rattle.capacity_calendar.specs.Plan.{capacity_at}
+use Rattle.capacity_calendar.specs.Places.{capacity_at}
 
 -- that of a flow
 abbrev pub of_flow : Flow → PointCapacities → Option ℕ

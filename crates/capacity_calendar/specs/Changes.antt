@@ -6,7 +6,7 @@ use Rattle.capacity_calendar.specs.declared.booking.Capacity.{Capacity}
 use Rattle.capacity_calendar.specs.declared.booking.Change.{Change}
 use Rattle.capacity_calendar.specs.declared.booking.Slot.{Slot}
 use Rattle.capacity_calendar.specs.Load.{load, others}
-use Rattle.capacity_calendar.specs.Plan.{capacity_at}
+use Rattle.capacity_calendar.specs.Places.{capacity_at}
 
 -- a booking with one slot, or with two
 abbrev pub booking_with : ℕ → (other slot : Option Slot) → Booking

@@ -7,7 +7,8 @@ use Rattle.capacity_calendar.specs.declared.booking.Place.{Place}
 use Rattle.capacity_calendar.specs.declared.booking.Point.{Point}
 use Rattle.capacity_calendar.specs.declared.booking.Slot.{Slot}
 use Rattle.capacity_calendar.specs.Load.{books_slot, claim, load}
-use Rattle.capacity_calendar.specs.Plan.{capacity_at, HasOneEach}
+use Rattle.capacity_calendar.specs.Plan.{HasOneEach}
+use Rattle.capacity_calendar.specs.Places.{capacity_at}
 
 -- 1 where it is so
 abbrev pub one_if : Bool → ℕ

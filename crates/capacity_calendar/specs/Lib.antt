@@ -1,5 +1,6 @@
 pub mod Load
 pub mod Lack
+pub mod Places
 pub mod Plan
 pub mod Kept
 pub mod ByPoint

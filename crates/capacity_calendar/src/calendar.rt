@@ -7,7 +7,8 @@ ghost use Rattle.capacity_calendar.specs.Steps.{IsQuick};
 ghost use Rattle.capacity_calendar.specs.Tables.{AreIndexed, StayWithin};
 ghost use Rattle.capacity_calendar.specs.Load.{load, others};
 ghost use Rattle.capacity_calendar.specs.Lack.{first_lack_among};
-ghost use Rattle.capacity_calendar.specs.Plan.{capacity_at, booked_place, places_at, booking_of, committed_of, pending_of, pending_set, with_pending, settled};
+ghost use Rattle.capacity_calendar.specs.Plan.{booking_of, committed_of, pending_of, pending_set, with_pending, settled};
+ghost use Rattle.capacity_calendar.specs.Places.{capacity_at, booked_place, places_at};
 
 use crate::booking::{Booking, Capacity, Change, Demand, Lack, Place, Slot, Wish};
 use crate::bookings::Bookings;
@@ -42,7 +43,8 @@ impl Model for Calendar {
 }
 
 impl Calendar {
-    ghost use Rattle.capacity_calendar.specs.Plan.{Plan, IsSound, capacity_at, Fits, IsFirstLack, first_lack, first_lack_at};
+    ghost use Rattle.capacity_calendar.specs.Plan.{Plan, IsSound, Fits, IsFirstLack, first_lack, first_lack_at};
+    ghost use Rattle.capacity_calendar.specs.Places.{capacity_at};
 
     pub fn new(alloc: Global, capacities: List<Capacity>) -> Result<Calendar, AllocError>
         ensures empty { IfOk result (λ c. c ≡ record { capacities = capacities; bookings = [] }) }

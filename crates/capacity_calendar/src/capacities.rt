@@ -6,7 +6,7 @@ ghost use Rattle.nsi_base.specs.declared.flow.Flow.{Flow as AFlow};
 ghost use Rattle.capacity_calendar.specs.declared.booking.Capacity.{Capacity as ACapacity};
 ghost use Rattle.capacity_calendar.specs.ByPoint.{of_flow, nothing, AreByPoint};
 ghost use Rattle.capacity_calendar.specs.Lack.{or_else};
-ghost use Rattle.capacity_calendar.specs.Plan.{capacity_at, is_same_flow};
+ghost use Rattle.capacity_calendar.specs.Places.{capacity_at, is_same_flow};
 
 use crate::booking::{Capacity, PointCapacities};
 use nsi_base::{Flow, List, Mbps, StpNo};

@@ -3,7 +3,7 @@
 ghost use Rattle.std.specs.Prelude.{◌≡◌, ◌≢◌, ◌≤◌, ℕ, IfOk, OnOk, Some, [], true};
 ghost use Rattle.nsi_base.specs.declared.flow.Flow.{Flow as AFlow};
 ghost use Rattle.capacity_calendar.specs.Load.{load};
-ghost use Rattle.capacity_calendar.specs.Plan.{capacity_at};
+ghost use Rattle.capacity_calendar.specs.Places.{capacity_at};
 ghost use Rattle.capacity_calendar.specs.Changes.{all_before, all_after, IsWithinFlow};
 ghost use Rattle.capacity_calendar.specs.Index.{timeline_at, IsIndexed, IsIndexedAt};
 ghost use Rattle.capacity_calendar.specs.Tables.{AreIndexed, HasRoomAt, KeepsPoints, KeepsRoom, StayWithin, line_of, table_of};

@@ -11,7 +11,7 @@ use Rattle.child_connection.specs.Views.{ChildConnection, new_view, is_open}
 use Rattle.child_connection.specs.Asks.{asks}
 use Rattle.child_connection.specs.Hearing.{answers, refused, hears, hear, hear_from}
 use Rattle.child_connection.specs.Holding.{IsAlike}
-use Rattle.child_connection.specs.Laws.{IsSamePlace}
+use Rattle.child_connection.specs.Places.{IsSamePlace}
 
 ---- What is ignored
 

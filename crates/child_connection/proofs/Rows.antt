@@ -19,7 +19,8 @@ use Rattle.child_connection.specs.declared.state.AskFault.{AskFault}
 use Rattle.child_connection.specs.declared.state.Phase.{Phase}
 use Rattle.child_connection.specs.declared.state.Taken.{Taken}
 use Rattle.child_connection.specs.Views.{ChildConnection, new_view, sent, is_kind, open_request}
-use Rattle.child_connection.specs.Asks.{asks, request_about, reserve_for, to_child, ask_refusal, reserve_refusal}
+use Rattle.child_connection.specs.Asks.{asks, request_about, reserve_for, to_child}
+use Rattle.child_connection.specs.Refusals.{ask_refusal, reserve_refusal}
 use Rattle.child_connection.specs.Hearing.{hears, hear}
 
 ---- A view in each phase: the reserve had correlation 5, the commit 6, the abort 7

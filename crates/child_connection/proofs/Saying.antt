@@ -7,7 +7,8 @@ use Rattle.nsi_primitive.specs.declared.kind.Kind.{Kind}
 use Rattle.nsi_primitive.specs.declared.message.Body.{Body}
 use Rattle.nsi_primitive.specs.declared.message.Service.{Service}
 use Rattle.child_connection.specs.Views.{ChildConnection}
-use Rattle.child_connection.specs.Asks.{is_about, request_about, reserve_for, to_child}
+use Rattle.child_connection.specs.Asks.{request_about, reserve_for, to_child}
+use Rattle.child_connection.specs.Refusals.{is_about}
 
 pub about_names : (k : Kind) (id : ℕ) → is_about k ≡ true → (kind_of (request_about k id) ≡ k) × (connection_of (request_about k id) ≡ Some id)
 unfolding request_about connection_of

@@ -1,5 +1,5 @@
 -- What an ask sets, what it says, and when it is refused.
-use Rattle.std.specs.Prelude.{ℕ, ◌+◌, length, max, Bool, true, false, List, Option, Some, None}
+use Rattle.std.specs.Prelude.{ℕ, ◌+◌, length, max, List, Option, Some, None}
 use Rattle.nsi_primitive.specs.declared.kind.Directionality.{Directionality}
 use Rattle.nsi_primitive.specs.declared.kind.Kind.{Kind}
 use Rattle.nsi_primitive.specs.declared.message.Body.{Body}
@@ -7,10 +7,8 @@ use Rattle.nsi_primitive.specs.declared.message.Header.{Header}
 use Rattle.nsi_primitive.specs.declared.message.Message.{Message}
 use Rattle.nsi_primitive.specs.declared.message.ReserveRequest.{ReserveRequest}
 use Rattle.nsi_primitive.specs.declared.message.Service.{Service}
-use Rattle.child_connection.specs.declared.state.AskFault.{AskFault}
 use Rattle.child_connection.specs.declared.state.Phase.{Phase}
-use Rattle.child_connection.specs.declared.state.Sent.{Sent}
-use Rattle.child_connection.specs.Views.{ChildConnection, sent, open_request}
+use Rattle.child_connection.specs.Views.{ChildConnection, sent}
 
 ---- The view
 
@@ -99,32 +97,3 @@ header_to parent c x = record { correlation = c; requester = parent; provider = 
 
 abbrev pub to_child : List ℕ → ℕ → ChildConnection → Body → Message
 to_child parent c x body = record { header = header_to parent c x; body = body }
-
----- Refusals
-
--- the kinds that are asked of a connection whose id is known
-abbrev pub is_about : Kind → Bool
-is_about Kind.ReserveCommit = true
-is_about Kind.ReserveAbort = true
-is_about Kind.Provision = true
-is_about Kind.Release = true
-is_about Kind.Terminate = true
-is_about _ = false
-
--- a machine has one request at a time
-abbrev pub outstanding : Option Sent → Option AskFault
-outstanding None = None
-outstanding (Some q) = Some (AskFault.Outstanding q.correlation)
-
--- first comes that the child's id isn't known
-abbrev pub unknown_or : Option ℕ → Option AskFault → Option AskFault
-unknown_or None fault = Some AskFault.NoId
-unknown_or (Some id) fault = fault
-
--- why a request about a connection isn't asked
-unfoldable pub ask_refusal : Kind → ChildConnection → Option AskFault
-ask_refusal k x = unknown_or x.connection (outstanding (open_request k x))
-
--- why a reserve isn't asked
-unfoldable pub reserve_refusal : ChildConnection → Option AskFault
-reserve_refusal x = outstanding x.reserve_request

@@ -14,11 +14,13 @@ use Rattle.nsi_primitive.specs.declared.state.Rsm.{Rsm}
 use Rattle.child_connection.specs.declared.state.Phase.{Phase}
 use Rattle.child_connection.specs.declared.state.Taken.{Taken}
 use Rattle.child_connection.specs.Views.{ChildConnection, new_view, sent, open_request}
-use Rattle.child_connection.specs.Asks.{asks, is_about, request_about, reserve_for, to_child}
+use Rattle.child_connection.specs.Asks.{asks, request_about, reserve_for, to_child}
+use Rattle.child_connection.specs.Refusals.{is_about}
 use Rattle.child_connection.specs.Hearing.{hears, hear, push_version}
 use Rattle.child_connection.specs.Holding.{is_reservation, phase_of, holds, fits, settles, is_response, teaches, IsSameReservation, IsAlike, IsApart, Learns, Commits}
 use Rattle.child_connection.specs.Standing.{Standing, IsQuiet, back}
 use Rattle.child_connection.specs.Later.{IsReady, IsLater}
+use Rattle.child_connection.specs.Places.{IsSamePlace}
 
 ---- Messages
 
@@ -29,12 +31,6 @@ IgnoredLeaves = (m : Message) (x : ChildConnection) → (hear m x).taken ≡ Tak
 -- a view that asked nothing hears nothing
 abbrev pub NewHearsNothing : Type 0
 NewHearsNothing = (m : Message) (child source dest : List ℕ) → IsAlike (new_view child source dest) (hear m (new_view child source dest)).view
-
--- the child and its points stay
-pub record IsSamePlace (x y : ChildConnection) : Type 0 where
-  pub child : y.child ≡ x.child
-  pub source : y.source ≡ x.source
-  pub dest : y.dest ≡ x.dest
 
 abbrev pub AsksKeepThePlace : Type 0
 AsksKeepThePlace = (k : Kind) (c : ℕ) (x : ChildConnection) → IsSamePlace x (asks k c x)

@@ -1,7 +1,9 @@
 pub mod Views
+pub mod Refusals
 pub mod Asks
 pub mod Hearing
 pub mod Later
 pub mod Holding
 pub mod Standing
+pub mod Places
 pub mod Laws

@@ -26,7 +26,7 @@ use Rattle.dataplane_state.specs.Plane.{status, joined, announces}
 use Rattle.message_retry.specs.Retry.{is_heard, with_heard, is_old, saw}
 use Rattle.message_retry.specs.Taken.{is_taken, with_taken}
 use Rattle.capacity_calendar.specs.Lack.{lack_at, first_from, first_lack_by}
-use Rattle.capacity_calendar.specs.Plan.{places}
+use Rattle.capacity_calendar.specs.Places.{places}
 use Rattle.child_connection.specs.Asks.{asks as asks_child, request_about, reserve_for}
 use Rattle.child_connection.specs.Hearing.{hears as child_hears}
 use Rattle.child_connection.specs.Views.{is_kind, open_request, new_view, ChildConnection}

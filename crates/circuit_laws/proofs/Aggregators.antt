@@ -9,7 +9,7 @@ use Rattle.child_connection.specs.Holding.{IsAlike}
 use Rattle.agent_state.specs.State.{blank_agent}
 use Rattle.aggregator_agent.specs.Setting.{Setting as AggregatorSetting}
 use Rattle.nsi_agent.specs.Homes.{aggregates, Routes, home_in}
-use Rattle.nsi_agent.specs.Told.{name_in}
+use Rattle.nsi_agent.specs.Said.{name_in}
 use Rattle.nsi_world.specs.Worlds.{Homes, IsAgent, World, empty}
 use Rattle.nsi_world.specs.Runs.{is_requester, world_after, AreAllowed}
 use Rattle.nsi_world.specs.Laws.{HeardWasSent}

@@ -17,7 +17,8 @@ use Rattle.agent_speech.proofs.Every.{blank_is_even}
 use Rattle.nsi_agent.specs.Homes.{aggregates, home_in}
 use Rattle.nsi_agent.specs.Laws.{WhatIsSaidIsItsOwn}
 use Rattle.nsi_agent.specs.Steps.{after}
-use Rattle.nsi_agent.specs.Told.{Told, told, name_in}
+use Rattle.nsi_agent.specs.Told.{Told, told}
+use Rattle.nsi_agent.specs.Said.{name_in}
 use Rattle.nsi_world.specs.Heard.{WasSent, IsHeard, IsFair as IsFairWorld}
 use Rattle.nsi_world.specs.Runs.{is_requester, world_after, at}
 use Rattle.nsi_world.specs.Worlds.{Homes, IsAgent, World, empty}

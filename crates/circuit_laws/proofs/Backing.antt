@@ -17,7 +17,7 @@ use Rattle.provider_agent.specs.Safety.{IsRising}
 use Rattle.aggregator_agent.specs.Setting.{Setting as AggregatorSetting}
 use Rattle.requester_agent.specs.Setting.{Setting as RequesterSetting}
 use Rattle.nsi_agent.specs.Homes.{Role, provides, aggregates, requests, Routes, AreRoutes, home_in}
-use Rattle.nsi_agent.specs.Told.{Asks}
+use Rattle.nsi_agent.specs.Said.{Asks}
 use Rattle.nsi_agent.proofs.RequesterSays.{AreLaws, IsOf}
 use Rattle.nsi_agent.proofs.Below.{IsChild}
 use Rattle.nsi_world.specs.Worlds.{Homes, IsAgent, World, empty}

@@ -16,7 +16,8 @@ use Rattle.child_connection.specs.Views.{ChildConnection}
 use Rattle.agent_state.specs.State.{no_record, record_at, children_at, name_or}
 use Rattle.aggregator_agent.specs.Setting.{Setting as AggregatorSetting}
 use Rattle.nsi_agent.specs.Homes.{aggregates, home_in}
-use Rattle.nsi_agent.specs.Told.{Told, told, name_in}
+use Rattle.nsi_agent.specs.Told.{Told, told}
+use Rattle.nsi_agent.specs.Said.{name_in}
 use Rattle.nsi_world.specs.Heard.{WasSent, IsHeard, IsFair as IsFairWorld}
 use Rattle.nsi_world.specs.Runs.{is_requester, world_after, at}
 use Rattle.nsi_world.specs.Worlds.{Homes, IsAgent, World, empty, IsSent, IsTo}
@@ -24,7 +25,8 @@ use Rattle.run_growth.specs.WorldCuts.{cut, all_synced, IsGrown}
 use Rattle.run_growth.proofs.Grown.{at_same, at_other, AreGrown, run_grown}
 use Rattle.run_growth.proofs.Sent.{Given, given_in}
 use Rattle.run_growth.proofs.WorldCuts.{grown_fair, synced_cut, cut_at}
-use Rattle.circuit_link.specs.Children.{about, header_of}
+use Rattle.circuit_link.specs.Children.{about}
+use Rattle.circuit_link.specs.Headers.{header_of}
 use Rattle.circuit_laws.specs.Backed.{IsBetween}
 use Rattle.circuit_laws.specs.Laws.{ChildrenAreBetween}
 use Rattle.circuit_laws.proofs.Facts.{told_fair, told_once, request_said, answer_said}

@@ -28,7 +28,8 @@ use Rattle.aggregator_agent.specs.Setting.{Setting as AggregatorSetting}
 use Rattle.nsi_agent.specs.Homes.{Role, aggregates}
 use Rattle.nsi_agent.specs.Laws.{WhatIsSaidIsItsOwn}
 use Rattle.nsi_agent.specs.Steps.{after_as}
-use Rattle.nsi_agent.specs.Told.{Told, told, name_in, HasAsked, Asks, IsForIn, IsSaid, IsSaidAs}
+use Rattle.nsi_agent.specs.Told.{Told, told}
+use Rattle.nsi_agent.specs.Said.{name_in, HasAsked, Asks, IsForIn, IsSaid, IsSaidAs}
 use Rattle.nsi_world.specs.Worlds.{Homes, IsAgent, World, empty, synced_part, IsSaidBy, IsSent, IsTo}
 use Rattle.nsi_world.specs.Runs.{is_requester, world_after, AreAllowed, MayCome, at}
 use Rattle.nsi_world.specs.Heard.{IsHeard, IsFair as IsFairWorld}
@@ -39,7 +40,8 @@ use Rattle.run_growth.specs.WorldCuts.{IsPlaceOf, cut, told_to, all_synced, IsGr
 use Rattle.run_growth.proofs.Grown.{at_same, gets_more, AreGrown, run_grown}
 use Rattle.run_growth.proofs.Sent.{Given, agents_same, front, got_sent, to_requester, request_by, request_asks, answer_asks}
 use Rattle.run_growth.proofs.WorldCuts.{grown_fair, synced_cut, cut_at}
-use Rattle.circuit_link.specs.Children.{Child, about, header_of, IsFair}
+use Rattle.circuit_link.specs.Children.{Child, about, IsFair}
+use Rattle.circuit_link.specs.Headers.{header_of}
 use Rattle.circuit_link.specs.Serving.{child_of}
 use Rattle.circuit_link.proofs.Hearing.{rows_unheard}
 use Rattle.circuit_pairs.specs.Pairs.{IsAsked, IsReserveOf, IsTerminateOf, IsPair}

@@ -12,7 +12,8 @@ use Rattle.child_connection.specs.Views.{ChildConnection}
 use Rattle.child_connection.specs.Holding.{IsAlike}
 use Rattle.connection_record.specs.Refusal.{place_of}
 use Rattle.agent_state.specs.State.{AgentState, blank_agent}
-use Rattle.nsi_agent.specs.Told.{Told, told, name_in}
+use Rattle.nsi_agent.specs.Told.{Told, told}
+use Rattle.nsi_agent.specs.Said.{name_in}
 use Rattle.nsi_world.specs.Worlds.{Homes, IsAgent, World, empty, synced_part, said, IsSaidBy, IsSent, IsTo}
 use Rattle.nsi_world.specs.Runs.{is_requester, world_after, AreAllowed, at}
 use Rattle.nsi_world.specs.Heard.{IsFair as IsFairWorld}
@@ -22,7 +23,8 @@ use Rattle.run_growth.specs.WorldCuts.{IsPlaceOf, cut, told_to}
 use Rattle.run_growth.proofs.Grown.{at_same, at_other, front_of, says_more, gets_more, AreGrown, run_grown}
 use Rattle.run_growth.proofs.Sent.{Given, agents_same, front, got_sent, request_by, request_asks}
 use Rattle.run_growth.proofs.WorldCuts.{synced_cut, cut_at}
-use Rattle.circuit_link.specs.Children.{Child, header_of}
+use Rattle.circuit_link.specs.Children.{Child}
+use Rattle.circuit_link.specs.Headers.{header_of}
 use Rattle.circuit_link.specs.Serving.{child_of}
 use Rattle.circuit_link.proofs.Abouts.{same_header, IsSaidUnder, said_under}
 use Rattle.circuit_pairs.specs.Pairs.{IsPair, IsAsked, IsCommitOf, IsBacked, AreBacked}

@@ -25,7 +25,8 @@ use Rattle.aggregator_agent.specs.Asking.{Turn}
 use Rattle.aggregator_agent.specs.Turns.{takes, request_turn, late_terminate, answer_turn}
 use Rattle.connection_record.specs.Applied.{is_terminating}
 use Rattle.circuit_fit.specs.Fits.{pending_of, IsFitting, AllFit}
-use Rattle.circuit_link.specs.Children.{Child, header_of, MayReach, IsFair}
+use Rattle.circuit_link.specs.Children.{Child, MayReach, IsFair}
+use Rattle.circuit_link.specs.Headers.{header_of}
 use Rattle.circuit_link.specs.Mates.{IsMate}
 use Rattle.circuit_link.specs.Serving.{Serves}
 use Rattle.circuit_link.specs.Sides.{version_of}

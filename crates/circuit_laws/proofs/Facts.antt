@@ -9,7 +9,8 @@ use Rattle.nsi_primitive.specs.declared.message.Message.{Message}
 use Rattle.message_retry.specs.Taken.{is_taken, is_same_request}
 use Rattle.connection_record.specs.Speaking.{one, number_of, is_asking, is_answering}
 use Rattle.nsi_agent.specs.Homes.{Home}
-use Rattle.nsi_agent.specs.Told.{Told, told, name_in, drawer_of}
+use Rattle.nsi_agent.specs.Told.{Told, told}
+use Rattle.nsi_agent.specs.Said.{name_in, drawer_of}
 use Rattle.nsi_world.specs.Worlds.{Homes, IsAgent, IsSaidBy, IsSent, IsTo}
 use Rattle.nsi_world.specs.Heard.{IsFair as IsFairWorld}
 use Rattle.agent_speech.specs.Owing.{answers_to, is_drawn, before, HasSaidOnce}
@@ -21,7 +22,8 @@ use Rattle.agent_speech.proofs.Spoken.{asked_by, request_once, taken_came}
 use Rattle.run_growth.specs.WorldCuts.{all_synced, IsGrown}
 use Rattle.run_growth.proofs.Sent.{Given, agents_same, got_sent, request_by, answer_by, to_requester, request_asks, answer_asks}
 use Rattle.run_growth.proofs.WorldCuts.{synced_whole, grown_fair}
-use Rattle.circuit_link.specs.Children.{about, header_of, MayReach, IsFair}
+use Rattle.circuit_link.specs.Children.{about, MayReach, IsFair}
+use Rattle.circuit_link.specs.Headers.{header_of}
 use Rattle.circuit_link.specs.Serving.{child_of}
 use Rattle.circuit_link.proofs.Answering.{none_there}
 use Rattle.circuit_link.proofs.Abouts.{header_itself, headers_same, said_under}

@@ -12,12 +12,14 @@ use Rattle.agent_speech.proofs.Every.{blank_is_even}
 use Rattle.nsi_agent.specs.Homes.{aggregates}
 use Rattle.nsi_agent.specs.Laws.{WhatIsSaidIsItsOwn}
 use Rattle.nsi_agent.specs.Steps.{after}
-use Rattle.nsi_agent.specs.Told.{Told, told, name_in}
+use Rattle.nsi_agent.specs.Told.{Told, told}
+use Rattle.nsi_agent.specs.Said.{name_in}
 use Rattle.nsi_world.specs.Runs.{is_requester}
 use Rattle.nsi_world.specs.Worlds.{Homes, IsAgent}
 use Rattle.run_growth.specs.WorldCuts.{IsGrown}
 use Rattle.run_growth.proofs.Sent.{Given}
-use Rattle.circuit_link.specs.Children.{header_of, MayReach, IsFair}
+use Rattle.circuit_link.specs.Children.{MayReach, IsFair}
+use Rattle.circuit_link.specs.Headers.{header_of}
 use Rattle.circuit_link.specs.Serving.{child_of}
 use Rattle.circuit_pairs.specs.Pairs.{IsPair}
 use Rattle.circuit_pairs.proofs.Parenting.{dec_pair}

@@ -14,7 +14,8 @@ use Rattle.connection_record.specs.Moves.{fresh}
 use Rattle.agent_state.specs.State.{AgentState, no_record, record_at, blank_agent}
 use Rattle.nsi_agent.specs.Homes.{Home}
 use Rattle.nsi_agent.specs.Steps.{after}
-use Rattle.nsi_agent.specs.Told.{told, goes_on, name_in}
+use Rattle.nsi_agent.specs.Told.{told, goes_on}
+use Rattle.nsi_agent.specs.Said.{name_in}
 use Rattle.nsi_world.specs.Runs.{is_requester}
 use Rattle.circuit_link.specs.Serving.{child_of, Serves, taken_by}
 use Rattle.circuit_link.specs.Children.{Child}

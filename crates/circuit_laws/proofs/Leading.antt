@@ -7,7 +7,7 @@ use Rattle.stp_topology.specs.Laws.{IsWellFormed}
 use Rattle.stp_topology.specs.Network.{name_of, children_of}
 use Rattle.stp_topology.specs.Sound.{IsSound, TakesRequests}
 use Rattle.nsi_agent.specs.Homes.{Routes, AreRoutes, role_in, home_in}
-use Rattle.nsi_agent.specs.Told.{Asks}
+use Rattle.nsi_agent.specs.Said.{Asks}
 use Rattle.nsi_agent.specs.Asked.{IsAskedBy}
 use Rattle.nsi_agent.proofs.LeastWays.{asks_go_along_links}
 use Rattle.nsi_world.specs.Worlds.{Homes}

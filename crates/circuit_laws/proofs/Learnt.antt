@@ -21,7 +21,7 @@ use Rattle.child_connection.specs.declared.state.Taken.{Taken}
 use Rattle.child_connection.specs.Asks.{asks, reserve_for, to_child}
 use Rattle.child_connection.specs.Hearing.{heard_if, refused, is_reserving_or_held, hears, hear, hear_from}
 use Rattle.child_connection.specs.Holding.{teaches}
-use Rattle.child_connection.specs.Laws.{IsSamePlace}
+use Rattle.child_connection.specs.Places.{IsSamePlace}
 use Rattle.child_connection.specs.Views.{ChildConnection, sent, open_request, is_id, is_open_of, is_kind}
 use Rattle.child_connection.proofs.Places.{asks_known, asks_place, hear_place}
 use Rattle.child_connection.proofs.Reservations.{request_stays, attempt_asked}

@@ -11,7 +11,8 @@ use Rattle.connection_record.specs.Refusal.{place_of}
 use Rattle.agent_state.specs.State.{AgentState, record_at, children_at, no_record}
 use Rattle.nsi_agent.specs.Homes.{home_in}
 use Rattle.nsi_agent.specs.Laws.{WhatIsSaidIsItsOwn}
-use Rattle.nsi_agent.specs.Told.{Told, name_in}
+use Rattle.nsi_agent.specs.Told.{Told}
+use Rattle.nsi_agent.specs.Said.{name_in}
 use Rattle.nsi_world.specs.Worlds.{Homes, World, empty}
 use Rattle.nsi_world.specs.Runs.{world_after}
 use Rattle.run_growth.specs.WorldCuts.{IsPlaceOf, told_to}

@@ -23,7 +23,7 @@ use Rattle.connection_record.proofs.Unrefused.{unrefused_fits, reserve_row}
 use Rattle.child_connection.specs.declared.state.Sent.{Sent}
 use Rattle.child_connection.specs.Asks.{asks, reserve_for, to_child}
 use Rattle.child_connection.specs.Hearing.{hear, hear_from}
-use Rattle.child_connection.specs.Laws.{IsSamePlace}
+use Rattle.child_connection.specs.Places.{IsSamePlace}
 use Rattle.child_connection.specs.Views.{ChildConnection, open_request}
 use Rattle.child_connection.proofs.Places.{hear_place}
 use Rattle.child_connection.proofs.Reservations.{attempt_asked}

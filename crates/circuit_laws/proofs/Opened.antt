@@ -32,7 +32,8 @@ use Rattle.run_growth.proofs.Roles.{entries_grow}
 use Rattle.run_growth.proofs.Turned.{request_later}
 use Rattle.nsi_agent.specs.Homes.{Role, provides, aggregates, requests, Home}
 use Rattle.nsi_agent.specs.Steps.{after, after_as}
-use Rattle.nsi_agent.specs.Told.{told, goes_on, name_in}
+use Rattle.nsi_agent.specs.Told.{told, goes_on}
+use Rattle.nsi_agent.specs.Said.{name_in}
 use Rattle.nsi_world.specs.Worlds.{World, empty}
 use Rattle.nsi_world.specs.Runs.{is_requester, world_after}
 use Rattle.nsi_world.specs.Heard.{WasSent, IsHeard}

@@ -9,7 +9,8 @@ use Rattle.child_connection.specs.Views.{ChildConnection}
 use Rattle.child_connection.specs.Holding.{IsAlike}
 use Rattle.nsi_agent.specs.Homes.{Home}
 use Rattle.nsi_agent.specs.Steps.{after}
-use Rattle.nsi_agent.specs.Told.{Told, told, behind, goes_on, name_in}
+use Rattle.nsi_agent.specs.Told.{Told, told, behind, goes_on}
+use Rattle.nsi_agent.specs.Said.{name_in}
 use Rattle.nsi_agent.proofs.Telling.{telling_is_in_parts}
 use Rattle.nsi_world.specs.Worlds.{Homes, IsAgent, IsSent, IsTo}
 use Rattle.nsi_world.specs.Runs.{is_requester, MayCome}

@@ -26,7 +26,7 @@ use Rattle.connection_record.specs.Speaking.{tally, asks_for}
 use Rattle.connection_record.proofs.Saying.{takes_speaks}
 use Rattle.child_connection.specs.Views.{ChildConnection, open_request}
 use Rattle.child_connection.specs.declared.state.Sent.{Sent}
-use Rattle.child_connection.specs.Laws.{IsSamePlace}
+use Rattle.child_connection.specs.Places.{IsSamePlace}
 use Rattle.child_connection.specs.Hearing.{hear}
 use Rattle.child_connection.specs.Asks.{to_child, request_about, reserve_for}
 use Rattle.child_connection.proofs.Places.{asks_place}

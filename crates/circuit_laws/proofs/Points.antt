@@ -12,7 +12,7 @@ use Rattle.nsi_world.specs.Worlds.{Homes, World, empty, synced_part, IsSaidBy, I
 use Rattle.nsi_world.specs.Runs.{world_after}
 use Rattle.nsi_world.specs.Laws.{HeardWasSent}
 use Rattle.run_growth.proofs.Sent.{Given, given_in, agents_same, request_by, request_asks}
-use Rattle.circuit_laws.specs.Backed.{WasOpenedBy}
+use Rattle.circuit_laws.specs.Opened.{WasOpenedBy}
 use Rattle.circuit_laws.specs.Laws.{RecordsHaveThePoints}
 use Rattle.circuit_laws.proofs.Opened.{records_were_opened}
 use Rattle.circuit_laws.proofs.Pointed.{told_points}

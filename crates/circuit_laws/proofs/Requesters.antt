@@ -10,7 +10,7 @@ use Rattle.agent_state.specs.State.{blank_agent}
 use Rattle.agent_state.specs.declared.parent.View.{View}
 use Rattle.requester_agent.specs.Setting.{Setting as RequesterSetting}
 use Rattle.nsi_agent.specs.Homes.{requests, Routes, home_in}
-use Rattle.nsi_agent.specs.Told.{name_in}
+use Rattle.nsi_agent.specs.Said.{name_in}
 use Rattle.nsi_world.specs.Worlds.{Homes, IsAgent, World, empty}
 use Rattle.nsi_world.specs.Runs.{is_requester, world_after, AreAllowed}
 use Rattle.nsi_world.specs.Laws.{HeardWasSent}

@@ -15,11 +15,13 @@ use Rattle.requester_agent.specs.Setting.{Setting as RequesterSetting}
 use Rattle.aggregator_agent.specs.Setting.{Setting as AggregatorSetting}
 use Rattle.nsi_agent.specs.Homes.{Role, provides, aggregates, requests, Home}
 use Rattle.nsi_agent.specs.Steps.{after, after_as}
-use Rattle.nsi_agent.specs.Told.{goes_on, name_in, drawer_of}
+use Rattle.nsi_agent.specs.Told.{goes_on}
+use Rattle.nsi_agent.specs.Said.{name_in, drawer_of}
 use Rattle.nsi_world.specs.Runs.{is_requester}
 use Rattle.agent_speech.specs.Laws.{IsEven}
 use Rattle.agent_speech.proofs.Every.{entries_keep_even}
-use Rattle.circuit_link.specs.Children.{Child, is_for_views, about, header_of, MayReach, IsFair}
+use Rattle.circuit_link.specs.Children.{Child, is_for_views, about, MayReach, IsFair}
+use Rattle.circuit_link.specs.Headers.{header_of}
 use Rattle.circuit_link.specs.Serving.{child_of, Serves}
 use Rattle.circuit_link.proofs.Answering.{first_there, later_there}
 use Rattle.circuit_link.proofs.Providers.{provider_serves}

@@ -19,7 +19,7 @@ use Rattle.dataplane_state.specs.Plane.{status, announces}
 use Rattle.message_retry.specs.Retry.{is_heard, with_heard, is_old, saw}
 use Rattle.message_retry.specs.Taken.{is_taken, with_taken}
 use Rattle.capacity_calendar.specs.Lack.{lack_at, first_from, first_lack_by}
-use Rattle.capacity_calendar.specs.Plan.{places}
+use Rattle.capacity_calendar.specs.Places.{places}
 use Rattle.child_connection.specs.Asks.{asks as asks_child, request_about, reserve_for}
 use Rattle.child_connection.specs.Hearing.{hears}
 use Rattle.connection_record.specs.Applied.{moves, requested, provided, waits as record_waits, work_of as record_work, tells_plane, tells as record_tells}
@@ -47,7 +47,8 @@ use Rattle.connection_record.specs.Refusal.{place_of}
 use Rattle.agent_state.specs.State.{record_at}
 use Rattle.nsi_world.specs.Worlds.{IsAgent}
 use Rattle.circuit_link.specs.Sides.{standing_of}
-use Rattle.circuit_link.specs.Children.{about, header_of}
+use Rattle.circuit_link.specs.Children.{about}
+use Rattle.circuit_link.specs.Headers.{header_of}
 use Rattle.circuit_pairs.specs.Minding.{view_in}
 
 abbrev t1 : Network

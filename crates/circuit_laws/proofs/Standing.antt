@@ -16,7 +16,7 @@ use Rattle.agent_state.specs.State.{AgentState, record_at, children_at, no_recor
 use Rattle.aggregator_agent.specs.Setting.{Setting}
 use Rattle.nsi_agent.specs.Homes.{Role, aggregates, Routes, AreRoutes, role_in, home_in}
 use Rattle.nsi_agent.specs.Laws.{WhatIsSaidIsItsOwn}
-use Rattle.nsi_agent.specs.Told.{name_in}
+use Rattle.nsi_agent.specs.Said.{name_in}
 use Rattle.nsi_world.specs.Worlds.{Homes, World, empty}
 use Rattle.nsi_world.specs.Runs.{world_after}
 use Rattle.nsi_world.specs.Laws.{HeardWasSent}

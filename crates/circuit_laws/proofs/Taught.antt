@@ -33,9 +33,11 @@ use Rattle.run_growth.specs.Growth.{Stay}
 use Rattle.run_growth.proofs.Roles.{entries_grow}
 use Rattle.nsi_agent.specs.Homes.{Home}
 use Rattle.nsi_agent.specs.Steps.{after}
-use Rattle.nsi_agent.specs.Told.{Told, told, name_in}
+use Rattle.nsi_agent.specs.Told.{Told, told}
+use Rattle.nsi_agent.specs.Said.{name_in}
 use Rattle.nsi_world.specs.Runs.{is_requester}
-use Rattle.circuit_link.specs.Children.{Child, about, header_of}
+use Rattle.circuit_link.specs.Children.{Child, about}
+use Rattle.circuit_link.specs.Headers.{header_of}
 use Rattle.circuit_link.specs.Serving.{TakeCourses, IsTurn, Serves, taken_by}
 use Rattle.circuit_link.proofs.Abouts.{about_cases, addressed_in, IsSaidUnder, said_under}
 use Rattle.circuit_link.proofs.Answering.{only_one, not_there, IsReplied, replied_of, tally_there, counted_as}

@@ -28,7 +28,8 @@ use Rattle.connection_record.proofs.Growing.{moves_if_later}
 use Rattle.child_connection.specs.Holding.{is_reservation, IsHeeded}
 use Rattle.child_connection.specs.Views.{ChildConnection, sent}
 use Rattle.agent_state.specs.State.{no_record, record_at}
-use Rattle.circuit_link.specs.Children.{Child, header_of, side_of, IsFair}
+use Rattle.circuit_link.specs.Children.{Child, side_of, IsFair}
+use Rattle.circuit_link.specs.Headers.{header_of}
 use Rattle.circuit_link.specs.Links.{IsAttempt}
 use Rattle.circuit_link.specs.Serving.{IsNew, Serves, taken_by}
 use Rattle.circuit_link.proofs.Abouts.{headers_same}

@@ -27,7 +27,8 @@ use Rattle.aggregator_agent.specs.declared.agent.Agent.{Agent}
 use Rattle.aggregator_agent.specs.Asking.{asked_view, reserve_if, request_if, may_abort, passed_on}
 use Rattle.aggregator_agent.specs.Settling.{is_held}
 use Rattle.aggregator_agent.specs.Turns.{takes, late_terminate}
-use Rattle.circuit_link.specs.Children.{Child, about, header_of, record_of, side_of, MayReach, IsFair}
+use Rattle.circuit_link.specs.Children.{Child, about, record_of, side_of, MayReach, IsFair}
+use Rattle.circuit_link.specs.Headers.{header_of}
 use Rattle.circuit_link.specs.Links.{Link, Stands}
 use Rattle.circuit_link.specs.Mates.{IsMate}
 use Rattle.circuit_link.proofs.Hearing.{rows_unheard}

@@ -18,7 +18,7 @@ use Rattle.connection_record.specs.Moves.{fresh, service_of}
 use Rattle.connection_record.specs.Refusal.{refusal, place_of, points_of}
 use Rattle.child_connection.specs.Asks.{asks}
 use Rattle.child_connection.specs.Hearing.{hear}
-use Rattle.child_connection.specs.Laws.{IsSamePlace}
+use Rattle.child_connection.specs.Places.{IsSamePlace}
 use Rattle.child_connection.specs.Views.{ChildConnection}
 use Rattle.child_connection.proofs.Places.{asks_place, hear_place}
 use Rattle.agent_state.specs.declared.parent.Leg.{Leg}

@@ -10,7 +10,8 @@ use Rattle.aggregator_agent.proofs.Entries.{after_is as aggregator_takes}
 use Rattle.requester_agent.proofs.Entries.{after_is as requester_takes}
 use Rattle.nsi_agent.specs.Homes.{Role, provides, aggregates, requests, Home}
 use Rattle.nsi_agent.specs.Steps.{after, after_as, may_take_as}
-use Rattle.nsi_agent.specs.Told.{goes_on, told, name_in, Asks, IsFor, IsForIn}
+use Rattle.nsi_agent.specs.Told.{goes_on, told}
+use Rattle.nsi_agent.specs.Said.{name_in, Asks, IsFor, IsForIn}
 use Rattle.nsi_agent.proofs.ProviderSays.{CameFor, IsOwed}
 use Rattle.nsi_agent.proofs.RequesterSays.{AreLaws, IsOf, step_saying as requester_says}
 use Rattle.nsi_agent.proofs.Below.{IsChild, IsOpen}

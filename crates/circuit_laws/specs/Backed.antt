@@ -1,5 +1,5 @@
 -- What stands behind a version that is committed: behind the view of a child, and behind an aggregator's own record.
-use Rattle.std.specs.Prelude.{ℕ, ◌≡◌, ◌≢◌, ◌<◌, length, get_or, true, false, List, [], map, Contains, Some, None, slice_get}
+use Rattle.std.specs.Prelude.{ℕ, ◌≡◌, ◌≢◌, ◌<◌, length, get_or, true, false, List, [], map, Contains, Some, slice_get}
 use Rattle.std.specs.List.Sorted.{IsStrictlyIncreasing}
 use Rattle.nsi_base.specs.Range.{span_of}
 use Rattle.nsi_primitive.specs.declared.message.Body.{Body}
@@ -7,12 +7,12 @@ use Rattle.nsi_primitive.specs.declared.message.Criteria.{Criteria}
 use Rattle.nsi_primitive.specs.declared.message.Message.{Message}
 use Rattle.nsi_primitive.specs.declared.message.ReserveRequest.{ReserveRequest}
 use Rattle.stp_topology.specs.declared.network.Network.{Network}
-use Rattle.agent_state.specs.State.{AgentState, record_at, children_at, name_or}
+use Rattle.agent_state.specs.State.{AgentState, record_at, children_at}
 use Rattle.agent_state.specs.declared.parent.Leg.{Leg}
 use Rattle.agent_state.specs.declared.parent.View.{View}
 use Rattle.child_connection.specs.Views.{ChildConnection}
 use Rattle.connection_record.specs.declared.record.Record.{Record}
-use Rattle.connection_record.specs.Moves.{is_live, service_of}
+use Rattle.connection_record.specs.Moves.{is_live}
 use Rattle.connection_record.specs.Refusal.{place_of}
 use Rattle.path_segments.specs.declared.path.Segment.{Segment}
 use Rattle.path_segments.specs.Paths.{IsLeastPath}
@@ -23,7 +23,7 @@ use Rattle.nsi_world.specs.Worlds.{Homes, IsAgent, World, IsSent, IsTo}
 use Rattle.nsi_world.specs.Runs.{is_requester}
 use Rattle.run_growth.specs.Cuts.{IsCutOf, state_of_cut, synced_state}
 use Rattle.run_growth.specs.InStep.{versions_of}
-use Rattle.circuit_link.specs.Children.{header_of}
+use Rattle.circuit_link.specs.Headers.{header_of}
 
 ---- A view
 
@@ -136,21 +136,6 @@ EachChildLives t homes w =
     IsChildOf t homes a x.child b → IsCutOf w b j → x.connection ≡ Some id → place_of id (homes a).name (state_of_cut homes w b j).base.records ≡ Some place →
     is_live (record_at place (state_of_cut homes w b j).base.records).lsm ≡ true
 
--- Whatever a crash leaves of an aggregator and of a child: the child's record of a view that knows its connection is between the view's two points.
-abbrev pub EachChildIsBetween : Network → Homes → World → Type 0
-EachChildIsBetween t homes w =
-    (a b k j n id place : ℕ) (setting : AggregatorSetting) (x : ChildConnection) → IsAgent homes a → (homes a).role ≡ aggregates setting → IsCutOf w a k →
-    Contains (children_at n (state_of_cut homes w a k).children) x → IsChildOf t homes a x.child b → IsCutOf w b j → x.connection ≡ Some id →
-    place_of id (homes a).name (state_of_cut homes w b j).base.records ≡ Some place → IsBetween x (record_at place (state_of_cut homes w b j).base.records)
-
--- Whatever a crash leaves of an aggregator and of a child: the criteria that a connection of the aggregator has as committed the child's record of
--- each of its views has as committed too.
-abbrev pub EachChildHasTheCriteria : Network → Homes → World → Type 0
-EachChildHasTheCriteria t homes w =
-    (a b k j n : ℕ) (setting : AggregatorSetting) (own : Record) (x : ChildConnection) (c : Criteria) → IsAgent homes a → (homes a).role ≡ aggregates setting → IsCutOf w a k →
-    slice_get (state_of_cut homes w a k).base.records n ≡ Some own → Contains own.committed c → Contains (children_at n (state_of_cut homes w a k).children) x →
-    IsChildOf t homes a x.child b → IsCutOf w b j → HasCriteria (homes a).name x (state_of_cut homes w b j).base.records c
-
 -- Whatever a crash leaves of an aggregator: two of its views that are backed by one record are one, of whichever connections.
 abbrev pub NoRecordIsShared : Network → Homes → World → Type 0
 NoRecordIsShared t homes w =
@@ -181,37 +166,3 @@ abbrev pub EachCriteriaWasAskedFor : Homes → World → Type 0
 EachCriteriaWasAskedFor homes w =
     (b j n : ℕ) (r : Record) (k : Criteria) → IsAgent homes b → is_requester (homes b).role ≡ false → IsCutOf w b j →
     slice_get (state_of_cut homes w b j).base.records n ≡ Some r → Contains r.committed k → WasAskedFor homes w b r.owner k
-
--- Whatever a crash leaves of an agent that is asked: what a record of it has as pending its owner has asked for, by the reserve that is the record's
--- attempt.
-abbrev pub EachAttemptWasAskedFor : Homes → World → Type 0
-EachAttemptWasAskedFor homes w =
-    (b j n : ℕ) (r : Record) (k : Criteria) → IsAgent homes b → is_requester (homes b).role ≡ false → IsCutOf w b j →
-    slice_get (state_of_cut homes w b j).base.records n ≡ Some r → r.pending ≡ Some k →
-    (c : ℕ) × (r.attempt ≡ Some c) × (asked : WasAskedFor homes w b r.owner k) × (asked.message.header.correlation ≡ c)
-
----- Services
-
--- A record was opened by a first reserve of its owner that was sent: it has the points and all else of that reserve's service.
-pub record WasOpenedBy (homes : Homes) (w : World) (b : ℕ) (r : Record) : Type 0 where
-  pub message : Message
-  pub sent : IsSent homes w message
-  pub to : IsTo homes b message
-  pub from : message.header.requester ≡ r.owner
-  pub reserve : ReserveRequest
-  pub body : message.body ≡ Body.Reserve reserve
-  pub unnamed : reserve.connection ≡ None
-  pub service : r.service ≡ service_of reserve (name_or reserve.source) (name_or reserve.dest)
-
--- Whatever a crash leaves of an agent that is asked: each record of it was opened so.
-abbrev pub EachRecordWasOpened : Homes → World → Type 0
-EachRecordWasOpened homes w =
-    (b j n : ℕ) (r : Record) → IsAgent homes b → is_requester (homes b).role ≡ false → IsCutOf w b j → slice_get (state_of_cut homes w b j).base.records n ≡ Some r → WasOpenedBy homes w b r
-
--- Whatever a crash leaves of an agent that is asked: each record that it has for an aggregator is between the two points of a view that the
--- aggregator has of it, by what the aggregator has synced.
-abbrev pub EachRecordHasAViewsPoints : Homes → World → Type 0
-EachRecordHasAViewsPoints homes w =
-    (a b j n : ℕ) (setting : AggregatorSetting) (r : Record) → IsAgent homes a → (homes a).role ≡ aggregates setting → IsAgent homes b → is_requester (homes b).role ≡ false → IsCutOf w b j →
-    slice_get (state_of_cut homes w b j).base.records n ≡ Some r → r.owner ≡ (homes a).name →
-    (i : ℕ) × (x : ChildConnection) × Contains (children_at i (synced_state homes w a).children) x × (x.child ≡ (homes b).name) × (r.service.source ≡ x.source) × (r.service.dest ≡ x.dest)

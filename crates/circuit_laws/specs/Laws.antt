@@ -23,7 +23,8 @@ use Rattle.circuit_link.specs.Sides.{standing_of}
 use Rattle.circuit_link.specs.Links.{InStep, Stands, Waits}
 use Rattle.circuit_link.specs.Children.{Child, record_of, side_of}
 use Rattle.circuit_link.specs.Serving.{child_of}
-use Rattle.circuit_laws.specs.Backed.{AreBackedIn, EachViewIsBacked, EachViewRises, IsCircuit, EachCircuitStands, EachChildLives, EachChildIsBetween, EachChildHasTheCriteria, NoRecordIsShared, EachCriteriaWasAskedFor, EachAttemptWasAskedFor, EachRecordWasOpened, EachRecordHasAViewsPoints}
+use Rattle.circuit_laws.specs.Backed.{AreBackedIn, EachViewIsBacked, EachViewRises, IsCircuit, EachCircuitStands, EachChildLives, NoRecordIsShared, EachCriteriaWasAskedFor}
+use Rattle.circuit_laws.specs.Opened.{EachChildIsBetween, EachChildHasTheCriteria, EachAttemptWasAskedFor, EachRecordWasOpened, EachRecordHasAViewsPoints}
 
 -- what an agent keeps and has said by the entries before a place, as the views of those who ask it see it
 abbrev pub child_at : Homes → World → (b j : ℕ) → Child

@@ -13,7 +13,8 @@ use Rattle.connection_record.specs.declared.moves.Reply.{Reply}
 use Rattle.connection_record.specs.Courses.{answering}
 use Rattle.connection_record.specs.Replies.{addressed}
 use Rattle.connection_record.specs.Speaking.{is_answering}
-use Rattle.circuit_link.specs.Children.{is_for_views, about, header_of}
+use Rattle.circuit_link.specs.Children.{is_for_views, about}
+use Rattle.circuit_link.specs.Headers.{header_of}
 use Rattle.circuit_link.proofs.Answering.{first_there, later_there}
 
 ---- Headers

@@ -16,7 +16,8 @@ use Rattle.connection_record.proofs.Courses.{course_after}
 use Rattle.agent_state.specs.State.{no_record, record_at}
 use Rattle.circuit_link.specs.Sides.{Side}
 use Rattle.circuit_link.specs.Links.{Link}
-use Rattle.circuit_link.specs.Children.{Child, goes_on, about, header_of, record_of, side_of}
+use Rattle.circuit_link.specs.Children.{Child, goes_on, about, record_of, side_of}
+use Rattle.circuit_link.specs.Headers.{header_of}
 use Rattle.circuit_link.specs.Mates.{is_teaching, IsSeated, IsMate}
 use Rattle.circuit_link.proofs.Abouts.{about_cases, about_left, about_right}
 use Rattle.circuit_link.proofs.Answering.{same_some, tally_there, counted_as, IsReplied, replied_of, answer_of}

@@ -22,7 +22,8 @@ use Rattle.agent_state.specs.Entries.{error_reply}
 use Rattle.agent_state.specs.State.{no_record, record_at}
 use Rattle.circuit_link.specs.Links.{Link}
 use Rattle.circuit_link.specs.Sides.{took_in}
-use Rattle.circuit_link.specs.Children.{Child, goes_on, header_of, record_of, side_of, IsFair}
+use Rattle.circuit_link.specs.Children.{Child, goes_on, record_of, side_of, IsFair}
+use Rattle.circuit_link.specs.Headers.{header_of}
 use Rattle.circuit_link.specs.Mates.{IsMate}
 use Rattle.circuit_link.specs.Serving.{taken_by, IsTurn, IsAbout, IsFirst, Serves, IsForeign, IsOwn, LeavesAlone, IsPlaceAfter}
 use Rattle.circuit_link.proofs.Answering.{same_some}

@@ -15,7 +15,8 @@ use Rattle.connection_record.specs.Replies.{addressed}
 use Rattle.connection_record.specs.Speaking.{is_answering}
 use Rattle.connection_record.proofs.Acts.{answering_append}
 use Rattle.agent_state.specs.State.{no_record, record_at}
-use Rattle.circuit_link.specs.Children.{about, header_of, TellsNothing}
+use Rattle.circuit_link.specs.Children.{about, TellsNothing}
+use Rattle.circuit_link.specs.Headers.{header_of}
 use Rattle.circuit_link.specs.Serving.{IsByItself, Tells, TakeCourses}
 use Rattle.circuit_link.proofs.Living.{itself_same}
 use Rattle.circuit_link.proofs.Abouts.{about_append, about_cases, about_left, about_right, AreRowless, addressed_in, addressed_of, IsSaidUnder, said_under}

@@ -11,10 +11,12 @@ use Rattle.child_connection.specs.Holding.{teaches, IsHeeded}
 use Rattle.connection_record.specs.declared.record.Record.{Record}
 use Rattle.connection_record.specs.declared.moves.Reply.{Reply}
 use Rattle.connection_record.specs.Courses.{IsAlone, IsReservationSame}
-use Rattle.connection_record.specs.Speaking.{is_id, tally, is_answering, is_asking, is_noting, number_of, answers_as, misnames, owed}
+use Rattle.connection_record.specs.Speaking.{tally, is_answering, is_asking, is_noting, number_of, answers_as, misnames, owed}
+use Rattle.connection_record.specs.Ids.{is_id}
 use Rattle.agent_state.specs.State.{record_at}
 use Rattle.circuit_link.specs.Links.{Link}
-use Rattle.circuit_link.specs.Children.{Child, goes_on, about, header_of, record_of, side_of}
+use Rattle.circuit_link.specs.Children.{Child, goes_on, about, record_of, side_of}
+use Rattle.circuit_link.specs.Headers.{header_of}
 use Rattle.circuit_link.specs.Mates.{IsSeatOf, is_teaching, IsSeated, IsOpening, IsOpened, IsMate}
 use Rattle.circuit_link.proofs.Abouts.{about_cases, about_left}
 use Rattle.circuit_link.proofs.Answering.{tally_there, counted_as, IsReplied}

@@ -21,7 +21,8 @@ use Rattle.connection_record.specs.Speaking.{owed}
 use Rattle.agent_state.specs.State.{no_record, record_at}
 use Rattle.circuit_link.specs.Links.{IsAttempt, Link}
 use Rattle.circuit_link.specs.Sides.{Side}
-use Rattle.circuit_link.specs.Children.{Child, about, header_of, record_of, side_of, MayReach, IsFair}
+use Rattle.circuit_link.specs.Children.{Child, about, record_of, side_of, MayReach, IsFair}
+use Rattle.circuit_link.specs.Headers.{header_of}
 use Rattle.circuit_link.specs.Mates.{IsSeatOf, IsOpening, IsOpened, IsMate}
 use Rattle.circuit_link.proofs.Answering.{same_some}
 use Rattle.circuit_link.proofs.Hearing.{same_link, hearing_link, other_same, rows_unheard}

@@ -27,7 +27,8 @@ use Rattle.connection_record.proofs.Acts.{same_self}
 use Rattle.agent_state.specs.State.{no_record, record_at}
 use Rattle.circuit_link.specs.Links.{Link}
 use Rattle.circuit_link.specs.Sides.{took_in}
-use Rattle.circuit_link.specs.Children.{Child, goes_on, about, header_of, record_of, side_of}
+use Rattle.circuit_link.specs.Children.{Child, goes_on, about, record_of, side_of}
+use Rattle.circuit_link.specs.Headers.{header_of}
 use Rattle.circuit_link.specs.Mates.{IsSeatOf, is_teaching, IsSeated, IsOpening, IsMate}
 use Rattle.circuit_link.proofs.Abouts.{about_cases, taken_now}
 use Rattle.circuit_link.proofs.Answering.{same_some, not_there, one_answer}

@@ -26,7 +26,8 @@ use Rattle.agent_state.specs.Entries.{error_reply}
 use Rattle.agent_state.specs.State.{no_record, record_at}
 use Rattle.circuit_link.specs.Sides.{Side, took_in, OwesTaken}
 use Rattle.circuit_link.specs.Links.{Link}
-use Rattle.circuit_link.specs.Children.{Child, goes_on, about, TellsNothing, header_of, record_of, side_of}
+use Rattle.circuit_link.specs.Children.{Child, goes_on, about, TellsNothing, record_of, side_of}
+use Rattle.circuit_link.specs.Headers.{header_of}
 use Rattle.circuit_link.specs.Mates.{IsSeated, IsOpening, IsMate}
 use Rattle.circuit_link.proofs.Abouts.{same_header, header_itself, about_cases, about_left, about_right, addressed_in, addressed_of, taken_now, taken_still, taken_apart, said_under}
 use Rattle.circuit_link.proofs.Answering.{same_some, only_one, not_there, first_there, one_answer, answer_there, replied_of}

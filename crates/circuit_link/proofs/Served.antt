@@ -11,12 +11,14 @@ use Rattle.connection_record.specs.declared.record.Record.{Record}
 use Rattle.connection_record.specs.declared.moves.Reply.{Reply}
 use Rattle.connection_record.specs.Courses.{answering, Course}
 use Rattle.connection_record.specs.Replies.{Moved, addressed}
-use Rattle.connection_record.specs.Speaking.{is_id, no_ids, owed, Speaks}
+use Rattle.connection_record.specs.Speaking.{no_ids, owed, Speaks}
+use Rattle.connection_record.specs.Ids.{is_id}
 use Rattle.connection_record.proofs.Beside.{still_silent}
 use Rattle.connection_record.proofs.Courses.{course_after}
 use Rattle.connection_record.proofs.Saying.{takes_speaks}
 use Rattle.agent_state.specs.State.{no_record, record_at}
-use Rattle.circuit_link.specs.Children.{Child, goes_on, about, header_of}
+use Rattle.circuit_link.specs.Children.{Child, goes_on, about}
+use Rattle.circuit_link.specs.Headers.{header_of}
 use Rattle.circuit_link.specs.Mates.{IsMate}
 use Rattle.circuit_link.specs.Serving.{TakeCourses, taken_by, IsTurn}
 use Rattle.circuit_link.proofs.Abouts.{headers_same, taken_now, taken_before}

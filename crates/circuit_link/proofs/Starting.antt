@@ -15,14 +15,16 @@ use Rattle.connection_record.specs.Applied.{moves_if, requested}
 use Rattle.connection_record.specs.Courses.{IsAlone, IsReservationSame, answering, IsBeside, is_reservation_request}
 use Rattle.connection_record.specs.Later.{IsLater}
 use Rattle.connection_record.specs.Replies.{Moved, addressed}
-use Rattle.connection_record.specs.Speaking.{is_id, no_ids, owed, Speaks, Names}
+use Rattle.connection_record.specs.Speaking.{no_ids, owed, Speaks, Names}
+use Rattle.connection_record.specs.Ids.{is_id}
 use Rattle.connection_record.proofs.Acts.{same_self}
 use Rattle.connection_record.proofs.Beside.{request_beside, silent, still_silent}
 use Rattle.connection_record.proofs.Growing.{moves_if_later}
 use Rattle.connection_record.proofs.Naming.{moves_if_names}
 use Rattle.connection_record.proofs.Saying.{takes_speaks}
 use Rattle.agent_state.specs.State.{no_record, record_at}
-use Rattle.circuit_link.specs.Children.{Child, goes_on, about, header_of, record_of}
+use Rattle.circuit_link.specs.Children.{Child, goes_on, about, record_of}
+use Rattle.circuit_link.specs.Headers.{header_of}
 use Rattle.circuit_link.specs.Mates.{IsMate}
 use Rattle.circuit_link.proofs.Abouts.{headers_same, addressed_in, taken_still, taken_apart}
 use Rattle.circuit_link.proofs.Answering.{same_some, not_there}

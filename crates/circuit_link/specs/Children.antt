@@ -9,6 +9,7 @@ use Rattle.connection_record.specs.declared.record.Record.{Record}
 use Rattle.connection_record.specs.Speaking.{is_answering, owed}
 use Rattle.agent_state.specs.State.{no_record, record_at}
 use Rattle.circuit_link.specs.Sides.{Side}
+use Rattle.circuit_link.specs.Headers.{header_of}
 
 -- its records, the requests that it has taken, and all that it has said
 pub record Child : Type 0 where
@@ -36,9 +37,6 @@ TellsNothing out = (h : Header) → about h out ≡ []
 -- what may reach a view under a header: an answer for views that was said, or rows
 abbrev pub MayReach : Header → List Message → Body → Type 0
 MayReach h said body = Contains (about h said) body ⊎ (has_rows body ≡ true)
-
-abbrev pub header_of : (parent child : List ℕ) → ℕ → Header
-header_of parent child c = record { correlation = c; requester = parent; provider = child }
 
 -- the record at a place; a view without one has the record of nothing
 unfoldable pub record_of : Option ℕ → List Record → Record

@@ -26,7 +26,8 @@ use Rattle.provider_agent.specs.Setting.{Setting as ProviderSetting}
 use Rattle.provider_agent.specs.Steps.{after as provider_after}
 use Rattle.aggregator_agent.specs.Setting.{Setting as AggregatorSetting}
 use Rattle.aggregator_agent.specs.Steps.{after as aggregator_after}
-use Rattle.circuit_link.specs.Children.{Child, goes_on, header_of, MayReach, IsFair}
+use Rattle.circuit_link.specs.Children.{Child, goes_on, MayReach, IsFair}
+use Rattle.circuit_link.specs.Headers.{header_of}
 use Rattle.circuit_link.specs.Mates.{IsMate}
 use Rattle.circuit_link.specs.Serving.{child_of, Serves, IsForeign, IsOwn, LeavesAlone, IsPlaceAfter}
 use Rattle.circuit_link.specs.Sides.{Side, standing_of, took_in, OwesTaken}

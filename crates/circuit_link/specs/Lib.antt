@@ -1,5 +1,6 @@
 pub mod Sides
 pub mod Links
+pub mod Headers
 pub mod Children
 pub mod Mates
 pub mod Serving

@@ -9,7 +9,8 @@ use Rattle.connection_record.specs.declared.record.Record.{Record}
 use Rattle.connection_record.specs.Courses.{IsAlone}
 use Rattle.connection_record.specs.Speaking.{is_of, owed}
 use Rattle.agent_state.specs.State.{record_at}
-use Rattle.circuit_link.specs.Children.{Child, about, header_of, record_of, side_of}
+use Rattle.circuit_link.specs.Children.{Child, about, record_of, side_of}
+use Rattle.circuit_link.specs.Headers.{header_of}
 use Rattle.circuit_link.specs.Links.{Link}
 
 -- the record at the view's place has this id

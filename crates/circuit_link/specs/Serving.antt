@@ -24,7 +24,8 @@ use Rattle.connection_record.specs.Refusal.{record_refusal, place_of}
 use Rattle.connection_record.specs.Replies.{Moved, id_or, addressed}
 use Rattle.agent_state.specs.Entries.{error_reply}
 use Rattle.agent_state.specs.State.{State, record_at}
-use Rattle.circuit_link.specs.Children.{Child, about, header_of, TellsNothing}
+use Rattle.circuit_link.specs.Children.{Child, about, TellsNothing}
+use Rattle.circuit_link.specs.Headers.{header_of}
 use Rattle.circuit_link.specs.Sides.{version_of}
 
 -- What a record does by itself: it lives on; it checks nothing that it didn't check before; and what it confirms is what it was checking, under the

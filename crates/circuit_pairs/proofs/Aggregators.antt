@@ -31,7 +31,8 @@ use Rattle.aggregator_agent.specs.Clock.{clock_all}
 use Rattle.aggregator_agent.specs.Setting.{Setting}
 use Rattle.aggregator_agent.specs.Steps.{sees, is_seen, children_for, request_at, with_new, opens_between, opens, request_to, accepts, answers, Passed, hear_all, hears, opens_query, asks_below, asks_if_own, place_named, queries, receives, ticks, step, after_if, after, may_take, serves}
 use Rattle.aggregator_agent.specs.Turns.{takes, request_turn, spoken}
-use Rattle.circuit_link.specs.Children.{Child, header_of, MayReach, IsFair}
+use Rattle.circuit_link.specs.Children.{Child, MayReach, IsFair}
+use Rattle.circuit_link.specs.Headers.{header_of}
 use Rattle.circuit_link.proofs.Aggregators.{request_from}
 use Rattle.circuit_link.proofs.Below.{all_asked_below, all_said_below}
 use Rattle.circuit_link.proofs.Opening.{last_here, last_there}

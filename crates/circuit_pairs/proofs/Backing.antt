@@ -7,7 +7,8 @@ use Rattle.nsi_primitive.specs.declared.message.Body.{Body}
 use Rattle.nsi_primitive.specs.declared.message.Message.{Message}
 use Rattle.child_connection.specs.Views.{ChildConnection, sent}
 use Rattle.child_connection.specs.declared.Sent.{Sent}
-use Rattle.circuit_link.specs.Children.{Child, about, header_of}
+use Rattle.circuit_link.specs.Children.{Child, about}
+use Rattle.circuit_link.specs.Headers.{header_of}
 use Rattle.circuit_link.proofs.Answering.{not_there}
 use Rattle.circuit_pairs.specs.Pairs.{IsBacked, AreBacked}
 

@@ -30,7 +30,8 @@ use Rattle.connection_record.proofs.Courses.{course_after}
 use Rattle.connection_record.proofs.Growing.{moves_if_later}
 use Rattle.agent_state.specs.Entries.{error_reply}
 use Rattle.agent_state.specs.State.{no_record, record_at}
-use Rattle.circuit_link.specs.Children.{Child, goes_on, about, header_of, TellsNothing}
+use Rattle.circuit_link.specs.Children.{Child, goes_on, about, TellsNothing}
+use Rattle.circuit_link.specs.Headers.{header_of}
 use Rattle.circuit_link.specs.Serving.{IsByItself, TakeCourses, taken_by, IsTurn, IsAbout, Serves}
 use Rattle.circuit_link.specs.Sides.{version_of}
 use Rattle.circuit_link.proofs.Abouts.{headers_same, about_cases, addressed_in, said_under}

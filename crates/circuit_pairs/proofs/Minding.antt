@@ -22,7 +22,8 @@ use Rattle.child_connection.proofs.Places.{asks_place, asks_known, hear_place}
 use Rattle.child_connection.proofs.Reservations.{request_stays, others_alike}
 use Rattle.connection_record.specs.Speaking.{is_answering, is_asking, is_noting}
 use Rattle.agent_state.specs.State.{record_at}
-use Rattle.circuit_link.specs.Children.{Child, about, header_of, side_of, MayReach, IsFair}
+use Rattle.circuit_link.specs.Children.{Child, about, side_of, MayReach, IsFair}
+use Rattle.circuit_link.specs.Headers.{header_of}
 use Rattle.aggregator_agent.specs.Asking.{may_abort}
 use Rattle.circuit_link.specs.Sides.{version_of}
 use Rattle.circuit_link.specs.Mates.{IsSeatOf, IsMate, IsOpening}

@@ -15,7 +15,8 @@ use Rattle.nsi_primitive.specs.declared.message.ReserveRequest.{ReserveRequest}
 use Rattle.nsi_primitive.specs.declared.message.Service.{Service}
 use Rattle.child_connection.specs.declared.state.Sent.{Sent}
 use Rattle.child_connection.specs.Views.{ChildConnection, open_request}
-use Rattle.child_connection.specs.Asks.{asks, is_about, request_about, reserve_for, to_child}
+use Rattle.child_connection.specs.Asks.{asks, request_about, reserve_for, to_child}
+use Rattle.child_connection.specs.Refusals.{is_about}
 use Rattle.child_connection.specs.Holding.{IsAlike}
 use Rattle.child_connection.proofs.Places.{asks_place}
 use Rattle.child_connection.proofs.Saying.{about_names, first_names, modification_names}

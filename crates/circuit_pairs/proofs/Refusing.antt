@@ -30,7 +30,8 @@ use Rattle.connection_record.specs.Lives.{provision_event, provisions, lifecycle
 use Rattle.connection_record.specs.Moves.{event_of, reserves, asked_criteria, fresh, is_live}
 use Rattle.connection_record.specs.Refusal.{has_row, is_in_place, modification_refusal, record_refusal, place_of}
 use Rattle.connection_record.specs.Replies.{Moved, addressed}
-use Rattle.connection_record.specs.Speaking.{one, tally, is_id, number_of, answers_as, owed, owed_reserve}
+use Rattle.connection_record.specs.Speaking.{one, tally, number_of, answers_as, owed, owed_reserve}
+use Rattle.connection_record.specs.Ids.{is_id}
 use Rattle.connection_record.proofs.Courses.{course_after}
 use Rattle.connection_record.proofs.Growing.{moves_if_later}
 use Rattle.connection_record.proofs.Saying.{takes_speaks}
@@ -41,7 +42,8 @@ use Rattle.child_connection.specs.Standing.{Rests, back}
 use Rattle.aggregator_agent.specs.Asking.{may_abort}
 use Rattle.agent_state.specs.Entries.{error_reply}
 use Rattle.agent_state.specs.State.{no_record, record_at}
-use Rattle.circuit_link.specs.Children.{Child, about, header_of, record_of, side_of, IsFair}
+use Rattle.circuit_link.specs.Children.{Child, about, record_of, side_of, IsFair}
+use Rattle.circuit_link.specs.Headers.{header_of}
 use Rattle.circuit_link.specs.Mates.{IsMate}
 use Rattle.circuit_link.specs.Serving.{taken_by, IsTurn, IsRefused, Serves}
 use Rattle.circuit_link.specs.Sides.{standing_of}

@@ -16,7 +16,8 @@ use Rattle.message_retry.specs.Retry.{is_old}
 use Rattle.record_index.proofs.Members.{nothing_in}
 use Rattle.child_connection.specs.declared.state.Sent.{Sent}
 use Rattle.child_connection.specs.Views.{ChildConnection, new_view, open_request}
-use Rattle.child_connection.specs.Asks.{asks, is_about, request_about, reserve_for, to_child}
+use Rattle.child_connection.specs.Asks.{asks, request_about, reserve_for, to_child}
+use Rattle.child_connection.specs.Refusals.{is_about}
 use Rattle.child_connection.specs.Hearing.{hear}
 use Rattle.child_connection.specs.Holding.{is_reservation, IsAlike}
 use Rattle.child_connection.proofs.Places.{new_hears_nothing}
@@ -30,7 +31,8 @@ use Rattle.requester_agent.specs.Setting.{Setting}
 use Rattle.requester_agent.specs.Steps.{view_at, find_view, next_id, answers, refuses, asks_at, asks_new, asks_found, reserves, sends_query, asked_of, asked, view_hears, hears_if, acked, ticks, step, after_if, after, may_take}
 use Rattle.requester_agent.specs.Views.{Asked, asks_if_free, asks_if_known, asks_about, service_if, reserve_of, asks_reserve}
 use Rattle.connection_record.specs.Speaking.{is_answering}
-use Rattle.circuit_link.specs.Children.{Child, header_of, MayReach, IsFair}
+use Rattle.circuit_link.specs.Children.{Child, MayReach, IsFair}
+use Rattle.circuit_link.specs.Headers.{header_of}
 use Rattle.circuit_link.proofs.Answering.{only_one}
 use Rattle.circuit_link.proofs.Opening.{last_here, last_there}
 use Rattle.circuit_pairs.specs.Pairs.{IsPair, IsOnce, IsFresh}

@@ -16,7 +16,8 @@ use Rattle.agent_state.specs.State.{record_at}
 use Rattle.circuit_link.specs.Links.{IsAttempt, Link}
 use Rattle.circuit_link.specs.Sides.{Side}
 use Rattle.aggregator_agent.specs.Asking.{may_abort}
-use Rattle.circuit_link.specs.Children.{Child, goes_on, about, header_of, side_of, IsFair}
+use Rattle.circuit_link.specs.Children.{Child, goes_on, about, side_of, IsFair}
+use Rattle.circuit_link.specs.Headers.{header_of}
 use Rattle.circuit_link.specs.Mates.{IsMate}
 use Rattle.circuit_link.specs.Serving.{Serves, IsForeign, IsOwn, LeavesAlone, IsPlaceAfter}
 use Rattle.circuit_link.proofs.Abouts.{headers_same, about_left, about_cases, taken_before}

@@ -15,7 +15,8 @@ use Rattle.aggregator_agent.specs.Setting.{Setting as AggregatorSetting}
 use Rattle.aggregator_agent.specs.Steps.{after as aggregator_after}
 use Rattle.connection_record.specs.declared.record.Record.{Record}
 use Rattle.connection_record.specs.Speaking.{is_answering}
-use Rattle.circuit_link.specs.Children.{Child, goes_on, header_of, MayReach, IsFair}
+use Rattle.circuit_link.specs.Children.{Child, goes_on, MayReach, IsFair}
+use Rattle.circuit_link.specs.Headers.{header_of}
 use Rattle.circuit_link.specs.Serving.{Serves}
 use Rattle.circuit_pairs.specs.Pairs.{IsPair, IsOnce, IsFresh}
 use Rattle.circuit_pairs.specs.Minding.{Minds, no_child, view_in, slot}

@@ -10,7 +10,7 @@ use Rattle.child_connection.specs.Asks.{asks}
 use Rattle.child_connection.specs.Hearing.{hear}
 use Rattle.child_connection.specs.Holding.{is_reservation, IsAlike}
 use Rattle.agent_state.specs.declared.parent.View.{View}
-use Rattle.circuit_link.specs.Children.{header_of}
+use Rattle.circuit_link.specs.Headers.{header_of}
 
 -- no request of the reservation machine goes to the child
 abbrev pub ReservesNothing : List ℕ → List Message → Type 0

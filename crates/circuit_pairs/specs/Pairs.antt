@@ -16,7 +16,8 @@ use Rattle.aggregator_agent.specs.Asking.{may_abort}
 use Rattle.message_retry.specs.Taken.{is_taken}
 use Rattle.child_connection.specs.Views.{ChildConnection, sent}
 use Rattle.child_connection.specs.Holding.{is_reservation, IsHeeded}
-use Rattle.circuit_link.specs.Children.{Child, about, header_of}
+use Rattle.circuit_link.specs.Children.{Child, about}
+use Rattle.circuit_link.specs.Headers.{header_of}
 use Rattle.circuit_link.specs.Mates.{IsMate}
 use Rattle.circuit_link.specs.Sides.{version_of}
 

@@ -26,7 +26,8 @@ use Rattle.connection_record.specs.Moves.{reserves, reserves_if, hold_end, worke
 use Rattle.connection_record.specs.Lives.{provision_event, lifecycle_event, provisions, provisions_if, lives, lives_if}
 use Rattle.connection_record.specs.Applied.{closes, closes_reservation, closes_provision, reservation_closing, provision_closing, moves, moves_if, work_of, provided, ticks, schedule_end, end_of, tells_plane, tells, is_told, status_of}
 use Rattle.connection_record.specs.Courses.{IsOwn, IsOwnProvision, IsReservationSame, answering, IsAlone, Acts}
-use Rattle.connection_record.specs.Speaking.{one, is_id, is_asking, is_noting, is_answering, owed_provision, owed_life, provision_begins, lifecycle_begins}
+use Rattle.connection_record.specs.Speaking.{one, is_asking, is_noting, is_answering, owed_provision, owed_life, provision_begins, lifecycle_begins}
+use Rattle.connection_record.specs.Ids.{is_id}
 use Rattle.connection_record.proofs.Frames.{provisions_core, lives_core, plane_core}
 use Rattle.connection_record.proofs.Saying.{provisions_owed, lives_owed, reserves_others, provisions_others, lives_others, closing_own, closing_provision_own, hold_own}
 

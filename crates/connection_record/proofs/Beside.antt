@@ -16,7 +16,8 @@ use Rattle.connection_record.specs.declared.apply.Move.{Move}
 use Rattle.connection_record.specs.Courses.{answering, is_reservation_request, IsBeside}
 use Rattle.connection_record.specs.Lives.{provision_event, lifecycle_event, provisions, lives}
 use Rattle.connection_record.specs.Replies.{Moved}
-use Rattle.connection_record.specs.Speaking.{one, tally, is_id, number_of, is_asking, is_noting, is_answering, answers_as, owed_provision, owed_life, owed, provision_begins, lifecycle_begins, Speaks}
+use Rattle.connection_record.specs.Speaking.{one, tally, number_of, is_asking, is_noting, is_answering, answers_as, owed_provision, owed_life, owed, provision_begins, lifecycle_begins, Speaks}
+use Rattle.connection_record.specs.Ids.{is_id}
 use Rattle.connection_record.specs.Applied.{moves, moves_if, requested}
 use Rattle.connection_record.proofs.Acts.{same_self}
 use Rattle.connection_record.proofs.Frames.{provisions_core, lives_core}

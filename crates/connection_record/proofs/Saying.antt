@@ -27,7 +27,8 @@ use Rattle.nsi_primitive.specs.Kinds.{kind_number}
 use Rattle.connection_record.specs.Moves.{event_of, reserves, reserves_if, hold_end, worked, is_due}
 use Rattle.connection_record.specs.Lives.{provision_event, lifecycle_event, provisions, provisions_if, lives, lives_if}
 use Rattle.connection_record.specs.Courses.{IsOwn, IsOwnProvision}
-use Rattle.connection_record.specs.Speaking.{one, tally, is_id, number_of, is_asking, is_noting, is_answering, answers_as, notes_as, asks_for, owed_reserve, owed_provision, owed_life, owed, reservation_begins, provision_begins, lifecycle_begins, begun_of, lifecycle_draws, drawn_of, no_ids, drawn_if, Speaks}
+use Rattle.connection_record.specs.Speaking.{one, tally, number_of, is_asking, is_noting, is_answering, answers_as, notes_as, asks_for, owed_reserve, owed_provision, owed_life, owed, reservation_begins, provision_begins, lifecycle_begins, begun_of, lifecycle_draws, drawn_of, no_ids, drawn_if, Speaks}
+use Rattle.connection_record.specs.Ids.{is_id}
 
 pub reserves_owed : (k : Rsm) (move : ReservationMove) (now : ℕ) (r : Record) (c n : ℕ) → r.rsm ≡ k →
     tally (answers_as c n) (reserves k move now r).out + owed_reserve (reserves k move now r).rec.rsm c n (reserves k move now r).rec ≤ owed_reserve k c n r + one (is_id (reservation_begins move) c)

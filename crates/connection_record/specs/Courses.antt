@@ -10,7 +10,8 @@ use Rattle.connection_record.specs.Rising.{AreRising, IsAboveLast}
 use Rattle.connection_record.specs.Moves.{reserves_if}
 use Rattle.connection_record.specs.Later.{IsLater}
 use Rattle.connection_record.specs.Order.{IsInOrder}
-use Rattle.connection_record.specs.Speaking.{tally, is_id, is_answering, answers_as, misnames, owed, owed_provision, owed_life, reservation_begins, provision_begins, Speaks, Names}
+use Rattle.connection_record.specs.Speaking.{tally, is_answering, answers_as, misnames, owed, owed_provision, owed_life, reservation_begins, provision_begins, Speaks, Names}
+use Rattle.connection_record.specs.Ids.{is_id}
 
 -- a move that an agent makes by itself begins no request
 abbrev pub IsOwn : Option ReservationMove → Type 0

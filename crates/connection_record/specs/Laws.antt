@@ -25,7 +25,8 @@ use Rattle.connection_record.specs.Moves.{event_of, reserves, fresh, asked_crite
 use Rattle.connection_record.specs.Order.{IsInOrder, HasPoints}
 use Rattle.connection_record.specs.Refusal.{refusal, record_refusal, modification_refusal, first_refusal}
 use Rattle.connection_record.specs.Replies.{Moved}
-use Rattle.connection_record.specs.Speaking.{is_id, owed, begun_of, drawn_of, no_ids, drawn_if, Speaks, Names}
+use Rattle.connection_record.specs.Speaking.{owed, begun_of, drawn_of, no_ids, drawn_if, Speaks, Names}
+use Rattle.connection_record.specs.Ids.{is_id}
 use Rattle.connection_record.specs.Tabled.{FollowsRow}
 use Rattle.connection_record.specs.Applied.{moves, moves_if, requested, work_of, closes, ticked, is_told, tells}
 use Rattle.connection_record.specs.Unrefused.{IsFitFor, IsTakenAt}

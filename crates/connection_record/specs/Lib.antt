@@ -4,9 +4,11 @@ pub mod Rising
 pub mod Moves
 pub mod Lives
 pub mod Applied
+pub mod Saved
 pub mod Later
 pub mod Refusal
 pub mod Order
+pub mod Ids
 pub mod Speaking
 pub mod Courses
 pub mod Unrefused

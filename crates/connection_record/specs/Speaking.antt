@@ -14,6 +14,7 @@ use Rattle.connection_record.specs.declared.provisioning.ProvisionMove.{Provisio
 use Rattle.connection_record.specs.declared.life.LifecycleMove.{LifecycleMove}
 use Rattle.connection_record.specs.declared.apply.Move.{Move}
 use Rattle.connection_record.specs.Replies.{Moved, id_or}
+use Rattle.connection_record.specs.Ids.{is_id}
 
 ---- Counts
 
@@ -25,11 +26,6 @@ one false = 0
 unfoldable pub tally : {X : Type 0} → (X → Bool) → List X → ℕ
 tally p [] = 0
 tally p (x ∷ xs) = one (p x) + tally p xs
-
--- whether there is one, and it is this
-abbrev pub is_id : Option ℕ → ℕ → Bool
-is_id None c = false
-is_id (Some d) c = c == d
 
 ---- What is said
 

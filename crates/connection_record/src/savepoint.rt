@@ -2,7 +2,8 @@
 
 ghost use Rattle.std.specs.Prelude.{◌≡◌};
 ghost use Rattle.connection_record.specs.declared.record.Record.{Record as RecordValue};
-ghost use Rattle.connection_record.specs.Later.{saved_of, IsLater};
+ghost use Rattle.connection_record.specs.Later.{IsLater};
+ghost use Rattle.connection_record.specs.Saved.{saved_of};
 
 use crate::record::Record;
 use nsi_primitive::{Criteria, Id, Lsm, Psm, Rsm};

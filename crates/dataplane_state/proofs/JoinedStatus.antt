@@ -6,7 +6,8 @@ use Rattle.std.proofs.lemmas.Bool.Decides.{nat_tests}
 use Rattle.std.proofs.lemmas.List.Elements.{All-nil, All-cons, All-head, All-tail, All-weaker, All-map, All-contains, Contains-append_left, Contains-append_right, Contains-push}
 use Rattle.std.proofs.lemmas.List.Sums.{AllPass-from_list_all, list_all-from_AllPass}
 use Rattle.nsi_primitive.specs.declared.plane.Plane.{Plane}
-use Rattle.dataplane_state.specs.Plane.{is_active, is_consistent, is_consistent_at, version_of, versions, IsLeast, AreOne, IsJoined, least_version, joined}
+use Rattle.dataplane_state.specs.Plane.{is_active, is_consistent_at, version_of, versions, least_version, joined}
+use Rattle.dataplane_state.specs.Joined.{is_consistent, IsLeast, AreOne, IsJoined}
 
 ---- The least of some numbers
 

@@ -3,7 +3,8 @@
 ghost use Rattle.std.specs.Prelude.{◌≡◌, ◌↔◌, ◌&&◌, ◌==◌, not, length, IsTrue};
 ghost use Rattle.std.specs.List.{list_all};
 ghost use Rattle.std.specs.Option.{option_copied};
-ghost use Rattle.dataplane_state.specs.Plane.{status, IsActive, joined, IsJoined, is_active, is_consistent_at, least_version, announces, IsTold};
+ghost use Rattle.dataplane_state.specs.Plane.{status, joined, is_active, is_consistent_at, least_version, announces};
+ghost use Rattle.dataplane_state.specs.Joined.{IsActive, IsJoined, IsTold};
 
 use nsi_base::{Second, Version};
 use nsi_primitive::{Criteria, Lsm, Plane, Psm};

@@ -28,7 +28,8 @@ use Rattle.run_growth.proofs.Roles.{entries_grow}
 use Rattle.run_growth.proofs.Turned.{request_later}
 use Rattle.nsi_agent.specs.Homes.{Role, provides, aggregates, requests, Home}
 use Rattle.nsi_agent.specs.Steps.{after_as}
-use Rattle.nsi_agent.specs.Told.{told, name_in}
+use Rattle.nsi_agent.specs.Told.{told}
+use Rattle.nsi_agent.specs.Said.{name_in}
 use Rattle.nsi_world.specs.Runs.{is_requester}
 use Rattle.circuit_link.specs.Children.{Child}
 use Rattle.circuit_link.specs.Serving.{child_of, Serves}

@@ -8,7 +8,8 @@ use Rattle.nsi_world.specs.Worlds.{Homes, World, empty}
 use Rattle.nsi_world.specs.Runs.{world_after, AreAllowed}
 use Rattle.run_growth.specs.Safe.{InEachWorld}
 use Rattle.run_growth.proofs.Worlds.{allowed_front}
-use Rattle.end_to_end.specs.Laws.{EachConnectionStands, EachVersionIsKnown, ConnectionsStand, VersionsAreKnown, EveryRunStands, NothingStands}
+use Rattle.end_to_end.specs.Laws.{ConnectionsStand, VersionsAreKnown, EveryRunStands, NothingStands}
+use Rattle.end_to_end.specs.Stands.{EachConnectionStands, EachVersionIsKnown}
 
 pub every_run_stands : ConnectionsStand → VersionsAreKnown → EveryRunStands
 every_run_stands connections versions t routes events sound formed routed run =

@@ -15,7 +15,8 @@ use Rattle.run_growth.specs.Cuts.{IsCutOf, state_of_cut, synced_state}
 use Rattle.run_growth.specs.InStep.{version_of}
 use Rattle.circuit_laws.specs.Backed.{IsChildOf, IsBackedIn, AreBackedIn, IsBetween, HasView, WasAskedFor}
 use Rattle.circuit_laws.specs.Laws.{RunsAreBacked, RecordsAreApart, CriteriaWereAskedFor, CircuitsStand, CircuitsAreReached}
-use Rattle.end_to_end.specs.Laws.{StandsEndToEnd, ViewsAreBetween, VersionsAreKnown, ItIsReached}
+use Rattle.end_to_end.specs.Laws.{ViewsAreBetween, VersionsAreKnown, ItIsReached}
+use Rattle.end_to_end.specs.Stands.{StandsEndToEnd}
 use Rattle.end_to_end.proofs.Apart.{owned_there}
 use Rattle.end_to_end.proofs.Learning.{there_is}
 use Rattle.end_to_end.proofs.Naming.{knows, known_named, AllHavePoints}

@@ -32,7 +32,8 @@ use Rattle.run_growth.specs.InStep.{version_of}
 use Rattle.circuit_laws.specs.Backed.{leg_in, HasCriteria, IsBetween, IsCircuit}
 use Rattle.circuit_laws.specs.Laws.{RecordsAreApart, CircuitsStand}
 use Rattle.end_to_end.specs.EndToEnd.{Booking, IsBooked, IsOther, IsEndToEnd, IsLiving}
-use Rattle.end_to_end.specs.Laws.{StandsEndToEnd, ConnectionsStand}
+use Rattle.end_to_end.specs.Laws.{ConnectionsStand}
+use Rattle.end_to_end.specs.Stands.{StandsEndToEnd}
 use Rattle.end_to_end.proofs.Apart.{child_line, IsLink, Leads, leads_more, one_view, meets}
 use Rattle.end_to_end.proofs.Joining.{IsWhole, IsWay, path_whole}
 use Rattle.end_to_end.proofs.Naming.{knows, known_named, known_own, AllHavePoints}

@@ -1,40 +1,23 @@
 -- The laws of circuits from end to end.
-use Rattle.std.specs.Prelude.{ℕ, ◌≡◌, ◌≤◌, true, List, [], length, Some, Contains, slice_get}
-use Rattle.std.specs.List.{All}
+use Rattle.std.specs.Prelude.{ℕ, ◌≡◌, ◌≤◌, List, [], length, Some, Contains, slice_get}
 use Rattle.nsi_primitive.specs.declared.entry.Event.{Event}
 use Rattle.nsi_primitive.specs.declared.message.Criteria.{Criteria}
 use Rattle.stp_topology.specs.Laws.{IsWellFormed}
 use Rattle.stp_topology.specs.Sound.{IsSound}
 use Rattle.stp_topology.specs.declared.network.Network.{Network}
-use Rattle.stp_topology.specs.Network.{stp_of}
 use Rattle.agent_state.specs.State.{record_at}
 use Rattle.agent_state.specs.declared.parent.View.{View}
 use Rattle.connection_record.specs.declared.record.Record.{Record}
-use Rattle.connection_record.specs.Moves.{is_live}
 use Rattle.connection_record.specs.Refusal.{place_of}
-use Rattle.child_connection.specs.Views.{ChildConnection}
 use Rattle.requester_agent.specs.Setting.{Setting as RequesterSetting}
 use Rattle.aggregator_agent.specs.Setting.{Setting as AggregatorSetting}
 use Rattle.nsi_agent.specs.Homes.{Routes, AreRoutes, aggregates, requests, home_in}
 use Rattle.nsi_world.specs.Worlds.{Homes, IsAgent, World, empty}
 use Rattle.nsi_world.specs.Runs.{IsRun, world_after}
 use Rattle.run_growth.specs.Cuts.{IsCutOf, state_of_cut}
-use Rattle.run_growth.specs.Safe.{InEachWorld}
-use Rattle.circuit_laws.specs.Backed.{IsChildOf, IsBetween, WasAskedFor}
+use Rattle.circuit_laws.specs.Backed.{IsChildOf, IsBetween}
 use Rattle.circuit_laws.specs.Laws.{InEveryRun}
-use Rattle.end_to_end.specs.EndToEnd.{Booking, IsEndToEnd, IsLiving}
-
--- A connection has these criteria from end to end: it is booked so between its own two ports, and while it lives each of the bookings does.
-pub record StandsEndToEnd (t : Network) (homes : Homes) (w : World) (own : Record) (k : Criteria) : Type 0 where
-  pub bookings : List Booking
-  pub circuit : IsEndToEnd t homes w own.source own.dest k bookings
-  pub living : is_live own.lsm ≡ true → All IsLiving bookings
-
--- Whatever a crash leaves of an aggregator: each criteria that a connection of it has as committed stand from end to end.
-abbrev pub EachConnectionStands : Network → Homes → World → Type 0
-EachConnectionStands t homes w =
-    (a k n : ℕ) (setting : AggregatorSetting) (own : Record) (c : Criteria) → IsAgent homes a → (homes a).role ≡ aggregates setting → IsCutOf w a k →
-    slice_get (state_of_cut homes w a k).base.records n ≡ Some own → Contains own.committed c → StandsEndToEnd t homes w own c
+use Rattle.end_to_end.specs.Stands.{StandsEndToEnd, EachConnectionStands, EachVersionIsKnown, StandsInEachWorld}
 
 -- Whatever a crash leaves of a requester and of the agent that it asks: the record of a view that knows its connection is between the view's two points.
 abbrev pub EachViewIsBetween : Network → Homes → World → Type 0
@@ -42,27 +25,6 @@ EachViewIsBetween t homes w =
     (a b k j i id place : ℕ) (setting : RequesterSetting) (x : View) → IsAgent homes a → (homes a).role ≡ requests setting → IsCutOf w a k →
     slice_get (state_of_cut homes w a k).views i ≡ Some x → IsChildOf t homes a x.child.child b → IsCutOf w b j → x.child.connection ≡ Some id →
     place_of id (homes a).name (state_of_cut homes w b j).base.records ≡ Some place → IsBetween x.child (record_at place (state_of_cut homes w b j).base.records)
-
--- A version that a view has as committed: it is booked from end to end between the view's own two points, with criteria that have this version and
--- that were asked for, by a reserve that was sent.
-pub record IsKnownEndToEnd (t : Network) (homes : Homes) (w : World) (a : ℕ) (x : ChildConnection) (v : ℕ) : Type 0 where
-  pub criteria : Criteria
-  pub version : criteria.version ≡ v
-  pub source : ℕ
-  pub from : stp_of t x.source ≡ Some source
-  pub dest : ℕ
-  pub to : stp_of t x.dest ≡ Some dest
-  pub bookings : List Booking
-  pub circuit : IsEndToEnd t homes w source dest criteria bookings
-  pub provider : ℕ
-  pub below : IsChildOf t homes a x.child provider
-  pub asked : WasAskedFor homes w provider (homes a).name criteria
-
--- Whatever a crash leaves of a requester: so is each version that it knows as committed.
-abbrev pub EachVersionIsKnown : Network → Homes → World → Type 0
-EachVersionIsKnown t homes w =
-    (a k i v : ℕ) (setting : RequesterSetting) (x : View) → IsAgent homes a → (homes a).role ≡ requests setting → IsCutOf w a k →
-    slice_get (state_of_cut homes w a k).views i ≡ Some x → Contains x.child.committed v → IsKnownEndToEnd t homes w a x.child v
 
 abbrev pub ConnectionsStand : Type 0
 ConnectionsStand = InEveryRun EachConnectionStands
@@ -74,11 +36,6 @@ abbrev pub VersionsAreKnown : Type 0
 VersionsAreKnown = InEveryRun EachVersionIsKnown
 
 ---- Every run
-
--- in the world after each front of the events
-pub record StandsInEachWorld (t : Network) (routes : Routes) (events : List Event) : Type 0 where
-  pub connections : InEachWorld events (EachConnectionStands t (home_in t routes))
-  pub versions : InEachWorld events (EachVersionIsKnown t (home_in t routes))
 
 -- in a topology that a text gives, whatever is lost, comes twice or comes late, and whoever begins again from what was synced
 abbrev pub EveryRunStands : Type 0

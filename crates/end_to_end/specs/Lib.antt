@@ -1,2 +1,3 @@
 pub mod EndToEnd
+pub mod Stands
 pub mod Laws

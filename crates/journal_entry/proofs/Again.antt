@@ -18,7 +18,8 @@ use Rattle.nsi_base.specs.Options.{◌>>=◌}
 use Rattle.nsi_base.specs.Range.{greatest_second, greatest_record}
 use Rattle.journal_entry.specs.Fields.{number_at, bounded_at, text_at, text_field}
 use Rattle.journal_entry.specs.Lines.{what_is_read, as_spelled, parcel_in, message_in, ack_in}
-use Rattle.journal_entry.specs.Entries.{machine_byte, machine_of, tag_of, body_of, entry_spelling, ask_at, got_at, machine_at, work_at, force_at, acked_at, input_at, entry_at, entry_of, IsReadAgain, HasParts}
+use Rattle.journal_entry.specs.Entries.{machine_of, ask_at, got_at, machine_at, work_at, force_at, acked_at, input_at, entry_at}
+use Rattle.journal_entry.specs.Spelling.{machine_byte, tag_of, body_of, entry_spelling, entry_of, IsReadAgain, HasParts}
 use Rattle.journal_entry.specs.Payloads.{entries_in, payload_of, payload_spelling, not_empty, batch_of}
 use Rattle.journal_entry.proofs.Parts.{wide32, wide64, number_again, bounded_again, text_again}
 use Rattle.journal_entry.proofs.Taken.{some_bytes}

@@ -5,7 +5,8 @@ use Rattle.std.proofs.lemmas.List.Elements.{All-nil, All-push}
 use Rattle.nsi_primitive.specs.declared.entry.Entry.{Entry}
 use Rattle.nsi_base.specs.Options.{◌>>=◌}
 use Rattle.nsi_primitive.specs.Printable.{IsPrintableEntry}
-use Rattle.journal_entry.specs.Entries.{entry_at, entry_spelling}
+use Rattle.journal_entry.specs.Entries.{entry_at}
+use Rattle.journal_entry.specs.Spelling.{entry_spelling}
 use Rattle.journal_entry.specs.Payloads.{onto, entries_in}
 use Rattle.journal_entry.proofs.Taken.{some_bytes}
 

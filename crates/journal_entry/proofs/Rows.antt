@@ -21,7 +21,8 @@ use Rattle.json_fields.specs.Objects.{with_fields}
 use Rattle.json_primitives.specs.Rows.{rows_in}
 use Rattle.json_primitives.specs.Spelling.{data_of, ack_data}
 use Rattle.journal_entry.specs.Fields.{number_at, bounded_at, text_at}
-use Rattle.journal_entry.specs.Entries.{entry_spelling, ask_at, machine_at, work_at, force_at, input_at, entry_at, entry_of}
+use Rattle.journal_entry.specs.Entries.{ask_at, machine_at, work_at, force_at, input_at, entry_at}
+use Rattle.journal_entry.specs.Spelling.{entry_spelling, entry_of}
 use Rattle.journal_entry.specs.Payloads.{entries_in, payload_of, batch_of}
 use Rattle.journal_entry.specs.Journals.{recovers}
 

@@ -14,7 +14,7 @@ use Rattle.ask_text.specs.Asks.{ask_text}
 use Rattle.ask_text.specs.Reading.{ask_of}
 use Rattle.json_primitives.specs.Lines.{object_of}
 use Rattle.json_primitives.specs.Spelling.{spelling, parcel_spelling}
-use Rattle.journal_entry.specs.Entries.{body_of, entry_spelling, entry_of, HasSpelling, HasParts, IsReadAgain}
+use Rattle.journal_entry.specs.Spelling.{body_of, entry_spelling, entry_of, HasSpelling, HasParts, IsReadAgain}
 use Rattle.journal_entry.specs.Payloads.{payload_of, payload_spelling}
 use Rattle.journal_entry.proofs.Again.{entry_again, of_again, payload_again}
 

@@ -28,7 +28,8 @@ use Rattle.journal_entry.specs.declared.fault.PayloadFault.{PayloadFault}
 use Rattle.journal_entry.specs.Faults.{Gives, GivesAll}
 use Rattle.journal_entry.specs.Fields.{IsByte, number_at, bounded_at, text_at, text_field}
 use Rattle.journal_entry.specs.Lines.{what_is_read, as_spelled, parcel_in, if_message, if_ack, message_in, ack_in}
-use Rattle.journal_entry.specs.Entries.{machine_byte, machine_of, tag_of, body_of, entry_spelling, ask_at, got_at, machine_at, work_at, force_at, acked_at, input_at, entry_at}
+use Rattle.journal_entry.specs.Entries.{machine_of, ask_at, got_at, machine_at, work_at, force_at, acked_at, input_at, entry_at}
+use Rattle.journal_entry.specs.Spelling.{machine_byte, tag_of, body_of, entry_spelling}
 use Rattle.journal_entry.specs.Payloads.{onto, entries_in, payload_of, payload_spelling}
 use Rattle.journal_entry.proofs.Parts.{IsBytes, IsBytes-rest, bind_some, test_some, some_is, Takes, Takes-then, wide32, wide64, number_takes, bounded_takes, text_takes}
 

@@ -2,7 +2,8 @@
 use Rattle.std.specs.Prelude.{◌≡◌, ℕ, List, [], ◌∷◌, ◌++◌, length, All, Some, Ok}
 use Rattle.nsi_primitive.specs.declared.entry.Entry.{Entry}
 use Rattle.journal_entry.specs.Fields.{IsByte}
-use Rattle.journal_entry.specs.Entries.{entry_spelling, entry_at, entry_of, HasSpelling}
+use Rattle.journal_entry.specs.Entries.{entry_at}
+use Rattle.journal_entry.specs.Spelling.{entry_spelling, entry_of, HasSpelling}
 use Rattle.journal_entry.specs.Payloads.{payload_of, payload_spelling, batch_of}
 use Rattle.journal_entry.specs.Journals.{recovers, whole, ReadAll}
 

@@ -2,6 +2,7 @@ pub mod Faults
 pub mod Fields
 pub mod Lines
 pub mod Entries
+pub mod Spelling
 pub mod Payloads
 pub mod Journals
 pub mod Journal

@@ -3,7 +3,8 @@ use Rattle.std.specs.Prelude.{ℕ, zero, suc, List, [], ◌∷◌, length, ◌==
 use Rattle.std.specs.List.{flat_map}
 use Rattle.nsi_base.specs.Options.{◌>>=◌}
 use Rattle.nsi_primitive.specs.declared.entry.Entry.{Entry}
-use Rattle.journal_entry.specs.Entries.{entry_spelling, entry_at}
+use Rattle.journal_entry.specs.Entries.{entry_at}
+use Rattle.journal_entry.specs.Spelling.{entry_spelling}
 
 -- an entry before those behind it
 abbrev pub onto : Entry → Option (List Entry) → Option (List Entry)

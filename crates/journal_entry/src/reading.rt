@@ -4,7 +4,8 @@ ghost use Rattle.std.specs.Prelude.{◌≡◌, ◌≤◌, ◌<◌, ◌++◌, len
 ghost use Rattle.nsi_primitive.specs.Printable.{IsPrintableAsk, IsPrintableInput, IsPrintableEntry};
 ghost use Rattle.ask_text.specs.Reading.{ask_of};
 ghost use Rattle.journal_entry.specs.Faults.{Gives};
-ghost use Rattle.journal_entry.specs.Entries.{entry_spelling, machine_of, ask_at, got_at, machine_at, work_at, force_at, acked_at, input_at, entry_at, entry_of};
+ghost use Rattle.journal_entry.specs.Entries.{machine_of, ask_at, got_at, machine_at, work_at, force_at, acked_at, input_at, entry_at};
+ghost use Rattle.journal_entry.specs.Spelling.{entry_spelling, entry_of};
 
 use crate::fault::EntryFault;
 use crate::fields::{record_at, second_at, text_at, u32_at};

@@ -5,7 +5,7 @@ ghost use Rattle.std.specs.Int.{w32, to_be_bytes};
 ghost use Rattle.nsi_base.specs.Range.{greatest_record};
 ghost use Rattle.nsi_primitive.specs.Printable.{IsPrintable, IsPrintableAsk, IsPrintableInput, IsPrintableEntry};
 ghost use Rattle.nsi_primitive.specs.declared.entry.Input.{Input};
-ghost use Rattle.journal_entry.specs.Entries.{entry_spelling, tag_of, machine_byte, body_of, entry_of, IsReadAgain, HasParts};
+ghost use Rattle.journal_entry.specs.Spelling.{entry_spelling, tag_of, machine_byte, body_of, entry_of, IsReadAgain, HasParts};
 
 use crate::fields::{push_text, push_u32, push_u64};
 use ask_text::print_ask;

@@ -4,7 +4,7 @@ use Rattle.std.specs.List.{All, range_with_len}
 use Rattle.stp_topology.specs.declared.network.Network.{Network}
 use Rattle.stp_topology.specs.Network.{name_of}
 use Rattle.agent_link.specs.Link.{Half, OutHalf}
-use Rattle.agent_node.specs.Doors.{Plug, others, plug_to, crossed}
+use Rattle.agent_node.specs.Passing.{Plug, others, plug_to, crossed}
 use Rattle.agent_node.specs.Seat.{Seat}
 use Rattle.agent_link.specs.Plans.{Plan}
 use Rattle.agent_node.specs.Openings.{Plans, opened, others_of, seat_of}

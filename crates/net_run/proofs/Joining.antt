@@ -1,7 +1,7 @@
 -- The wires of links.
 use Rattle.std.proofs.Common.{ℕ, ◌<◌, ◌≡◌, ◌==◌, ◌&&◌, Bool, true, false, cond, List, [], ◌∷◌, ◌++◌, Option, Some, None, refl, sym, ap, ap₂, ◌∙◌, arith, eqb-true}
 use Rattle.agent_link.specs.Link.{Half, OutHalf, Wire}
-use Rattle.agent_node.specs.Doors.{crossed}
+use Rattle.agent_node.specs.Passing.{crossed}
 use Rattle.net_run.specs.declared.joints.Joint.{Joint}
 use Rattle.net_run.specs.Joints.{wires, ArePaired, or_else}
 

@@ -6,7 +6,7 @@ use Rattle.std.proofs.lemmas.List.Elements.{All-nil, All-push, All-head, All-tai
 use Rattle.stp_topology.specs.declared.network.Network.{Network}
 use Rattle.agent_link.specs.Link.{Half, OutHalf, Wire}
 use Rattle.agent_link.specs.Plans.{Plan}
-use Rattle.agent_node.specs.Doors.{plug_to}
+use Rattle.agent_node.specs.Passing.{plug_to}
 use Rattle.agent_node.specs.Openings.{others_of}
 use Rattle.agent_node.specs.Kept.{AreEnds, IsShut, KnowsNone, ArePlanned, plan_of, plugs_of}
 use Rattle.agent_threads.specs.Nets.{IsAbsent}

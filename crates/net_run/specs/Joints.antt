@@ -3,7 +3,7 @@ use Rattle.std.specs.Prelude.{ℕ, ◌≡◌, ◌==◌, ◌&&◌, Bool, List, []
 use Rattle.std.specs.List.{All, range_with_len}
 use Rattle.stp_topology.specs.declared.network.Network.{Network}
 use Rattle.agent_link.specs.Link.{Half, OutHalf, Wire}
-use Rattle.agent_node.specs.Doors.{plug_to, crossed}
+use Rattle.agent_node.specs.Passing.{plug_to, crossed}
 use Rattle.agent_node.specs.Openings.{Plans, are_linked, others_of}
 use Rattle.agent_node.specs.Kept.{AreEnds, ArePlanned, plugs_of}
 use Rattle.agent_threads.specs.Nets.{IsAbsent}

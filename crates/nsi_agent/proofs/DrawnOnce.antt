@@ -14,7 +14,8 @@ use Rattle.aggregator_agent.proofs.Mild.{drawn_then, drawn_none}
 use Rattle.requester_agent.proofs.Entries.{after_is as requester_takes}
 use Rattle.nsi_agent.specs.Homes.{Role, provides, aggregates, requests, Home}
 use Rattle.nsi_agent.specs.Steps.{after, after_as, may_take_as, with_base}
-use Rattle.nsi_agent.specs.Told.{goes_on, told, drawer_of}
+use Rattle.nsi_agent.specs.Told.{goes_on, told}
+use Rattle.nsi_agent.specs.Said.{drawer_of}
 use Rattle.nsi_agent.specs.Laws.{IsGood, EntriesKeepGood, BlankIsGood, RequestsHaveIds, AreApart, RequestsAreDrawnOnce}
 use Rattle.nsi_agent.proofs.ProviderSays.{AsksNothing, step_answers}
 use Rattle.nsi_agent.proofs.ProviderKeeps.{provider_rises}

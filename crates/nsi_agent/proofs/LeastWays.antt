@@ -17,7 +17,7 @@ use Rattle.agent_state.specs.declared.parent.Leg.{Leg}
 use Rattle.aggregator_agent.specs.Setting.{leg_of, legs_of, AreLegs, agent_in, setting_of as aggregator_of}
 use Rattle.requester_agent.specs.Setting.{asked_by}
 use Rattle.nsi_agent.specs.Homes.{aggregates, Routes, AreRoutes, role_in, home_in}
-use Rattle.nsi_agent.specs.Told.{Asks}
+use Rattle.nsi_agent.specs.Said.{Asks}
 use Rattle.nsi_agent.specs.Asked.{IsAskedBy}
 use Rattle.nsi_agent.specs.Laws.{AsksGoAlongLinks}
 use Rattle.nsi_agent.proofs.Descending.{by_path}

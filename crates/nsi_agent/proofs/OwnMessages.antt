@@ -14,7 +14,8 @@ use Rattle.aggregator_agent.specs.Setting.{Setting as AggregatorSetting}
 use Rattle.requester_agent.proofs.Entries.{after_is as requester_takes}
 use Rattle.nsi_agent.specs.Homes.{Role, provides, aggregates, requests, Home, Routes, home_in}
 use Rattle.nsi_agent.specs.Steps.{after, after_as, may_take_as, with_base}
-use Rattle.nsi_agent.specs.Told.{goes_on, name_in, drawer_of, AsksFor, HasAsked, Asks, IsSaidAs, IsSaid, IsFor}
+use Rattle.nsi_agent.specs.Told.{goes_on}
+use Rattle.nsi_agent.specs.Said.{name_in, drawer_of, AsksFor, HasAsked, Asks, IsSaidAs, IsSaid, IsFor}
 use Rattle.nsi_agent.specs.Laws.{WhatIsSaidIsItsOwn, IsNamedAsDeclared}
 use Rattle.nsi_agent.proofs.ProviderSays.{IsAnswer, IsOwed, CameFor, step_saying as provider_says}
 use Rattle.nsi_agent.proofs.RequesterSays.{AreLaws, IsWish, IsOf, step_saying as requester_says}

@@ -9,7 +9,7 @@ use Rattle.connection_record.specs.declared.record.Record.{Record}
 use Rattle.connection_record.specs.Applied.{has_work, first_machine}
 use Rattle.agent_state.specs.State.{State, AgentState, no_record, record_at}
 use Rattle.provider_agent.specs.Steps.{waiting_work}
-use Rattle.provider_agent.specs.Good.{works_in, works_among}
+use Rattle.provider_agent.specs.Working.{works_in, works_among}
 use Rattle.provider_agent.proofs.WaitingWork.{busy_works, idle_works}
 use Rattle.provider_run.proofs.Idle.{one_less}
 use Rattle.nsi_agent.specs.Homes.{Role, provides, aggregates, requests}

@@ -19,7 +19,8 @@ use Rattle.requester_agent.specs.Good.{IsGood as IsGoodRequester}
 use Rattle.nsi_agent.specs.Asked.{IsAskedBy}
 use Rattle.nsi_agent.specs.Homes.{Role, provides, aggregates, requests, Home, Routes, AreRoutes, home_in}
 use Rattle.nsi_agent.specs.Steps.{after, may_take_as, is_new, work_of, works_left}
-use Rattle.nsi_agent.specs.Told.{behind, goes_on, told, WasGot, name_in, drawer_of, HasAsked, Asks, IsSaid, IsForIn}
+use Rattle.nsi_agent.specs.Told.{behind, goes_on, told, WasGot}
+use Rattle.nsi_agent.specs.Said.{name_in, drawer_of, HasAsked, Asks, IsSaid, IsForIn}
 
 ---- What waits, and the clock
 

@@ -8,7 +8,7 @@ use Rattle.stp_topology.specs.declared.network.AgentKind.{AgentKind}
 use Rattle.message_retry.specs.Retry.{is_old, is_waiting}
 use Rattle.agent_state.specs.Entries.{retry_of}
 use Rattle.agent_state.specs.State.{AgentState, AgentStepped, Stepped}
-use Rattle.provider_agent.specs.Good.{works_among}
+use Rattle.provider_agent.specs.Working.{works_among}
 use Rattle.provider_agent.specs.Steps.{after as provider_after, may_take as provider_may, is_seen as provider_saw, waiting_work}
 use Rattle.aggregator_agent.specs.Steps.{after as aggregator_after, may_take as aggregator_may}
 use Rattle.requester_agent.specs.Steps.{after as requester_after, may_take as requester_may}

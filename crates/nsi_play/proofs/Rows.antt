@@ -23,8 +23,9 @@ use Rattle.agent_link.specs.declared.plan.ParcelKind.{ParcelKind}
 use Rattle.message_retry.specs.Retry.{is_heard, with_heard, is_old, saw, is_waiting, without}
 use Rattle.message_retry.specs.Taken.{is_taken, with_taken}
 use Rattle.capacity_calendar.specs.Lack.{lack_at, first_from, first_lack_by}
-use Rattle.capacity_calendar.specs.Plan.{places}
-use Rattle.child_connection.specs.Asks.{asks as asks_child, request_about, reserve_for, ask_refusal, reserve_refusal}
+use Rattle.capacity_calendar.specs.Places.{places}
+use Rattle.child_connection.specs.Asks.{asks as asks_child, request_about, reserve_for}
+use Rattle.child_connection.specs.Refusals.{ask_refusal, reserve_refusal}
 use Rattle.child_connection.specs.Hearing.{hears}
 use Rattle.child_connection.specs.Views.{is_kind, open_request}
 use Rattle.connection_record.specs.Applied.{reservation_closing, provision_closing, closes, moves, requested, is_provisioning, is_terminating, first_machine, provided, waits as record_waits, work_of as record_work, tells_plane, tells as record_tells, ticks as record_ticks}
@@ -44,7 +45,8 @@ use Rattle.nsi_script.specs.declared.script.Group.{Group}
 use Rattle.nsi_script.specs.declared.script.PlanLine.{PlanLine}
 use Rattle.nsi_agent.specs.Homes.{Routes, home_in}
 use Rattle.nsi_agent.specs.Steps.{after_as, is_new, waits}
-use Rattle.agent_node.specs.Doors.{change_first, passes, says_all, let_through}
+use Rattle.agent_node.specs.Doors.{change_first}
+use Rattle.agent_node.specs.Passing.{passes, says_all, let_through}
 use Rattle.agent_node.specs.Seat.{enters, enters_if}
 use Rattle.agent_node.specs.Turns.{takes, takes_all, works_off, syncs_if, turn_with}
 use Rattle.agent_node.specs.Acts.{ticked, is_quiet}

@@ -17,7 +17,8 @@ use Rattle.agent_state.specs.State.{AgentState}
 use Rattle.nsi_agent.specs.Told.{told}
 use Rattle.nsi_agent.proofs.Telling.{waiting_was_caused}
 use Rattle.nsi_script.specs.declared.script.Act.{Act}
-use Rattle.agent_node.specs.Doors.{Door, says_all, is_queued}
+use Rattle.agent_node.specs.Doors.{Door}
+use Rattle.agent_node.specs.Passing.{says_all, is_queued}
 use Rattle.agent_node.specs.Seat.{Seat, now_at, enters}
 use Rattle.agent_node.specs.Acts.{asked, forced, is_overdue, overdue, tick_at, ticked}
 use Rattle.agent_node.specs.Restarts.{restarted}

@@ -13,7 +13,7 @@ use Rattle.nsi_agent.specs.Homes.{Home}
 use Rattle.nsi_agent.specs.Steps.{after, is_new, waits, work_of, works_left}
 use Rattle.nsi_script.specs.declared.script.Act.{Act}
 use Rattle.nsi_script.specs.declared.script.Group.{Group}
-use Rattle.agent_node.specs.Doors.{lying}
+use Rattle.agent_node.specs.Passing.{lying}
 use Rattle.agent_node.specs.Seat.{Seat, entered, now_at, enters, enters_now, enters_if}
 use Rattle.agent_node.specs.Turns.{sync_event, cleared, takes, takes_all, work_then, works_off, worked, syncs_if, turn_with}
 use Rattle.agent_node.specs.Acts.{asked, forced, tick_at, ticked}

@@ -6,7 +6,8 @@ use Rattle.std.proofs.lemmas.List.Elements.{All-nil, All-cons, All-head, All-tai
 use Rattle.nsi_primitive.specs.Messages.{identity, addressee}
 use Rattle.nsi_primitive.specs.declared.message.Message.{Message}
 use Rattle.nsi_primitive.specs.declared.message.Parcel.{Parcel}
-use Rattle.agent_node.specs.Doors.{Door, change_first, with_parcel, queue_at, queue_if, says, says_all, pushes, come_through, lying, clears, let_through, learns}
+use Rattle.agent_node.specs.Doors.{Door, change_first, with_parcel, queue_at}
+use Rattle.agent_node.specs.Passing.{queue_if, says, says_all, pushes, come_through, lying, clears, let_through, learns}
 use Rattle.agent_node.proofs.Passing.{passes_out, passes_queue}
 use Rattle.agent_node.proofs.Joints.{change_nil, change_here, change_there, through_nil, through_here, through_there}
 use Rattle.nsi_world.specs.Worlds.{Homes, World, synced_part, IsSaidBy, IsGot}

@@ -1,6 +1,6 @@
 -- What the bridge is given: the topology's names, and the laws of the agents.
 use Rattle.std.proofs.Common.{ℕ, ◌≡◌, List, Some}
-use Rattle.nsi_agent.specs.Told.{name_in}
+use Rattle.nsi_agent.specs.Said.{name_in}
 use Rattle.nsi_agent.specs.Laws.{WhatIsSaidIsItsOwn, RequestsAreDrawnOnce}
 use Rattle.nsi_world.specs.Agents.{CausedIsPrintable}
 use Rattle.nsi_world.specs.Worlds.{Homes}

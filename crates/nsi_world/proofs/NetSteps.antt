@@ -3,7 +3,7 @@ use Rattle.std.proofs.Common.{ℕ, ◌≡◌, ◌≢◌, List, [], ◌∷◌, �
 use Rattle.std.specs.List.{All}
 use Rattle.std.proofs.lemmas.List.Elements.{All-nil, All-cons, All-head, All-tail, All-weaker, All-map}
 use Rattle.nsi_primitive.specs.declared.entry.Event.{Event}
-use Rattle.agent_node.specs.Doors.{let_through}
+use Rattle.agent_node.specs.Passing.{let_through}
 use Rattle.agent_node.specs.Seat.{Seat}
 use Rattle.agent_node.specs.Meetings.{met}
 use Rattle.nsi_play.specs.Rounds.{Net, turned_in, turned_all, meets_each, meets_all, met_all, round, events_of, tells, emptied}

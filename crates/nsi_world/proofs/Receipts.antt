@@ -9,7 +9,8 @@ use Rattle.nsi_primitive.specs.declared.entry.Input.{Input}
 use Rattle.nsi_primitive.specs.declared.message.Header.{Header}
 use Rattle.nsi_primitive.specs.declared.message.Message.{Message}
 use Rattle.nsi_agent.specs.Homes.{Role}
-use Rattle.nsi_agent.specs.Told.{name_in, IsSame, IsSameTo, Gets, WasGot, Asks, HasAsked, IsSaidAs, IsSaid, IsFor, IsForIn}
+use Rattle.nsi_agent.specs.Told.{IsSame, IsSameTo, Gets, WasGot}
+use Rattle.nsi_agent.specs.Said.{name_in, Asks, HasAsked, IsSaidAs, IsSaid, IsFor, IsForIn}
 use Rattle.nsi_agent.specs.Laws.{AreApart}
 use Rattle.nsi_world.specs.Worlds.{Homes, IsAgent, World, synced_part, said, IsSaidBy, IsSent, IsTo, IsTaken}
 use Rattle.nsi_world.specs.Heard.{WasSent, IsHeard, IsFair}

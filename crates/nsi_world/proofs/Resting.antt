@@ -10,7 +10,7 @@ use Rattle.agent_state.specs.State.{AgentState, blank_agent}
 use Rattle.nsi_agent.specs.Homes.{Role, provides, aggregates, requests, Home, Routes, home_in}
 use Rattle.nsi_agent.specs.Steps.{work_of}
 use Rattle.nsi_script.specs.declared.script.Group.{Group}
-use Rattle.agent_node.specs.Doors.{all_idle}
+use Rattle.agent_node.specs.Passing.{all_idle}
 use Rattle.agent_node.specs.Seat.{Seat}
 use Rattle.agent_node.specs.Acts.{is_quiet}
 use Rattle.agent_link.specs.Plans.{Plan}

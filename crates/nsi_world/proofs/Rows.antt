@@ -22,8 +22,9 @@ use Rattle.dataplane_state.specs.Plane.{status, joined, announces}
 use Rattle.message_retry.specs.Retry.{is_heard, with_heard, is_old, saw, is_waiting, without}
 use Rattle.message_retry.specs.Taken.{is_taken, with_taken}
 use Rattle.capacity_calendar.specs.Lack.{lack_at, first_from, first_lack_by}
-use Rattle.capacity_calendar.specs.Plan.{places}
-use Rattle.child_connection.specs.Asks.{asks as asks_child, request_about, reserve_for, ask_refusal, reserve_refusal}
+use Rattle.capacity_calendar.specs.Places.{places}
+use Rattle.child_connection.specs.Asks.{asks as asks_child, request_about, reserve_for}
+use Rattle.child_connection.specs.Refusals.{ask_refusal, reserve_refusal}
 use Rattle.child_connection.specs.Hearing.{hears}
 use Rattle.child_connection.specs.Views.{is_kind, open_request}
 use Rattle.connection_record.specs.Applied.{reservation_closing, provision_closing, closes, moves, requested, is_provisioning, is_terminating, first_machine, provided, waits as record_waits, work_of as record_work, tells_plane, tells as record_tells, ticks as record_ticks}

@@ -13,7 +13,8 @@ use Rattle.nsi_agent.specs.Homes.{Role, provides, aggregates, requests, Home}
 use Rattle.nsi_agent.specs.Steps.{is_new, waits, work_of, works_left}
 use Rattle.nsi_agent.specs.Told.{told}
 use Rattle.nsi_agent.proofs.SeenGot.{seen_was_got}
-use Rattle.agent_node.specs.Doors.{queue_at, lying, clears, pushes}
+use Rattle.agent_node.specs.Doors.{queue_at}
+use Rattle.agent_node.specs.Passing.{lying, clears, pushes}
 use Rattle.agent_node.specs.Seat.{Seat, now_at, enters, enters_now, enters_if, queues}
 use Rattle.agent_node.specs.Turns.{cleared, takes, takes_all, work_then, works_off, worked, syncs_if, synced_all, pushed, turn_with, turned, halted}
 use Rattle.nsi_world.specs.Worlds.{Homes, World, synced_part, IsSaidBy, IsTo, IsTaken}

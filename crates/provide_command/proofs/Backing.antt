@@ -15,7 +15,7 @@ use Rattle.line_reader.specs.Held.{Held}
 use Rattle.nsi_disk.specs.Disk.{History, Fresh, MayLeave, seen}
 use Rattle.nsi_primitive.specs.Printable.{IsPrintableEntry}
 use Rattle.nsi_primitive.specs.declared.entry.Entry.{Entry}
-use Rattle.provider_agent.specs.AgentRuns.{replayed}
+use Rattle.provider_agent.specs.Replay.{replayed}
 use Rattle.provider_agent.specs.Runs.{after_all}
 use Rattle.provider_agent.specs.Setting.{Setting, setting_of, own_stp}
 use Rattle.provider_agent.specs.State.{State}

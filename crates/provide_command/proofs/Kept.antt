@@ -10,7 +10,7 @@ use Rattle.provider_agent.specs.Setting.{Setting}
 use Rattle.provider_agent.specs.State.{State, Stepped}
 use Rattle.provider_agent.specs.Runs.{after_all}
 use Rattle.provider_agent.specs.Safety.{IsRun}
-use Rattle.provider_agent.specs.AgentRuns.{replayed, AreFirstOf}
+use Rattle.provider_agent.specs.Replay.{replayed, AreFirstOf}
 use Rattle.provider_agent.proofs.EventsSafe.{good_replayed}
 use Rattle.provider_agent.proofs.RunsSafe.{after_all_append, after_all_out, every_run_safe}
 use Rattle.provider_run.proofs.WorkRuns.{run_append}

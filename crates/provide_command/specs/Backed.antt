@@ -12,7 +12,7 @@ use Rattle.stp_topology.specs.Network.{name_of}
 use Rattle.provider_agent.specs.Setting.{Setting, setting_of, own_stp}
 use Rattle.provider_agent.specs.Runs.{after_all}
 use Rattle.provider_agent.specs.Safety.{IsRun, IsSafe}
-use Rattle.provider_agent.specs.AgentRuns.{replayed, AreFirstOf}
+use Rattle.provider_agent.specs.Replay.{replayed, AreFirstOf}
 use Rattle.provide_command.specs.Ends.{Serves, lines_in}
 use Rattle.provide_command.specs.Lines.{long_line}
 use Rattle.provide_command.specs.Outcome.{topology_fault, journal_fault, disk_fault_line}

@@ -13,7 +13,7 @@ use Rattle.provider_agent.specs.Setting.{Setting, setting_of, own_stp}
 use Rattle.provider_agent.specs.Good.{IsGood}
 use Rattle.provider_agent.specs.Runs.{after_all}
 use Rattle.provider_agent.specs.Safety.{IsRun}
-use Rattle.provider_agent.specs.AgentRuns.{replayed}
+use Rattle.provider_agent.specs.Replay.{replayed}
 use Rattle.provide_command.specs.Backed.{StandsFor, IsFrontOf}
 use Rattle.provide_command.specs.Phases.{Reading}
 use Rattle.provide_command.specs.Runs.{IsWoven}

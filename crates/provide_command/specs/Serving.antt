@@ -4,7 +4,7 @@ use Rattle.nsi_primitive.specs.declared.entry.Entry.{Entry}
 use Rattle.stp_topology.specs.declared.network.Network.{Network}
 use Rattle.provider_agent.specs.Setting.{setting_of, own_stp}
 use Rattle.provider_agent.specs.State.{Standing}
-use Rattle.provider_agent.specs.AgentRuns.{replayed}
+use Rattle.provider_agent.specs.Replay.{replayed}
 use Rattle.provide_command.specs.declared.service.Answer.{Answer}
 
 -- The topology, the provider, how many events there were beside the entries that it has taken (syncs, and entries of its journal that it left

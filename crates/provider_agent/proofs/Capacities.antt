@@ -7,7 +7,7 @@ use Rattle.nsi_base.specs.declared.flow.Flow.{Flow}
 use Rattle.stp_topology.specs.declared.network.Network.{Network}
 use Rattle.stp_topology.specs.Network.{owner_of, capacity_of}
 use Rattle.capacity_calendar.specs.declared.booking.Capacity.{Capacity}
-use Rattle.capacity_calendar.specs.Plan.{capacity_at, is_same_flow}
+use Rattle.capacity_calendar.specs.Places.{capacity_at, is_same_flow}
 use Rattle.provider_agent.specs.Setting.{capacities_among, of_own, of_point, of_flow, setting_of}
 use Rattle.provider_agent.specs.State.{State}
 use Rattle.provider_agent.specs.Safety.{IsCapped}

@@ -10,8 +10,10 @@ use Rattle.agent_state.specs.Entries.{is_on_time, most_entries}
 use Rattle.provider_agent.specs.Steps.{is_for_provider, may_take, after, after_if}
 use Rattle.provider_agent.specs.Runs.{after_all}
 use Rattle.provider_agent.specs.Safety.{IsRun}
-use Rattle.provider_agent.specs.Events.{Journal, all_synced, happens, journal_after, enter, entered, batch}
-use Rattle.provider_agent.specs.AgentRuns.{replayed, MayEnter, AreAllowed, caused, caused_by}
+use Rattle.provider_agent.specs.Events.{all_synced, happens, journal_after, enter, entered, batch}
+use Rattle.provider_agent.specs.Cuts.{Journal}
+use Rattle.provider_agent.specs.AgentRuns.{MayEnter, AreAllowed, caused, caused_by}
+use Rattle.provider_agent.specs.Replay.{replayed}
 use Rattle.provider_agent.proofs.RunsSafe.{after_all_append}
 use Rattle.provider_agent.proofs.EventsSafe.{journal_after_append}
 

@@ -21,7 +21,7 @@ use Rattle.lifecycle_machine.specs.Table.{step as lifecycle_row_of}
 use Rattle.dataplane_state.specs.Plane.{status, announces}
 use Rattle.message_retry.specs.Taken.{is_taken, with_taken}
 use Rattle.capacity_calendar.specs.Lack.{lack_at, first_from, first_lack_by}
-use Rattle.capacity_calendar.specs.Plan.{places}
+use Rattle.capacity_calendar.specs.Places.{places}
 use Rattle.connection_record.specs.Demand.{demand, load}
 use Rattle.connection_record.specs.Lives.{provision_event, lifecycle_event, provisions, lives}
 use Rattle.connection_record.specs.Moves.{event_of, reserves, hold_end, is_live, is_working, worked}
@@ -32,8 +32,10 @@ use Rattle.provider_agent.specs.Others.{lacking}
 use Rattle.provider_agent.specs.State.{State, record_at, blank, unchanged}
 use Rattle.provider_agent.specs.Steps.{receives, works, forces, ticks, ticks_all, step, after}
 use Rattle.provider_agent.specs.Runs.{after_all}
-use Rattle.provider_agent.specs.Events.{Journal, all_synced, IsCut, cut, journal_after, enter}
-use Rattle.provider_agent.specs.AgentRuns.{replay, replayed, IsOfAgentRun, IsAgentRun, caused}
+use Rattle.provider_agent.specs.Events.{all_synced, journal_after, enter}
+use Rattle.provider_agent.specs.Cuts.{Journal, IsCut, cut}
+use Rattle.provider_agent.specs.AgentRuns.{IsOfAgentRun, IsAgentRun, caused}
+use Rattle.provider_agent.specs.Replay.{replay, replayed}
 
 ---- The provider and what it is asked
 

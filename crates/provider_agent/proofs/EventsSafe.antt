@@ -13,8 +13,10 @@ use Rattle.agent_state.specs.Entries.{is_on_time, most_entries}
 use Rattle.provider_agent.specs.Steps.{is_for_provider, may_take, after, after_if}
 use Rattle.provider_agent.specs.Runs.{after_all}
 use Rattle.provider_agent.specs.Safety.{Keeps}
-use Rattle.provider_agent.specs.Events.{Journal, all_synced, synced_part, IsCut, cut, happens, journal_after}
-use Rattle.provider_agent.specs.AgentRuns.{replay, replayed, MayEnter, IsAllowed, AreAllowed, IsAgentRun, AreSafe, AreFirstOf, StaysCaused}
+use Rattle.provider_agent.specs.Events.{all_synced, synced_part, happens, journal_after}
+use Rattle.provider_agent.specs.Cuts.{Journal, IsCut, cut}
+use Rattle.provider_agent.specs.AgentRuns.{MayEnter, IsAllowed, AreAllowed, IsAgentRun, AreSafe, StaysCaused}
+use Rattle.provider_agent.specs.Replay.{replay, replayed, AreFirstOf}
 use Rattle.provider_agent.specs.Good.{IsGood}
 use Rattle.provider_agent.proofs.Counting.{step_taken}
 use Rattle.provider_agent.proofs.GoodAfter.{good_after, good_blank}

@@ -24,7 +24,7 @@ use Rattle.nsi_primitive.specs.declared.entry.Entry.{Entry}
 use Rattle.nsi_primitive.specs.declared.entry.Input.{Input}
 use Rattle.message_retry.specs.Taken.{is_taken}
 use Rattle.capacity_calendar.specs.declared.booking.Lack.{Lack}
-use Rattle.capacity_calendar.specs.Plan.{capacity_at, places}
+use Rattle.capacity_calendar.specs.Places.{capacity_at, places}
 use Rattle.capacity_calendar.proofs.FirstLack.{room_where_none}
 use Rattle.capacity_calendar.proofs.Places.{booked_among_places}
 use Rattle.connection_record.specs.declared.record.Record.{Record}
@@ -42,7 +42,8 @@ use Rattle.provider_agent.specs.Setting.{Setting}
 use Rattle.provider_agent.specs.Others.{others, first_lack, cause_of, lack_of, lacking}
 use Rattle.provider_agent.specs.State.{State, Stepped, unchanged, record_at, no_record, blank, name_or}
 use Rattle.provider_agent.specs.Steps.{step, receives, works, works_at, work_at, forces, force_move, is_forcible, keeps, drawn, ticks, ticks_at, ticks_all, told_at, own_origin, agent_of, taken_at, with_new, is_waiting, may_take, after_if, after}
-use Rattle.provider_agent.specs.Good.{is_asking, works_in, works_among, IsGoodRecord, IsGood, most_drawn}
+use Rattle.provider_agent.specs.Good.{is_asking, IsGoodRecord, IsGood, most_drawn}
+use Rattle.provider_agent.specs.Working.{works_in, works_among}
 use Rattle.provider_agent.proofs.RecordPlaces.{sum_beside, sum_with, push_here}
 use Rattle.provider_agent.proofs.Turning.{told_keeps}
 use Rattle.provider_agent.proofs.Growing.{moves_if_later, ticked_later, told_later}

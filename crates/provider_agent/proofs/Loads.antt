@@ -8,7 +8,8 @@ use Rattle.nsi_primitive.specs.Kinds.{is_both_ways}
 use Rattle.nsi_primitive.specs.declared.message.Criteria.{Criteria}
 use Rattle.capacity_calendar.specs.declared.booking.Booking.{Booking}
 use Rattle.capacity_calendar.specs.Load.{larger_taken, load as booked_load}
-use Rattle.capacity_calendar.specs.Plan.{Plan, places, pending_of, claim_of, HasOneEach}
+use Rattle.capacity_calendar.specs.Plan.{Plan, pending_of, claim_of, HasOneEach}
+use Rattle.capacity_calendar.specs.Places.{places}
 use Rattle.capacity_calendar.specs.Sums.{sum_upto, sum_but}
 use Rattle.capacity_calendar.proofs.Sums.{sum_upto-same, sum_but-same, sum_upto-one_out, sum_by-places}
 use Rattle.capacity_calendar.proofs.LoadByNumber.{load_by_number, first_lack_by_number}

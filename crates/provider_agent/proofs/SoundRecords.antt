@@ -4,12 +4,13 @@ use Rattle.std.proofs.lemmas.List.Sums.{sum_by_push}
 use Rattle.std.proofs.lemmas.Option.{slice_get_within}
 use Rattle.nsi_base.specs.declared.flow.Flow.{Flow}
 use Rattle.nsi_primitive.specs.Ids.{id_of}
-use Rattle.capacity_calendar.specs.Plan.{capacity_at}
+use Rattle.capacity_calendar.specs.Places.{capacity_at}
 use Rattle.connection_record.specs.declared.record.Record.{Record}
 use Rattle.connection_record.specs.Demand.{demand, load}
 use Rattle.provider_agent.specs.Setting.{Setting}
 use Rattle.provider_agent.specs.Others.{others}
-use Rattle.provider_agent.specs.Good.{works_in, IsGoodRecord, AreOrdered}
+use Rattle.provider_agent.specs.Good.{IsGoodRecord, AreOrdered}
+use Rattle.provider_agent.specs.Working.{works_in}
 use Rattle.provider_agent.proofs.RecordPlaces.{set_cases, push_cases, sum_with}
 use Rattle.provider_agent.proofs.EachTicked.{AreEach, each_new, each_sum_le}
 

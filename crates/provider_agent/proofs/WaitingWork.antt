@@ -25,7 +25,8 @@ use Rattle.connection_record.specs.Lives.{provision_event, lifecycle_event, prov
 use Rattle.connection_record.specs.Moves.{event_of, reserves, reserves_if, worked, hold_end, is_live, is_working}
 use Rattle.connection_record.specs.Replies.{Moved, plain}
 use Rattle.connection_record.specs.Applied.{closes_reservation, closes_provision, reservation_closing, provision_closing, closes, moves, moves_if, provided, work_of, first_of, first_machine, has_work, waits, is_provisioning, is_terminating, schedule_end, ticks, ticked, tells}
-use Rattle.provider_agent.specs.Good.{is_asking, works_in}
+use Rattle.provider_agent.specs.Good.{is_asking}
+use Rattle.provider_agent.specs.Working.{works_in}
 use Rattle.provider_agent.proofs.Turning.{told_keeps}
 
 -- 1 where a machine waits

@@ -9,19 +9,12 @@ use Rattle.nsi_primitive.specs.declared.entry.Entry.{Entry}
 use Rattle.nsi_primitive.specs.declared.entry.Happening.{Happening}
 use Rattle.nsi_primitive.specs.declared.entry.Input.{Input}
 use Rattle.provider_agent.specs.Setting.{Setting}
-use Rattle.provider_agent.specs.State.{State, Stepped, blank}
 use Rattle.agent_state.specs.Entries.{is_on_time, most_entries}
 use Rattle.provider_agent.specs.Steps.{is_for_provider, after}
-use Rattle.provider_agent.specs.Runs.{after_all}
 use Rattle.provider_agent.specs.Safety.{IsCapped, IsRising, Keeps, IsHonest}
-use Rattle.provider_agent.specs.Events.{Journal, all_synced, synced_part, IsCut, cut, happens, journal_after}
-
--- The state that a journal's entries make, and the messages that they cause. An entry that no provider takes changes nothing.
-abbrev pub replay : Setting → (List ℕ → Option ℕ) → List Entry → Stepped
-replay setting stp_of es = after_all setting stp_of blank es
-
-abbrev pub replayed : Setting → (List ℕ → Option ℕ) → List Entry → State
-replayed setting stp_of es = (replay setting stp_of es).state
+use Rattle.provider_agent.specs.Events.{all_synced, synced_part, happens, journal_after}
+use Rattle.provider_agent.specs.Cuts.{Journal, IsCut, cut}
+use Rattle.provider_agent.specs.Replay.{replay, replayed, AreFirstOf}
 
 ---- Events that are allowed
 
@@ -85,10 +78,6 @@ pub record AreSafe (setting : Setting) (stp_of : List ℕ → Option ℕ) (start
       → Keeps (replayed setting stp_of (synced_part (journal_after start earlier))) (replayed setting stp_of (cut (journal_after start (earlier ++ middle)) k))
   pub honest : (earlier later : List Happening) (e : Entry) (answer : Option AskAnswer) → events ≡ earlier ++ Happening.Entry e answer ∷ later
       → IsHonest setting stp_of (replayed setting stp_of (journal_after start earlier).entries) e
-
--- messages, and maybe more behind them
-abbrev pub AreFirstOf : List Message → List Message → Type 0
-AreFirstOf messages all = (more : List Message) × (all ≡ messages ++ more)
 
 -- What the entries that were synced at an earlier moment cause, every cut of every later one causes first.
 abbrev pub StaysCaused : Setting → (List ℕ → Option ℕ) → Journal → List Happening → Type 0

@@ -1,12 +1,8 @@
 -- A journal, of which a front is synced, and what happens to it. Nothing here knows what kind of agent keeps it.
-use Rattle.std.specs.Prelude.{◌≤◌, ℕ, ◌+◌, List, [], ◌∷◌, ◌++◌, map, length, take, None}
+use Rattle.std.specs.Prelude.{◌+◌, List, [], ◌∷◌, ◌++◌, map, length, take, None}
 use Rattle.nsi_primitive.specs.declared.entry.Entry.{Entry}
 use Rattle.nsi_primitive.specs.declared.entry.Happening.{Happening}
-
--- its entries, and how many of them are synced
-pub record Journal : Type 0 where
-  pub entries : List Entry
-  pub synced : ℕ
+use Rattle.provider_agent.specs.Cuts.{Journal, cut}
 
 abbrev pub all_synced : List Entry → Journal
 all_synced es = record { entries = es; synced = length es }
@@ -14,14 +10,6 @@ all_synced es = record { entries = es; synced = length es }
 -- what no crash takes away
 abbrev pub synced_part : Journal → List Entry
 synced_part j = take j.synced j.entries
-
--- what a crash may leave: so many first entries, and all that are synced among them
-pub record IsCut (j : Journal) (k : ℕ) : Type 0 where
-  pub synced : j.synced ≤ k
-  pub within : k ≤ length j.entries
-
-abbrev pub cut : Journal → ℕ → List Entry
-cut j k = take k j.entries
 
 -- an entry is appended; the first so many are synced; the agent begins again with the first so many, and all are synced then
 abbrev pub happens : Journal → Happening → Journal

@@ -1,16 +1,15 @@
 -- What is true of a provider in every state of every run.
-use Rattle.std.specs.Prelude.{◌≡◌, ◌≤◌, ◌<◌, ◌+◌, ◌*◌, ℕ, Bool, true, false, if◌then◌else◌, sum_by, List, slice_get, length, Some, IsSome}
+use Rattle.std.specs.Prelude.{◌≡◌, ◌≤◌, ◌<◌, ◌+◌, ◌*◌, ℕ, Bool, true, false, List, slice_get, length, Some, IsSome}
 use Rattle.nsi_primitive.specs.Ids.{id_of}
 use Rattle.nsi_primitive.specs.Printable.{IsShort}
-use Rattle.nsi_primitive.specs.declared.state.Machine.{Machine}
 use Rattle.nsi_primitive.specs.declared.state.Rsm.{Rsm}
 use Rattle.connection_record.specs.declared.record.Record.{Record}
 use Rattle.connection_record.specs.Order.{IsInOrder}
 use Rattle.connection_record.specs.Rising.{AreRising, IsAboveLast}
-use Rattle.connection_record.specs.Applied.{waits}
 use Rattle.provider_agent.specs.Setting.{Setting}
 use Rattle.provider_agent.specs.State.{State}
 use Rattle.provider_agent.specs.Safety.{IsCapped}
+use Rattle.provider_agent.specs.Working.{works_among}
 
 -- whether something is asked, held or committed
 abbrev pub is_asking : Rsm → Bool
@@ -32,17 +31,6 @@ pub record IsGoodRecord (r : Record) : Type 0 where
 pub record AreOrdered (agent next : ℕ) (records : List Record) : Type 0 where
   pub rise : (i j : ℕ) (a b : Record) → i < j → slice_get records i ≡ Some a → slice_get records j ≡ Some b → a.id < b.id
   pub below : (i : ℕ) (a : Record) → slice_get records i ≡ Some a → a.id < id_of agent next
-
--- 1 where a machine of the record has work to do
-abbrev pub work_in : Machine → Record → ℕ
-work_in machine r = if waits machine r then 1 else 0
-
--- how much work a record has to do
-abbrev pub works_in : Record → ℕ
-works_in r = work_in Machine.Reserve r + (work_in Machine.Provision r + work_in Machine.Lifecycle r)
-
-abbrev pub works_among : List Record → ℕ
-works_among records = sum_by works_in records
 
 -- so many ids at most are drawn by one entry: a tick draws one for each record at most
 abbrev pub most_drawn : ℕ

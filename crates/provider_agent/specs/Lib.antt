@@ -7,8 +7,11 @@ pub mod Points
 pub mod Safety
 pub mod Kept
 pub mod Indexed
+pub mod Cuts
 pub mod Events
+pub mod Replay
 pub mod AgentRuns
+pub mod Working
 pub mod Good
 pub mod Core
 pub mod Ticks

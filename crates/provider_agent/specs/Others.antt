@@ -7,7 +7,7 @@ use Rattle.nsi_primitive.specs.declared.message.Criteria.{Criteria}
 use Rattle.capacity_calendar.specs.declared.booking.Capacity.{Capacity}
 use Rattle.capacity_calendar.specs.declared.booking.Lack.{Lack}
 use Rattle.capacity_calendar.specs.Lack.{first_lack_by}
-use Rattle.capacity_calendar.specs.Plan.{places}
+use Rattle.capacity_calendar.specs.Places.{places}
 use Rattle.connection_record.specs.declared.record.Record.{Record}
 use Rattle.connection_record.specs.Demand.{load}
 use Rattle.provider_agent.specs.Setting.{Setting}

@@ -3,7 +3,7 @@ use Rattle.std.specs.Prelude.{◌≡◌, ◌≤◌, ◌<◌, ℕ, Option, Some, 
 use Rattle.nsi_base.specs.declared.flow.Flow.{Flow}
 use Rattle.stp_topology.specs.declared.network.Network.{Network}
 use Rattle.stp_topology.specs.Network.{owner_of, capacity_of}
-use Rattle.capacity_calendar.specs.Plan.{capacity_at}
+use Rattle.capacity_calendar.specs.Places.{capacity_at}
 use Rattle.connection_record.specs.declared.record.Record.{Record}
 use Rattle.connection_record.specs.Demand.{load}
 use Rattle.connection_record.specs.Order.{HasPoints}

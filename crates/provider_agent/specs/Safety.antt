@@ -17,7 +17,7 @@ use Rattle.nsi_primitive.specs.declared.entry.Input.{Input}
 use Rattle.capacity_calendar.specs.declared.booking.Lack.{Lack}
 use Rattle.capacity_calendar.specs.declared.booking.Place.{Place}
 use Rattle.capacity_calendar.specs.Lack.{IsFirstAmong}
-use Rattle.capacity_calendar.specs.Plan.{capacity_at, places}
+use Rattle.capacity_calendar.specs.Places.{capacity_at, places}
 use Rattle.connection_record.specs.declared.record.Record.{Record}
 use Rattle.connection_record.specs.Demand.{load}
 use Rattle.connection_record.specs.Replies.{plain, confirmation, id_or}

@@ -7,7 +7,8 @@ use Rattle.connection_record.specs.Replies.{Moved}
 use Rattle.capacity_calendar.specs.declared.booking.Booking.{Booking}
 use Rattle.capacity_calendar.specs.Plan.{committed_of, pending_of, HasNoneFrom}
 use Rattle.connection_record.specs.Demand.{last, held, holds_pending}
-use Rattle.connection_record.specs.Later.{saved_of, IsLater}
+use Rattle.connection_record.specs.Later.{IsLater}
+use Rattle.connection_record.specs.Saved.{saved_of}
 use Rattle.connection_record.specs.Moves.{is_over, is_due}
 use Rattle.connection_record.specs.Refusal.{is_created}
 use Rattle.connection_record.specs.Applied.{end_of, is_told, status_of}

@@ -13,8 +13,10 @@ ghost use Rattle.agent_state.specs.Entries.{most_entries};
 ghost use Rattle.provider_agent.specs.Steps.{after, may_take};
 ghost use Rattle.provider_agent.specs.Runs.{after_all};
 ghost use Rattle.provider_agent.specs.Safety.{IsCapped, IsRun, IsSafe};
-ghost use Rattle.provider_agent.specs.Events.{Journal, all_synced, journal_after, batch};
-ghost use Rattle.provider_agent.specs.AgentRuns.{replay, replayed, MayEnter, AreAllowed, IsAgentRun, caused, AreSafe, StaysCaused};
+ghost use Rattle.provider_agent.specs.Events.{all_synced, journal_after, batch};
+ghost use Rattle.provider_agent.specs.Cuts.{Journal};
+ghost use Rattle.provider_agent.specs.AgentRuns.{MayEnter, AreAllowed, IsAgentRun, caused, AreSafe, StaysCaused};
+ghost use Rattle.provider_agent.specs.Replay.{replay, replayed};
 ghost use Rattle.provider_agent.specs.Points.{HasItsCapacities, HasNoOthers, IsWithinTopology, HavePoints};
 
 /// A provider that has taken nothing yet is good, and from a good state every run is safe.

@@ -6,7 +6,7 @@ ghost use Rattle.nsi_primitive.specs.declared.message.Message.{Message as Messag
 ghost use Rattle.message_retry.specs.Retry.{is_waiting};
 ghost use Rattle.stp_topology.specs.Sound.{IsProvider};
 ghost use Rattle.nsi_primitive.specs.Printable.{IsPrintable, IsPrintableInput};
-ghost use Rattle.capacity_calendar.specs.Plan.{capacity_at};
+ghost use Rattle.capacity_calendar.specs.Places.{capacity_at};
 ghost use Rattle.connection_record.specs.Demand.{load};
 ghost use Rattle.provider_agent.specs.Setting.{setting_of, own_stp};
 ghost use Rattle.provider_agent.specs.State.{blank};

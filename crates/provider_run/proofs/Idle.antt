@@ -18,7 +18,8 @@ use Rattle.provider_agent.specs.Others.{lacking}
 use Rattle.provider_agent.specs.State.{State, Stepped, no_record, record_at}
 use Rattle.provider_agent.specs.Steps.{step, works, work_at, is_waiting, after, may_take, waiting_work}
 use Rattle.provider_agent.specs.Runs.{after_all}
-use Rattle.provider_agent.specs.Good.{works_in, works_among, IsGood}
+use Rattle.provider_agent.specs.Good.{IsGood}
+use Rattle.provider_agent.specs.Working.{works_in, works_among}
 use Rattle.provider_agent.proofs.RecordPlaces.{sum_beside, sum_with}
 use Rattle.provider_agent.proofs.WaitingWork.{first_waits, busy_works, worked_less, told_works}
 use Rattle.provider_agent.proofs.GoodAfter.{good_after}

@@ -21,7 +21,7 @@ use Rattle.dataplane_state.specs.Plane.{status, announces}
 use Rattle.message_retry.specs.Taken.{is_taken, with_taken}
 use Rattle.message_retry.specs.Retry.{without}
 use Rattle.capacity_calendar.specs.Lack.{lack_at, first_from, first_lack_by}
-use Rattle.capacity_calendar.specs.Plan.{places}
+use Rattle.capacity_calendar.specs.Places.{places}
 use Rattle.connection_record.specs.declared.record.Record.{Record}
 use Rattle.connection_record.specs.Demand.{demand, load}
 use Rattle.connection_record.specs.Lives.{provision_event, lifecycle_event, provisions, lives}

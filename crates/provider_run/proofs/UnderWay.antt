@@ -8,7 +8,8 @@ use Rattle.provider_agent.specs.Setting.{Setting}
 use Rattle.provider_agent.specs.State.{State, Stepped, Standing}
 use Rattle.provider_agent.specs.Steps.{after, waiting_work}
 use Rattle.provider_agent.specs.Runs.{after_all}
-use Rattle.provider_agent.specs.Good.{works_among, IsGood}
+use Rattle.provider_agent.specs.Good.{IsGood}
+use Rattle.provider_agent.specs.Working.{works_among}
 use Rattle.provider_agent.proofs.GoodAfter.{good_after}
 use Rattle.provider_run.specs.Works.{now_at, all_works}
 use Rattle.provider_run.proofs.Working.{taken_after, work_may, works_none}

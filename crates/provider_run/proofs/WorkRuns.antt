@@ -9,7 +9,8 @@ use Rattle.provider_agent.specs.Steps.{after, may_take, waiting_work}
 use Rattle.provider_agent.specs.Runs.{after_all}
 use Rattle.nsi_primitive.specs.Printable.{IsPrintableInput}
 use Rattle.provider_agent.specs.Safety.{IsRun}
-use Rattle.provider_agent.specs.Good.{works_among, IsGood}
+use Rattle.provider_agent.specs.Good.{IsGood}
+use Rattle.provider_agent.specs.Working.{works_among}
 use Rattle.provider_agent.proofs.GoodAfter.{good_after}
 use Rattle.provider_run.specs.Works.{now_at, works_of, with_works}
 use Rattle.provider_run.proofs.Working.{taken_after, work_may, works_none, works_some}

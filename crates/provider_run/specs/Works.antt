@@ -5,7 +5,7 @@ use Rattle.nsi_primitive.specs.declared.entry.Input.{Input}
 use Rattle.nsi_primitive.specs.declared.state.Machine.{Machine}
 use Rattle.provider_agent.specs.Setting.{Setting}
 use Rattle.provider_agent.specs.State.{State}
-use Rattle.provider_agent.specs.Good.{works_among}
+use Rattle.provider_agent.specs.Working.{works_among}
 use Rattle.provider_agent.specs.Steps.{after, waiting_work}
 
 abbrev pub now_at : State → Input → Entry

@@ -5,7 +5,8 @@ use Rattle.std.proofs.lemmas.List.Elements.{All-nil, All-cons, All-head, All-tai
 use Rattle.nsi_agent.specs.Homes.{Home}
 use Rattle.nsi_primitive.specs.declared.message.Parcel.{Parcel}
 use Rattle.agent_link.specs.Link.{most_parcels}
-use Rattle.agent_node.specs.Doors.{Door, HasMet, others, pushes, clears, lying}
+use Rattle.agent_node.specs.Doors.{Door}
+use Rattle.agent_node.specs.Passing.{HasMet, others, pushes, clears, lying}
 use Rattle.agent_node.proofs.Passing.{pushes_front}
 use Rattle.agent_node.specs.Seat.{Seat}
 use Rattle.agent_node.specs.Turns.{cleared, synced_all, turn_entered, turn_with}

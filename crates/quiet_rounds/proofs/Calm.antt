@@ -9,7 +9,8 @@ use Rattle.nsi_primitive.specs.declared.state.Machine.{Machine}
 use Rattle.nsi_agent.specs.Homes.{Home}
 use Rattle.nsi_agent.specs.Steps.{is_new, waits, work_of, works_left}
 use Rattle.nsi_agent.proofs.Works.{none_is_left}
-use Rattle.agent_node.specs.Doors.{Door, with_parcel, queue_at, others, pushes, come_through, lying, clears}
+use Rattle.agent_node.specs.Doors.{Door, with_parcel, queue_at}
+use Rattle.agent_node.specs.Passing.{others, pushes, come_through, lying, clears}
 use Rattle.agent_node.specs.Seat.{Seat, now_at, enters_now, enters_if, queues}
 use Rattle.agent_node.specs.Turns.{cleared, takes, takes_all, work_then, works_off, worked, syncs_if, synced_all, pushed, turn_entered, turn_with, sync_event}
 use Rattle.agent_node.proofs.Growing.{count, entered_one, takes_all_grow, works_off_grow, worked_grow, worked_none, synced_grow}

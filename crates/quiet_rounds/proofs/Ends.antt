@@ -11,7 +11,8 @@ use Rattle.nsi_primitive.specs.declared.message.Parcel.{Parcel}
 use Rattle.nsi_primitive.specs.declared.state.Machine.{Machine}
 use Rattle.nsi_agent.specs.Homes.{Home}
 use Rattle.nsi_agent.specs.Steps.{is_new, waits, work_of, works_left}
-use Rattle.agent_node.specs.Doors.{Door, HasMet, change_first, other_of, others, with_parcel, queue_at, queue_if, says, says_all}
+use Rattle.agent_node.specs.Doors.{Door, change_first, with_parcel, queue_at}
+use Rattle.agent_node.specs.Passing.{HasMet, other_of, others, queue_if, says, says_all}
 use Rattle.agent_node.specs.Seat.{Seat, enters, enters_now, enters_if, queues}
 use Rattle.agent_node.specs.Turns.{takes, takes_all, work_then, works_off, worked, syncs_if, synced_all, turn_entered}
 use Rattle.agent_node.proofs.Joints.{change_nil, change_here, change_there}

@@ -5,7 +5,8 @@ use Rattle.std.proofs.lemmas.List.Elements.{All-nil, All-cons, All-head, All-tai
 use Rattle.nsi_primitive.specs.declared.entry.Event.{Event}
 use Rattle.nsi_primitive.specs.declared.message.Parcel.{Parcel}
 use Rattle.nsi_agent.specs.Steps.{work_of}
-use Rattle.agent_node.specs.Doors.{Door, HasMet, is_idle, all_idle, lying}
+use Rattle.agent_node.specs.Doors.{Door}
+use Rattle.agent_node.specs.Passing.{HasMet, is_idle, all_idle, lying}
 use Rattle.agent_node.specs.Seat.{Seat}
 use Rattle.agent_node.specs.Acts.{is_quiet}
 use Rattle.agent_node.specs.Turns.{cleared}

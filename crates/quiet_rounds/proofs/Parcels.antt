@@ -3,7 +3,8 @@ use Rattle.std.proofs.Common.{ℕ, zero, suc, ◌+◌, ◌-◌, ◌*◌, ◌≡�
 use Rattle.nsi_primitive.specs.declared.message.Identity.{Identity}
 use Rattle.nsi_primitive.specs.declared.message.Message.{Message}
 use Rattle.nsi_primitive.specs.declared.message.Parcel.{Parcel}
-use Rattle.agent_link.specs.Plans.{Plan, copies, fate_of, passed, let_through}
+use Rattle.agent_link.specs.Plans.{Plan}
+use Rattle.agent_link.specs.Fates.{copies, fate_of, passed, let_through}
 use Rattle.agent_link.specs.declared.plan.Pushed.{Pushed}
 use Rattle.agent_node.specs.Doors.{Door}
 use Rattle.agent_node.proofs.Passing.{pushes_front, through_few}

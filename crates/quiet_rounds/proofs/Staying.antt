@@ -10,7 +10,8 @@ use Rattle.stp_topology.specs.declared.network.Network.{Network}
 use Rattle.nsi_script.specs.declared.script.Act.{Act}
 use Rattle.nsi_agent.specs.Homes.{Home}
 use Rattle.nsi_agent.specs.Told.{told}
-use Rattle.agent_node.specs.Doors.{Door, HasMet, others}
+use Rattle.agent_node.specs.Doors.{Door}
+use Rattle.agent_node.specs.Passing.{HasMet, others}
 use Rattle.agent_node.specs.Seat.{Seat, now_at, enters}
 use Rattle.agent_node.specs.Acts.{overdue, ticked, asked, forced}
 use Rattle.agent_node.specs.Restarts.{drops, reads, reads_past, restarted}

@@ -2,7 +2,8 @@
 use Rattle.std.specs.Prelude.{◌≢◌, ◌≤◌, ℕ, List, length, map}
 use Rattle.std.specs.List.{All, AllPairs, Contains}
 use Rattle.agent_link.specs.Link.{most_parcels}
-use Rattle.agent_node.specs.Doors.{Door, HasMet, others}
+use Rattle.agent_node.specs.Doors.{Door}
+use Rattle.agent_node.specs.Passing.{HasMet, others}
 use Rattle.agent_node.specs.Seat.{Seat}
 use Rattle.nsi_play.specs.Rounds.{Net}
 

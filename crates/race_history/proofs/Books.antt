@@ -16,8 +16,10 @@ use Rattle.provider_agent.specs.Setting.{Setting, setting_of, own_stp}
 use Rattle.provider_agent.specs.State.{State, Stepped, blank}
 use Rattle.provider_agent.specs.Steps.{step, receives, works, forces, ticks, is_waiting, is_forcible, is_for_provider, may_take, after}
 use Rattle.provider_agent.specs.Runs.{after_all}
-use Rattle.provider_agent.specs.Events.{Journal, all_synced, happens}
-use Rattle.provider_agent.specs.AgentRuns.{replayed, MayEnter, IsAllowed, AreAllowed}
+use Rattle.provider_agent.specs.Events.{all_synced, happens}
+use Rattle.provider_agent.specs.Cuts.{Journal}
+use Rattle.provider_agent.specs.AgentRuns.{MayEnter, IsAllowed, AreAllowed}
+use Rattle.provider_agent.specs.Replay.{replayed}
 use Rattle.provider_agent.specs.Good.{IsGood}
 use Rattle.provider_agent.specs.Safety.{IsCapped}
 use Rattle.provider_agent.proofs.GoodAfter.{good_after, good_blank}

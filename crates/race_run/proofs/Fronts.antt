@@ -12,7 +12,7 @@ use Rattle.std.specs.Str.{bytes_eq}
 use Rattle.std.proofs.lemmas.Bool.{true≢false}
 use Rattle.std.proofs.lemmas.Slice.Eq.{bytes_eq-Decides}
 use Rattle.nsi_primitive.specs.declared.entry.Entry.{Entry}
-use Rattle.journal_entry.specs.Entries.{entry_of, entry_spelling}
+use Rattle.journal_entry.specs.Spelling.{entry_of, entry_spelling}
 use Rattle.race_run.specs.declared.item.Item.{Item}
 
 abbrev first_of : Entry → Option (Entry × ℕ) → Entry

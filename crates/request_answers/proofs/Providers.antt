@@ -10,7 +10,7 @@ use Rattle.connection_record.specs.declared.record.Record.{Record}
 use Rattle.connection_record.specs.Applied.{has_work, first_machine, waits, is_provisioning, is_terminating}
 use Rattle.connection_record.specs.Moves.{is_live, is_working}
 use Rattle.agent_state.specs.State.{State, Stepped, AgentState}
-use Rattle.provider_agent.specs.Good.{works_in, works_among}
+use Rattle.provider_agent.specs.Working.{works_in, works_among}
 use Rattle.provider_agent.specs.Setting.{Setting}
 use Rattle.provider_agent.specs.Steps.{step, may_take, after_if, after as provider_after}
 use Rattle.provider_agent.proofs.Counting.{taken_is}

@@ -8,7 +8,7 @@ use Rattle.nsi_primitive.specs.declared.state.Psm.{Psm}
 use Rattle.connection_record.specs.declared.record.Record.{Record}
 use Rattle.connection_record.specs.Applied.{is_terminating}
 use Rattle.connection_record.specs.Demand.{is_terminated}
-use Rattle.connection_record.specs.Speaking.{is_id}
+use Rattle.connection_record.specs.Ids.{is_id}
 
 abbrev pub is_checking : Rsm → Bool
 is_checking Rsm.ReserveChecking = true

@@ -18,7 +18,8 @@ use Rattle.child_connection.specs.declared.state.Sent.{Sent}
 use Rattle.child_connection.specs.Views.{ChildConnection, new_view, open_request}
 use Rattle.child_connection.specs.Asks.{request_about, reserve_for, to_child}
 use Rattle.child_connection.specs.Hearing.{hear}
-use Rattle.child_connection.specs.Laws.{IsSamePlace, AsksKeepThePlace, MessagesKeepThePlace, AsksArePrintable, FirstIsPrintable, ModificationIsPrintable}
+use Rattle.child_connection.specs.Laws.{AsksKeepThePlace, MessagesKeepThePlace, AsksArePrintable, FirstIsPrintable, ModificationIsPrintable}
+use Rattle.child_connection.specs.Places.{IsSamePlace}
 use Rattle.agent_state.specs.declared.parent.View.{View}
 use Rattle.agent_state.specs.State.{AgentState, AgentStepped, stays, counts_agent}
 use Rattle.requester_agent.specs.Queries.{query_for, query_under}

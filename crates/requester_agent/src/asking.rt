@@ -6,7 +6,8 @@ ghost use Rattle.nsi_primitive.specs.declared.kind.Kind.{Kind as K};
 ghost use Rattle.nsi_primitive.specs.declared.ask.AskAnswer.{AskAnswer as Answer};
 ghost use Rattle.child_connection.specs.declared.state.AskFault.{AskFault as Fault};
 ghost use Rattle.child_connection.specs.Views.{ChildConnection as Child, open_request};
-ghost use Rattle.child_connection.specs.Asks.{asks, is_about, to_child, ask_refusal, reserve_refusal};
+ghost use Rattle.child_connection.specs.Asks.{asks, to_child};
+ghost use Rattle.child_connection.specs.Refusals.{is_about, ask_refusal, reserve_refusal};
 ghost use Rattle.child_connection.specs.Later.{saved_of, IsLater};
 ghost use Rattle.requester_agent.specs.Views.{answer_to, refused, sent_as, asks_if_free, asks_if_known, asks_about, service_between, service_if, reserve_of, asks_reserve};
 ghost use Rattle.requester_agent.specs.Step.{IsAsked};
@@ -19,7 +20,7 @@ use nsi_primitive::{AskAnswer, Directionality, Id, Kind, Message, ReserveAsk, Se
 use std::alloc::{AllocError, Global};
 
 /// Asks a view's child about the connection. What is sent waits for its acknowledgement.
-#[tactic(auto, unfolding(crate::specs::Views::asks_if_known, crate::specs::Views::asks_if_free, child_connection::specs::Asks::ask_refusal))]
+#[tactic(auto, unfolding(crate::specs::Views::asks_if_known, crate::specs::Views::asks_if_free, child_connection::specs::Refusals::ask_refusal))]
 pub fn ask_about(
     alloc: Global,
     view: &mut View,
@@ -62,7 +63,7 @@ pub fn ask_reserve(
 }
 
 /// A child whose reservation machine is free is asked to reserve: what is known is modified.
-#[tactic(auto, unfolding(child_connection::specs::Asks::reserve_refusal, child_connection::specs::Views::open_request))]
+#[tactic(auto, unfolding(child_connection::specs::Refusals::reserve_refusal, child_connection::specs::Views::open_request))]
 fn reserve(
     child: &mut ChildConnection,
     parent: &Name,

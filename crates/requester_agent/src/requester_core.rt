@@ -4,7 +4,7 @@ ghost use Rattle.std.specs.Prelude.{◌≡◌, ◌<◌, ◌≤◌, ◌+◌, ◌+
 ghost use Rattle.std.specs.Str.{bytes_eq};
 ghost use Rattle.nsi_primitive.specs.Printable.{IsPrintableInput, ArePointsApart};
 ghost use Rattle.message_retry.specs.Retry.{is_old};
-ghost use Rattle.child_connection.specs.Asks.{is_about};
+ghost use Rattle.child_connection.specs.Refusals.{is_about};
 ghost use Rattle.child_connection.specs.Views.{new_view};
 ghost use Rattle.agent_state.specs.State.{blank_agent};
 ghost use Rattle.requester_agent.specs.Setting.{IsRequester, setting_of};

@@ -3,7 +3,7 @@
 ghost use Rattle.std.specs.Prelude.{◌≡◌, ◌<◌, ◌++◌, ◌∷◌, [], true, None, All, length, map, position, vec_len, vec_capacity, IfSome, OnOk, OnErr};
 ghost use Rattle.std.specs.Str.{bytes_eq};
 ghost use Rattle.message_retry.specs.Retry.{saw};
-ghost use Rattle.child_connection.specs.Asks.{is_about};
+ghost use Rattle.child_connection.specs.Refusals.{is_about};
 ghost use Rattle.child_connection.specs.Views.{new_view};
 ghost use Rattle.requester_agent.specs.Good.{IsApart};
 ghost use Rattle.requester_agent.specs.Step.{IsAskedAt, IsAskedNew};

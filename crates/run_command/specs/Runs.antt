@@ -19,7 +19,7 @@ use Rattle.nsi_world.specs.Runs.{world_after, asks_of, numbered}
 use Rattle.nsi_world.specs.Scripts.{wishes_of}
 use Rattle.nsi_world.specs.Rest.{IsAtRest}
 use Rattle.circuit_laws.specs.Safe.{IsSafeRun}
-use Rattle.end_to_end.specs.Laws.{StandsInEachWorld}
+use Rattle.end_to_end.specs.Stands.{StandsInEachWorld}
 use Rattle.answered_play.specs.Answered.{AnswersAll}
 use Rattle.settled_play.specs.Settled.{LeavesOnlyLost, LoseNothing, GoesOn, IsDone}
 use Rattle.run_totals.specs.Totals.{totals_of}

@@ -22,7 +22,8 @@ use Rattle.requester_agent.specs.Setting.{setting_of as requester_of}
 use Rattle.requester_agent.specs.Steps.{after as requester_after}
 use Rattle.nsi_agent.specs.Homes.{Role, Home, Routes, role_in, home_in}
 use Rattle.nsi_agent.specs.Steps.{after, after_as}
-use Rattle.nsi_agent.specs.Told.{Told, goes_on, told, name_in, HasAsked, Asks, IsSaid, IsSaidAs, IsForIn}
+use Rattle.nsi_agent.specs.Told.{Told, goes_on, told}
+use Rattle.nsi_agent.specs.Said.{name_in, HasAsked, Asks, IsSaid, IsSaidAs, IsForIn}
 use Rattle.nsi_agent.specs.Laws.{WhatIsSaidIsItsOwn, IsNamedAsDeclared}
 use Rattle.nsi_agent.proofs.Telling.{telling_is_in_parts}
 use Rattle.nsi_world.specs.Worlds.{Homes, World, empty}

@@ -16,7 +16,8 @@ use Rattle.agent_state.specs.State.{AgentState, AgentStepped, blank_agent}
 use Rattle.provider_agent.proofs.RecordPlaces.{push_cases}
 use Rattle.nsi_agent.specs.Homes.{Home}
 use Rattle.nsi_agent.specs.Steps.{after, may_take_as}
-use Rattle.nsi_agent.specs.Told.{goes_on, told, IsFor, IsForIn}
+use Rattle.nsi_agent.specs.Told.{goes_on, told}
+use Rattle.nsi_agent.specs.Said.{IsFor, IsForIn}
 use Rattle.nsi_agent.proofs.Staying.{entries_are_taken, others_are_left_out}
 use Rattle.nsi_world.specs.Worlds.{Homes, IsAgent, World, empty}
 use Rattle.nsi_world.specs.Runs.{MayCome, IsInTime, MayHappen, world_after, AreAllowed}

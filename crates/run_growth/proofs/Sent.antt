@@ -15,7 +15,8 @@ use Rattle.stp_topology.specs.declared.network.Network.{Network}
 use Rattle.connection_record.specs.Speaking.{number_of, is_asking, is_noting, is_answering, is_notice_kind}
 use Rattle.child_connection.specs.Holding.{is_reservation}
 use Rattle.nsi_agent.specs.Homes.{Routes, home_in}
-use Rattle.nsi_agent.specs.Told.{told, name_in}
+use Rattle.nsi_agent.specs.Told.{told}
+use Rattle.nsi_agent.specs.Said.{name_in}
 use Rattle.nsi_agent.proofs.OwnMessages.{is_named_as_declared}
 use Rattle.nsi_world.specs.Worlds.{Homes, IsAgent, World, empty, synced_part, said, IsSaidBy, IsSent, IsTo, IsGot}
 use Rattle.nsi_world.specs.Runs.{world_after}

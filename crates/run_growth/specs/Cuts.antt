@@ -1,7 +1,7 @@
 -- What a crash may leave of an agent in a world.
 use Rattle.std.specs.Prelude.{ℕ, take}
 use Rattle.agent_state.specs.State.{AgentState}
-use Rattle.provider_agent.specs.Events.{Journal, IsCut, cut}
+use Rattle.provider_agent.specs.Cuts.{Journal, IsCut, cut}
 use Rattle.nsi_agent.specs.Told.{told}
 use Rattle.nsi_world.specs.Worlds.{Homes, World, synced_part}
 

@@ -1,7 +1,7 @@
 -- What stays of what an agent has.
 use Rattle.std.specs.Prelude.{◌≡◌, ℕ, List, Some, length, take, slice_get}
 use Rattle.connection_record.specs.Later.{IsLater}
-use Rattle.child_connection.specs.Laws.{IsSamePlace}
+use Rattle.child_connection.specs.Places.{IsSamePlace}
 use Rattle.child_connection.specs.Views.{ChildConnection}
 use Rattle.agent_state.specs.declared.parent.View.{View}
 use Rattle.agent_state.specs.State.{AgentState}

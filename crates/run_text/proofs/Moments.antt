@@ -4,7 +4,8 @@ use Rattle.nsi_primitive.specs.declared.entry.Event.{Event}
 use Rattle.nsi_primitive.specs.declared.entry.Happening.{Happening}
 use Rattle.nsi_primitive.specs.declared.entry.Input.{Input}
 use Rattle.nsi_agent.specs.Told.{told}
-use Rattle.trace_reader.specs.Moments.{HappensNow, IsNumbered, IsTimely, asks_behind}
+use Rattle.trace_reader.specs.Moments.{HappensNow, IsNumbered, IsTimely}
+use Rattle.trace_reader.specs.Pasts.{asks_behind}
 use Rattle.nsi_world.specs.Worlds.{Homes, World}
 use Rattle.nsi_world.specs.Runs.{Asked, IsInTime, MayHappen, Wish, asks_by, asks_in, asks_of, happens, numbered}
 

@@ -21,7 +21,8 @@ use Rattle.nsi_agent.proofs.Entering.{entered}
 use Rattle.nsi_agent.proofs.Staying.{left_out_by}
 use Rattle.nsi_agent.proofs.Telling.{waiting_was_caused}
 use Rattle.agent_node.specs.Acts.{is_overdue, overdue, tick_at, ticked}
-use Rattle.agent_node.specs.Doors.{Door, others, says_all, is_queued, is_message, is_idle, all_idle}
+use Rattle.agent_node.specs.Doors.{Door}
+use Rattle.agent_node.specs.Passing.{others, says_all, is_queued, is_message, is_idle, all_idle}
 use Rattle.agent_node.specs.Seat.{Seat, enters}
 use Rattle.agent_node.specs.Openings.{others_of}
 use Rattle.nsi_play.specs.Openings.{Plans}

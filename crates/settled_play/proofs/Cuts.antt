@@ -11,7 +11,7 @@ use Rattle.nsi_agent.specs.Homes.{Home}
 use Rattle.nsi_agent.specs.Steps.{is_new, waits, work_of, works_left}
 use Rattle.nsi_script.specs.declared.script.Act.{Act}
 use Rattle.agent_node.specs.Acts.{asked, forced}
-use Rattle.agent_node.specs.Doors.{lying}
+use Rattle.agent_node.specs.Passing.{lying}
 use Rattle.agent_node.specs.Seat.{Seat, enters, enters_now, enters_if}
 use Rattle.agent_node.specs.Turns.{cleared, takes, takes_all, work_then, works_off, worked, sync_event, syncs_if, turn_entered, turn_with, turned}
 use Rattle.nsi_play.specs.Play.{changes, does, RestartsNone}

@@ -6,7 +6,8 @@ use Rattle.std.proofs.lemmas.List.Elements.{Contains-append_left, Contains-appen
 use Rattle.nsi_primitive.specs.Messages.{identity, addressee}
 use Rattle.nsi_primitive.specs.declared.message.Message.{Message}
 use Rattle.nsi_primitive.specs.declared.message.Parcel.{Parcel}
-use Rattle.agent_node.specs.Doors.{Door, others, change_first, with_parcel, queue_at, queue_if, says, says_all, come_through, lying, is_idle, all_idle, let_through}
+use Rattle.agent_node.specs.Doors.{Door, change_first, with_parcel, queue_at}
+use Rattle.agent_node.specs.Passing.{others, queue_if, says, says_all, come_through, lying, is_idle, all_idle, let_through}
 use Rattle.agent_node.specs.Openings.{empty_door}
 use Rattle.agent_node.proofs.Joints.{change_nil, change_here, change_there, through_nil, through_here, through_there}
 

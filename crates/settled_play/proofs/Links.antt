@@ -15,7 +15,8 @@ use Rattle.stp_topology.specs.Sound.{IsSound, TakesRequests}
 use Rattle.stp_topology.specs.declared.network.AgentKind.{AgentKind}
 use Rattle.stp_topology.specs.declared.network.Network.{Network}
 use Rattle.nsi_agent.specs.Homes.{Home, Routes, AreRoutes, home_in}
-use Rattle.nsi_agent.specs.Told.{told, name_in, AsksFor, HasAsked, Asks, IsSaidAs, IsSaid, IsFor, IsForIn}
+use Rattle.nsi_agent.specs.Told.{told}
+use Rattle.nsi_agent.specs.Said.{name_in, AsksFor, HasAsked, Asks, IsSaidAs, IsSaid, IsFor, IsForIn}
 use Rattle.nsi_agent.specs.Asked.{IsAskedBy}
 use Rattle.nsi_agent.specs.Laws.{WhatIsSaidIsItsOwn}
 use Rattle.nsi_agent.proofs.OwnMessages.{is_named_as_declared}

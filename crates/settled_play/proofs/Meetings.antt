@@ -4,7 +4,8 @@ use Rattle.std.specs.List.{All, Contains}
 use Rattle.std.proofs.lemmas.List.Elements.{All-nil, All-head, All-tail, All-contains}
 use Rattle.nsi_primitive.specs.declared.message.Parcel.{Parcel}
 use Rattle.stp_topology.specs.declared.network.Network.{Network}
-use Rattle.agent_node.specs.Doors.{Door, others, let_through, learns}
+use Rattle.agent_node.specs.Doors.{Door}
+use Rattle.agent_node.specs.Passing.{others, let_through, learns}
 use Rattle.agent_node.specs.Openings.{empty_door}
 use Rattle.agent_node.specs.Seat.{Seat}
 use Rattle.agent_node.specs.Meetings.{met}

@@ -19,7 +19,8 @@ use Rattle.nsi_agent.specs.Told.{told, IsSame, IsSameTo, WasGot}
 use Rattle.nsi_agent.proofs.SeenGot.{seen_was_got}
 use Rattle.nsi_agent.proofs.Telling.{waiting_was_caused}
 use Rattle.nsi_script.specs.declared.script.Act.{Act}
-use Rattle.agent_node.specs.Doors.{Door, others, with_parcel, queue_at, queue_if, says, says_all, passes, pushes, come_through, lying, clears}
+use Rattle.agent_node.specs.Doors.{Door, with_parcel, queue_at}
+use Rattle.agent_node.specs.Passing.{others, queue_if, says, says_all, passes, pushes, come_through, lying, clears}
 use Rattle.agent_node.proofs.Passing.{passes_out, passes_queue}
 use Rattle.agent_node.specs.Openings.{empty_door, others_of}
 use Rattle.agent_node.specs.Seat.{Seat, now_at, enters, enters_if, queues}

@@ -18,7 +18,8 @@ use Rattle.message_retry.specs.Retry.{is_same_identity}
 use Rattle.message_retry.specs.Taken.{is_taken, is_same_request}
 use Rattle.connection_record.specs.Speaking.{one, tally, number_of, is_notice_kind, is_asking, is_noting, is_answering}
 use Rattle.nsi_agent.specs.Homes.{Home}
-use Rattle.nsi_agent.specs.Told.{told, drawer_of}
+use Rattle.nsi_agent.specs.Told.{told}
+use Rattle.nsi_agent.specs.Said.{drawer_of}
 use Rattle.agent_link.specs.declared.plan.How.{How}
 use Rattle.agent_link.specs.declared.plan.ParcelKind.{ParcelKind}
 use Rattle.agent_link.specs.Plans.{Plan, parcel_number}

@@ -9,7 +9,8 @@ use Rattle.nsi_agent.specs.Homes.{Routes, home_in}
 use Rattle.nsi_agent.specs.Told.{goes_on, told}
 use Rattle.nsi_script.specs.declared.script.Act.{Act}
 use Rattle.nsi_script.specs.declared.script.Group.{Group}
-use Rattle.agent_node.specs.Doors.{Door, others}
+use Rattle.agent_node.specs.Doors.{Door}
+use Rattle.agent_node.specs.Passing.{others}
 use Rattle.agent_link.specs.Plans.{Plan}
 use Rattle.agent_node.specs.Openings.{agents, others_of, opened, doors_of, seat_of}
 use Rattle.nsi_play.specs.Openings.{Plans, opening}

@@ -5,11 +5,12 @@ use Rattle.std.proofs.lemmas.Bool.{and_parts}
 use Rattle.std.proofs.lemmas.List.Elements.{Contains-append_left, Contains-append_right}
 use Rattle.nsi_primitive.specs.declared.message.Parcel.{Parcel}
 use Rattle.agent_link.specs.Link.{is_full}
-use Rattle.agent_link.specs.Plans.{Plan, parcel_kind, parcel_number, is_of_kind, is_due, made_how, made_by, fate_of, nearer, passed, copies, comes}
+use Rattle.agent_link.specs.Plans.{Plan, parcel_number}
+use Rattle.agent_link.specs.Fates.{parcel_kind, is_of_kind, is_due, made_how, made_by, fate_of, nearer, passed, copies, comes}
 use Rattle.agent_link.specs.declared.plan.How.{How}
 use Rattle.agent_link.specs.declared.plan.LinkFault.{LinkFault}
 use Rattle.agent_link.specs.declared.plan.Pushed.{Pushed}
-use Rattle.agent_node.specs.Doors.{Passing, passes}
+use Rattle.agent_node.specs.Passing.{Passing, passes}
 use Rattle.settled_play.specs.Settled.{is_loss}
 use Rattle.settled_play.proofs.Finding.{first_there, first_or_later}
 

@@ -6,7 +6,7 @@ use Rattle.nsi_primitive.specs.declared.entry.Entry.{Entry}
 use Rattle.nsi_agent.specs.Homes.{Home}
 use Rattle.nsi_agent.specs.Steps.{work_of}
 use Rattle.agent_node.specs.Acts.{is_quiet}
-use Rattle.agent_node.specs.Doors.{all_idle}
+use Rattle.agent_node.specs.Passing.{all_idle}
 use Rattle.agent_node.specs.Seat.{Seat}
 use Rattle.nsi_play.specs.Rounds.{Net, Homes, is_quiet_in, all_quiet}
 use Rattle.settled_play.proofs.Finding.{none_there, first_or_later}

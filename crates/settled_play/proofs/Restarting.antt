@@ -11,7 +11,8 @@ use Rattle.stp_topology.specs.declared.network.Network.{Network}
 use Rattle.nsi_agent.specs.Homes.{Home, Routes, home_in}
 use Rattle.nsi_agent.specs.Told.{told}
 use Rattle.nsi_agent.proofs.Telling.{waiting_was_caused}
-use Rattle.agent_node.specs.Doors.{Door, others, says_all}
+use Rattle.agent_node.specs.Doors.{Door}
+use Rattle.agent_node.specs.Passing.{others, says_all}
 use Rattle.agent_node.specs.Openings.{others_of}
 use Rattle.agent_node.specs.Restarts.{drops}
 use Rattle.agent_node.specs.Seat.{Seat}

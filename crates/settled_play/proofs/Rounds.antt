@@ -6,7 +6,8 @@ use Rattle.nsi_primitive.specs.declared.entry.Entry.{Entry}
 use Rattle.nsi_primitive.specs.declared.entry.Event.{Event}
 use Rattle.stp_topology.specs.declared.network.Network.{Network}
 use Rattle.nsi_agent.specs.Homes.{Routes, home_in}
-use Rattle.agent_node.specs.Doors.{Door, others}
+use Rattle.agent_node.specs.Doors.{Door}
+use Rattle.agent_node.specs.Passing.{others}
 use Rattle.agent_node.specs.Openings.{agents}
 use Rattle.agent_node.specs.Seat.{Seat}
 use Rattle.nsi_play.specs.Play.{ticked_in}

@@ -15,7 +15,8 @@ use Rattle.nsi_agent.specs.Homes.{Home, Routes, home_in}
 use Rattle.nsi_agent.specs.Steps.{after}
 use Rattle.nsi_agent.specs.Told.{Told, goes_on, told, WasGot}
 use Rattle.nsi_agent.proofs.Telling.{telling_is_in_parts}
-use Rattle.agent_node.specs.Doors.{Door, others}
+use Rattle.agent_node.specs.Doors.{Door}
+use Rattle.agent_node.specs.Passing.{others}
 use Rattle.agent_node.specs.Seat.{Seat, enters}
 use Rattle.agent_node.specs.Openings.{others_of}
 use Rattle.settled_play.specs.Settled.{WasAcked, IsNoRestart}

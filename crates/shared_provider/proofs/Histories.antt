@@ -11,8 +11,10 @@ use Rattle.agent_state.specs.Entries.{is_on_time, most_entries}
 use Rattle.provider_agent.specs.Setting.{Setting}
 use Rattle.provider_agent.specs.State.{State, Stepped, blank}
 use Rattle.provider_agent.specs.Steps.{is_for_provider, may_take, after}
-use Rattle.provider_agent.specs.Events.{Journal, all_synced, happens, journal_after}
-use Rattle.provider_agent.specs.AgentRuns.{replayed, MayEnter, IsAllowed, AreAllowed, IsOfAgentRun}
+use Rattle.provider_agent.specs.Events.{all_synced, happens, journal_after}
+use Rattle.provider_agent.specs.Cuts.{Journal}
+use Rattle.provider_agent.specs.AgentRuns.{MayEnter, IsAllowed, AreAllowed, IsOfAgentRun}
+use Rattle.provider_agent.specs.Replay.{replayed}
 use Rattle.provider_agent.proofs.Counting.{taken_is, step_taken}
 use Rattle.provider_agent.proofs.EventsSafe.{journal_after_append}
 use Rattle.provider_agent.proofs.Entering.{replayed_one, allowed_append}

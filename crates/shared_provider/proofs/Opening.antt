@@ -11,7 +11,7 @@ use Rattle.provider_agent.specs.Setting.{Setting, setting_of}
 use Rattle.provider_agent.specs.State.{blank}
 use Rattle.provider_agent.specs.Runs.{after_all}
 use Rattle.provider_agent.specs.Events.{journal_after}
-use Rattle.provider_agent.specs.AgentRuns.{replayed}
+use Rattle.provider_agent.specs.Replay.{replayed}
 use Rattle.shared_provider.specs.History.{journal_of, IsHistory}
 use Rattle.shared_provider.specs.Book.{fresh}
 use Rattle.shared_provider.specs.Sound.{Keeps, IsSound}

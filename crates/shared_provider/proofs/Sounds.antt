@@ -11,10 +11,11 @@ use Rattle.stp_topology.specs.declared.network.Network.{Network}
 use Rattle.provider_agent.specs.Setting.{Setting, setting_of, own_stp}
 use Rattle.provider_agent.specs.State.{State}
 use Rattle.provider_agent.specs.Steps.{after}
-use Rattle.provider_agent.specs.AgentRuns.{replayed}
+use Rattle.provider_agent.specs.Replay.{replayed}
 use Rattle.provider_agent.specs.Safety.{IsCapped}
 use Rattle.provider_agent.specs.Good.{IsGood}
-use Rattle.provider_agent.specs.Events.{Journal, happens, synced_part}
+use Rattle.provider_agent.specs.Events.{happens, synced_part}
+use Rattle.provider_agent.specs.Cuts.{Journal}
 use Rattle.shared_provider.specs.History.{journal_of, IsHistory}
 use Rattle.shared_provider.specs.Book.{Book, Held, counted, steps, enter, sync, with_entry, entered, closed, IsOpen, IsRead, Recovers, IsBook}
 use Rattle.shared_provider.specs.Asked.{MayBeAsked}

@@ -11,7 +11,7 @@ use Rattle.provider_agent.specs.State.{State, Stepped, blank}
 use Rattle.provider_agent.specs.Steps.{after}
 use Rattle.provider_agent.specs.Safety.{IsCapped}
 use Rattle.provider_agent.specs.Events.{synced_part}
-use Rattle.provider_agent.specs.AgentRuns.{replayed}
+use Rattle.provider_agent.specs.Replay.{replayed}
 use Rattle.agent_state.specs.Entries.{most_entries}
 use Rattle.shared_provider.specs.History.{journal_of, IsHistory}
 

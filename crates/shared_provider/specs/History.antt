@@ -4,7 +4,8 @@ use Rattle.std.specs.List.{All}
 use Rattle.nsi_primitive.specs.declared.entry.Event.{Event}
 use Rattle.nsi_primitive.specs.declared.entry.Happening.{Happening}
 use Rattle.provider_agent.specs.Setting.{Setting}
-use Rattle.provider_agent.specs.Events.{Journal, all_synced, happens, journal_after}
+use Rattle.provider_agent.specs.Events.{all_synced, happens, journal_after}
+use Rattle.provider_agent.specs.Cuts.{Journal}
 use Rattle.provider_agent.specs.AgentRuns.{IsAgentRun}
 
 abbrev pub what_of : Event → Happening

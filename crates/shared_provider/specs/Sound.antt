@@ -6,7 +6,7 @@ use Rattle.nsi_disk.specs.Disk.{History, Meter, MayLeave}
 use Rattle.journal_entry.specs.Journal.{Kept}
 use Rattle.agent_state.specs.Entries.{most_entries}
 use Rattle.provider_agent.specs.Setting.{Setting, setting_of, own_stp}
-use Rattle.provider_agent.specs.AgentRuns.{replayed}
+use Rattle.provider_agent.specs.Replay.{replayed}
 use Rattle.shared_provider.specs.declared.register.Register.{Register}
 use Rattle.shared_provider.specs.declared.reply.BookFault.{BookFault}
 use Rattle.shared_provider.specs.declared.reply.BookFault.TheVariants.{DiskFault, Closed, Full, NoMemory}

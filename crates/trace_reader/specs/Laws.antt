@@ -14,7 +14,8 @@ use Rattle.stp_topology.specs.Network.{agent_of, name_of}
 use Rattle.stp_topology.specs.declared.network.Network.{Network}
 use Rattle.stp_topology.specs.Text.{topology_of}
 use Rattle.trace_text.specs.Lines.{HasLine, line_of, text_of}
-use Rattle.trace_reader.specs.Moments.{IsOfMoment, Past, clocks, past_behind}
+use Rattle.trace_reader.specs.Moments.{IsOfMoment}
+use Rattle.trace_reader.specs.Pasts.{Past, clocks, past_behind}
 
 -- the texts of asks, messages and acknowledgements are read as what they are written for
 pub record AreTextsReadAgain : Type 0 where

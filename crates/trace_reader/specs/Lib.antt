@@ -1,4 +1,5 @@
 pub mod Faults
 pub mod Laws
+pub mod Pasts
 pub mod Moments
 pub mod Reading

@@ -7,7 +7,8 @@ ghost use Rattle.nsi_primitive.specs.Ranges.{IsRangedEvent};
 ghost use Rattle.nsi_primitive.specs.declared.entry.Event.{Event};
 ghost use Rattle.trace_text.specs.Lines.{HasLine};
 ghost use Rattle.trace_reader.specs.Faults.{Gives};
-ghost use Rattle.trace_reader.specs.Moments.{HappensNow, IsOfMoment, IsEventOf, seconds_of};
+ghost use Rattle.trace_reader.specs.Moments.{HappensNow, IsOfMoment, IsEventOf};
+ghost use Rattle.trace_reader.specs.Pasts.{seconds_of};
 ghost use Rattle.trace_reader.specs.Reading.{what_in, event_in};
 
 use crate::fault::EventFault;

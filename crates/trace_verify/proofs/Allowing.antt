@@ -11,7 +11,7 @@ use Rattle.stp_topology.specs.Network.{kind_of}
 use Rattle.stp_topology.specs.Sound.{IsSound}
 use Rattle.stp_topology.specs.declared.network.AgentKind.{AgentKind}
 use Rattle.stp_topology.specs.declared.network.Network.{Network}
-use Rattle.trace_reader.specs.Moments.{seconds_of}
+use Rattle.trace_reader.specs.Pasts.{seconds_of}
 use Rattle.agent_state.specs.Entries.{most_entries}
 use Rattle.nsi_agent.specs.Homes.{Routes, AreRoutes, home_in, role_in}
 use Rattle.nsi_agent.specs.Told.{told}

@@ -6,7 +6,7 @@ ghost use Rattle.nsi_primitive.specs.Printable.{IsPrintable, IsPrintableEntry, I
 ghost use Rattle.nsi_primitive.specs.declared.entry.Happening.{Happening as WhatHappens};
 ghost use Rattle.nsi_primitive.specs.declared.entry.Input.{Input as AnInput};
 ghost use Rattle.stp_topology.specs.declared.network.Network.{Network};
-ghost use Rattle.trace_reader.specs.Moments.{seconds_of};
+ghost use Rattle.trace_reader.specs.Pasts.{seconds_of};
 ghost use Rattle.nsi_agent.specs.Homes.{Routes, role_in};
 ghost use Rattle.followed_agent.specs.Kept.{IsKept};
 ghost use Rattle.nsi_world.specs.Worlds.{IsSent, empty};

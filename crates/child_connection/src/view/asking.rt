@@ -6,7 +6,8 @@ ghost use Rattle.std.specs.Str.{bytes_eq};
 ghost use Rattle.nsi_primitive.specs.declared.kind.Kind.{Kind as K};
 ghost use Rattle.nsi_primitive.specs.declared.message.Body.{Body as B};
 ghost use Rattle.child_connection.specs.declared.state.AskFault.{AskFault as Fault};
-ghost use Rattle.child_connection.specs.Asks.{asks, request_about, told_direction, first_reserve, modification, reserve_for, header_to, to_child, is_about, outstanding, ask_refusal, reserve_refusal};
+ghost use Rattle.child_connection.specs.Asks.{asks, request_about, told_direction, first_reserve, modification, reserve_for, header_to, to_child};
+ghost use Rattle.child_connection.specs.Refusals.{is_about, outstanding, ask_refusal, reserve_refusal};
 ghost use Rattle.child_connection.specs.Later.{IsLater};
 
 use super::ChildConnection;
@@ -19,7 +20,7 @@ impl ChildConnection {
     /// Asks the child to reserve from a second up to another, so many Mbps: a first reserve with the service, or without
     /// one a modification of the connection that is known. It is refused while a request of the reservation machine is
     /// unanswered. What is refused, and want of memory, change nothing.
-    #[tactic(auto, unfolding(crate::specs::Asks::reserve_refusal))]
+    #[tactic(auto, unfolding(crate::specs::Refusals::reserve_refusal))]
     pub fn ask_reserve(
         &mut self,
         parent: &Name,
@@ -58,7 +59,7 @@ impl ChildConnection {
     /// Asks the child to commit, to abort, to provision, to release or to terminate. It is refused while the child's id
     /// isn't known, and then while a request of the same machine is unanswered. What is refused, and want of memory,
     /// change nothing.
-    #[tactic(auto, unfolding(crate::specs::Asks::ask_refusal))]
+    #[tactic(auto, unfolding(crate::specs::Refusals::ask_refusal))]
     pub fn ask(&mut self, parent: &Name, correlation: Id, kind: Kind) -> Result<Message, AskFault>
         requires { is_about kind ≡ true }
         ensures refused { IfSome (ask_refusal kind self.old) (λ fault. result ≡ Err fault) }

@@ -1,7 +1,7 @@
 use Rattle.std.proofs.Common.{rules, ◌≡◌, ◌∷◌, subst}
 use Rattle.std.specs.List.{All}
 use Rattle.std.proofs.lemmas.List.Elements.{All-head, All-tail}
-use Rattle.agent_node.specs.Doors.{HasMet}
+use Rattle.agent_node.specs.Passing.{HasMet}
 use Rattle.agent_node.specs.Linked.{door_of, doors}
 use Rattle.agent_node.proofs.links.+begin_rounds.Goals as goal
 

@@ -3,7 +3,7 @@ use Rattle.std.proofs.lemmas.List.{get_or_read}
 use Rattle.nsi_base.specs.declared.flow.Flow.{Flow}
 use Rattle.capacity_calendar.specs.ByPoint.{of_flow, nothing, AreByPoint}
 use Rattle.capacity_calendar.specs.Lack.{or_else}
-use Rattle.capacity_calendar.specs.Plan.{is_same_flow}
+use Rattle.capacity_calendar.specs.Places.{is_same_flow}
 use Rattle.capacity_calendar.proofs.ByPoint.{by_point-pushed}
 use Rattle.capacity_calendar.proofs.capacities.note.Goals as goal
 

@@ -1,6 +1,6 @@
 use Rattle.std.proofs.Common.{◌≡◌, ◌∷◌, take, All}
 use Rattle.std.specs.List.{flat_map}
-use Rattle.journal_entry.specs.Entries.{entry_spelling, IsReadAgain}
+use Rattle.journal_entry.specs.Spelling.{entry_spelling, IsReadAgain}
 use Rattle.journal_entry.proofs.payloads.write_payload.Given as goal
 
 abbrev pub invariant-loop-entry : goal.invariant-loop-entry

@@ -1,7 +1,8 @@
 use Rattle.std.proofs.Common.{◌≡◌, ◌<◌, ◌+◌, ◌∙◌, refl, length, set, get_or, drop, sym, subst, arith}
 use Rattle.std.proofs.lemmas.List.{length-set, get_or_read_under}
 use Rattle.std.proofs.lemmas.List.Elements.{Contains-get_or}
-use Rattle.connection_record.specs.Later.{saved_of, IsLater}
+use Rattle.connection_record.specs.Later.{IsLater}
+use Rattle.connection_record.specs.Saved.{saved_of}
 use Rattle.connection_record.specs.declared.record.Record.{Record}
 use Rattle.provider_agent.specs.State.{no_record, record_at}
 use Rattle.provider_agent.specs.Ticks.{CanGoBack}

@@ -1,6 +1,6 @@
 use Rattle.std.proofs.Common.{sym, ◌∙◌}
 use Rattle.std.proofs.lemmas.Result.{err_from_is_err_and}
-use Rattle.trace_reader.specs.Moments.{seconds_of}
+use Rattle.trace_reader.specs.Pasts.{seconds_of}
 use Rattle.trace_reader.specs.Reading.{event_in}
 use Rattle.trace_reader.proofs.Exact.{none_read, nothing_printed, one_printed, other_printed}
 use Rattle.trace_reader.proofs.reading.read_event.Goals as goal

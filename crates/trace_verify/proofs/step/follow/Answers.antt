@@ -1,5 +1,5 @@
 use Rattle.std.proofs.Common.{ℕ, ◌≡◌, ◌<◌, ◌∙◌, length, ap}
-use Rattle.trace_reader.specs.Moments.{seconds_of}
+use Rattle.trace_reader.specs.Pasts.{seconds_of}
 use Rattle.nsi_agent.specs.Homes.{home_in}
 use Rattle.nsi_world.specs.Runs.{asks_of}
 use Rattle.trace_verify.specs.Traces.{seconds_in, world_of}

@@ -1,5 +1,6 @@
 use Rattle.std.proofs.Common.{◌∙◌, sym, ap, arith}
-use Rattle.agent_link.specs.Plans.{parcel_number, nearer}
+use Rattle.agent_link.specs.Plans.{parcel_number}
+use Rattle.agent_link.specs.Fates.{nearer}
 use Rattle.agent_link.proofs.Nearing.{done_next, rest_next}
 use Rattle.agent_link.proofs.plan.Plan.pass.Goals as goal
 

@@ -1,6 +1,6 @@
 use Rattle.std.proofs.Common.{◌≡◌, take, drop, map}
 use Rattle.nsi_primitive.specs.declared.message.Parcel.{Parcel}
-use Rattle.agent_link.specs.Plans.{parcel_kind, nearer}
+use Rattle.agent_link.specs.Fates.{parcel_kind, nearer}
 use Rattle.agent_link.proofs.plan.Plan.pass.Given as goal
 
 abbrev pub invariant-loop-fault : goal.invariant-loop-fault

@@ -1,6 +1,6 @@
 use Rattle.std.proofs.Common.{◌≡◌, ◌++◌, length}
 use Rattle.std.specs.List.{All}
-use Rattle.agent_node.specs.Doors.{come_through, IsPrintableCome}
+use Rattle.agent_node.specs.Passing.{come_through, IsPrintableCome}
 use Rattle.agent_node.specs.Linked.{door_of}
 use Rattle.agent_node.proofs.links.Link.hand_out.Given as goal
 

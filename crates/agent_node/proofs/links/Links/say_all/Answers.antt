@@ -4,7 +4,8 @@ use Rattle.std.proofs.lemmas.List.Elements.{All-tail}
 use Rattle.nsi_primitive.specs.Printable.{IsPrintable}
 use Rattle.nsi_primitive.specs.declared.message.Message.{Message}
 use Rattle.stp_topology.specs.Network.{agent_of}
-use Rattle.agent_node.specs.Doors.{Door, says_all}
+use Rattle.agent_node.specs.Doors.{Door}
+use Rattle.agent_node.specs.Passing.{says_all}
 use Rattle.agent_node.proofs.Joints.{says_next, same_links_twice}
 use Rattle.agent_node.proofs.links.Links.say_all.Goals as goal
 

@@ -2,7 +2,7 @@ use Rattle.std.proofs.Common.{◌≡◌}
 use Rattle.std.specs.List.{All}
 use Rattle.nsi_primitive.specs.Printable.{IsPrintable}
 use Rattle.stp_topology.specs.Network.{agent_of}
-use Rattle.agent_node.specs.Doors.{says_all}
+use Rattle.agent_node.specs.Passing.{says_all}
 use Rattle.agent_node.specs.Linked.{HasSameLinks}
 use Rattle.agent_node.proofs.links.Links.say_all.Given as goal
 

@@ -2,7 +2,7 @@ use Rattle.std.proofs.Common.{rules, ◌≡◌, [], ◌∷◌, ◌∙◌, ap, sy
 use Rattle.nsi_primitive.specs.declared.message.Parcel.{Parcel}
 use Rattle.agent_link.specs.Link.{OutHalf, pushed, handed_back}
 use Rattle.agent_link.specs.declared.ends.PushFault.{PushFault}
-use Rattle.agent_node.specs.Doors.{passes}
+use Rattle.agent_node.specs.Passing.{passes}
 use Rattle.agent_node.specs.Linked.{passing}
 use Rattle.agent_node.proofs.Pushing.{taken, rest_printable, passes_next, passes_full, passes_none, not_full, was_full}
 use Rattle.agent_node.proofs.queue.Queue.push.Goals as goal

@@ -1,7 +1,7 @@
 use Rattle.std.proofs.Common.{◌≡◌, length}
 use Rattle.std.specs.List.{All}
 use Rattle.nsi_primitive.specs.Printable.{IsPrintableParcel}
-use Rattle.agent_node.specs.Doors.{passes}
+use Rattle.agent_node.specs.Passing.{passes}
 use Rattle.agent_node.proofs.queue.Queue.push.Given as goal
 
 abbrev pub invariant-loop-parcel : goal.invariant-loop-parcel

@@ -4,7 +4,7 @@ use Rattle.std.proofs.lemmas.List.Elements.{All-tail}
 use Rattle.std.proofs.lemmas.Result.{err_from_is_err_and}
 use Rattle.nsi_primitive.specs.declared.message.Parcel.{Parcel}
 use Rattle.nsi_agent.specs.Homes.{home_in}
-use Rattle.agent_node.specs.Doors.{IsPrintableCome}
+use Rattle.agent_node.specs.Passing.{IsPrintableCome}
 use Rattle.agent_node.specs.Kept.{fault_in}
 use Rattle.agent_node.specs.Seated.{Goes}
 use Rattle.agent_node.specs.Turns.{takes, takes_all}

@@ -1,5 +1,5 @@
 use Rattle.std.specs.List.{All}
-use Rattle.agent_node.specs.Doors.{IsPrintableCome}
+use Rattle.agent_node.specs.Passing.{IsPrintableCome}
 use Rattle.agent_node.specs.Turns.{takes_all}
 use Rattle.agent_node.proofs.Stepping.{IsOnWay}
 use Rattle.agent_node.proofs.seated.Core.take_all.Given as goal

@@ -1,7 +1,7 @@
 use Rattle.std.proofs.Common.{rules, ◌≡◌, ◌∙◌, ◌++◌, ◌∷◌, [], ap, sym, subst, ℕ, List, Option, None}
 use Rattle.stp_topology.specs.Network.{agent_of}
 use Rattle.nsi_agent.specs.Homes.{home_in}
-use Rattle.agent_node.specs.Doors.{says_all}
+use Rattle.agent_node.specs.Passing.{says_all}
 use Rattle.agent_node.specs.Restarts.{restart_event, tells_restart}
 use Rattle.agent_node.specs.Seat.{Seat}
 use Rattle.agent_node.specs.Seated.{Seated, AtSeat}

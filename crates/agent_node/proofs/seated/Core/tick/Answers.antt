@@ -1,7 +1,7 @@
 use Rattle.std.proofs.Common.{rules, ◌≡◌, ◌∙◌, ap, sym, List, Option, ℕ}
 use Rattle.stp_topology.specs.Network.{agent_of}
 use Rattle.nsi_agent.specs.Homes.{home_in}
-use Rattle.agent_node.specs.Doors.{says_all}
+use Rattle.agent_node.specs.Passing.{says_all}
 use Rattle.agent_node.specs.Seated.{Seated}
 use Rattle.agent_node.proofs.Entering.{seat_by}
 use Rattle.agent_node.proofs.Filtering.{ticked_is}

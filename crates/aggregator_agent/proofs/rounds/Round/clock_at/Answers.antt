@@ -1,7 +1,8 @@
 use Rattle.std.proofs.Common.{◌≡◌, ◌∙◌, set, ap, subst}
 use Rattle.std.specs.Global.{Vec}
 use Rattle.child_connection.specs.Views.{ChildConnection}
-use Rattle.connection_record.specs.Later.{IsLater, saved_of}
+use Rattle.connection_record.specs.Later.{IsLater}
+use Rattle.connection_record.specs.Saved.{saved_of}
 use Rattle.aggregator_agent.specs.Bonds.{Bond, bond, bonds, bond_at, clocked_bond, IsDoneAt}
 use Rattle.aggregator_agent.specs.Undo.{IsFormer}
 use Rattle.aggregator_agent.proofs.Touching.{read_at, kept_at, done_at}

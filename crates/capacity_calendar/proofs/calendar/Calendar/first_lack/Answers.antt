@@ -1,5 +1,5 @@
 use Rattle.std.proofs.Common.{sym}
-use Rattle.capacity_calendar.specs.Plan.{places}
+use Rattle.capacity_calendar.specs.Places.{places}
 use Rattle.capacity_calendar.proofs.Sooner.{first_lack_by-append}
 use Rattle.capacity_calendar.proofs.calendar.Calendar.first_lack.Goals as goal
 

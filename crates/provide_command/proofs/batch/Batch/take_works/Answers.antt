@@ -2,7 +2,8 @@ use Rattle.std.proofs.Common.{◌≡◌, ◌+◌, ◌-◌, ◌∙◌, Some, None
 use Rattle.provider_agent.specs.Setting.{own_stp}
 use Rattle.provider_agent.specs.State.{Standing}
 use Rattle.provider_agent.specs.Steps.{waiting_work}
-use Rattle.provider_agent.specs.Good.{works_among, IsGood}
+use Rattle.provider_agent.specs.Good.{IsGood}
+use Rattle.provider_agent.specs.Working.{works_among}
 use Rattle.provider_run.proofs.Idle.{one_less}
 use Rattle.provider_run.proofs.UnderWay.{IsDone, done_where_none, under_way_more, moved, standing_is}
 use Rattle.provide_command.proofs.Batches.{entries_done, entries_more}

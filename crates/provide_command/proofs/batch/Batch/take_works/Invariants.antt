@@ -1,7 +1,7 @@
 use Rattle.std.proofs.Common.{◌≡◌, ◌≤◌, ◌++◌, ◌-◌, All, length}
 use Rattle.nsi_primitive.specs.Printable.{IsPrintable, IsPrintableEntry}
 use Rattle.provider_agent.specs.Setting.{own_stp}
-use Rattle.provider_agent.specs.Good.{works_among}
+use Rattle.provider_agent.specs.Working.{works_among}
 use Rattle.provider_run.specs.Works.{all_works}
 use Rattle.provider_run.proofs.UnderWay.{IsUnderWay}
 use Rattle.provide_command.proofs.batch.Batch.take_works.Given as goal

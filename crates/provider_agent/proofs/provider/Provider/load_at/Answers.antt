@@ -1,6 +1,6 @@
 use Rattle.std.proofs.Common.{◌∙◌, ap}
 use Rattle.connection_record.specs.Demand.{load}
-use Rattle.capacity_calendar.specs.Plan.{capacity_at}
+use Rattle.capacity_calendar.specs.Places.{capacity_at}
 use Rattle.provider_agent.specs.State.{Standing}
 use Rattle.provider_agent.proofs.Loads.{same_load, sums_by}
 use Rattle.provider_agent.proofs.provider.Provider.load_at.Goals as goal

@@ -1,6 +1,7 @@
 use Rattle.std.proofs.Common.{◌≡◌, ◌∙◌, refl, length, set, sym, subst, ap}
 use Rattle.std.proofs.lemmas.List.{get_or_read_under, set-get_or}
-use Rattle.connection_record.specs.Later.{saved_of, IsLater}
+use Rattle.connection_record.specs.Later.{IsLater}
+use Rattle.connection_record.specs.Saved.{saved_of}
 use Rattle.provider_agent.specs.State.{no_record, record_at}
 use Rattle.provider_agent.specs.Ticks.{CanUndo}
 use Rattle.provider_agent.specs.declared.tick.Kept.{Kept}

@@ -1,7 +1,7 @@
 use Rattle.std.proofs.Common.{◌≡◌, All}
 use Rattle.nsi_primitive.specs.Printable.{IsPrintable}
 use Rattle.provider_agent.specs.Setting.{own_stp}
-use Rattle.provider_agent.specs.Good.{works_among}
+use Rattle.provider_agent.specs.Working.{works_among}
 use Rattle.provider_run.proofs.UnderWay.{IsUnderWay}
 use Rattle.provider_run.proofs.works.Run.take_works.Given as goal
 

@@ -1,7 +1,7 @@
 use Rattle.std.proofs.Common.{ℕ, ◌≡◌, ◌<◌, ◌+◌, [], ◌∷◌, length, ap, subst, sym, arith}
 use Rattle.std.proofs.lemmas.List.{length-append}
 use Rattle.nsi_agent.specs.Homes.{home_in}
-use Rattle.trace_reader.specs.Moments.{seconds_of}
+use Rattle.trace_reader.specs.Pasts.{seconds_of}
 use Rattle.trace_verify.specs.Traces.{seconds_in}
 use Rattle.trace_verify.proofs.Allowing.{clock_of, second_more}
 use Rattle.trace_verify.proofs.Coming.{placed}

@@ -1,5 +1,5 @@
 use Rattle.std.proofs.Common.{◌≡◌, ◌<◌, ℕ, length}
-use Rattle.trace_reader.specs.Moments.{seconds_of}
+use Rattle.trace_reader.specs.Pasts.{seconds_of}
 use Rattle.trace_verify.specs.Standing.{Throughout}
 use Rattle.trace_verify.specs.Traces.{seconds_in}
 use Rattle.trace_verify.proofs.follower.Follower.seconds.Given as goal
