@@ -1,6 +1,7 @@
 -- Entries as bytes.
 use Rattle.std.specs.Prelude.{ℕ, List, [], ◌∷◌, ◌==◌, if◌then◌else◌, Option, Some, None, option_map}
 use Rattle.std.specs.Int.{w32, w64}
+use Rattle.nsi_base.specs.Options.{◌>>=◌}
 use Rattle.nsi_base.specs.Range.{greatest_second, greatest_record}
 use Rattle.nsi_primitive.specs.declared.entry.Entry.{Entry}
 use Rattle.nsi_primitive.specs.declared.entry.Input.{Input}
