@@ -9,7 +9,7 @@ use Rattle.message_retry.specs.Retry.{is_waiting}
 use Rattle.nsi_agent.specs.Homes.{Home}
 use Rattle.nsi_agent.specs.Steps.{work_of}
 use Rattle.agent_node.specs.Seat.{Door, Seat, enters, enters_now, says_all}
-pub use Rattle.agent_node.specs.Doors.{is_queued, is_idle, all_idle}
+pub use Rattle.agent_node.specs.Passing.{is_queued, is_idle, all_idle}
 
 -- an ask of its user, which has this number
 abbrev pub asked : Home → ℕ → Ask → Seat → Seat

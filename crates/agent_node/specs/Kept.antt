@@ -8,7 +8,7 @@ use Rattle.agent_link.specs.Link.{Half, OutHalf, Wire}
 use Rattle.agent_link.specs.Plans.{Plan}
 use Rattle.agent_node.specs.declared.fault.TurnFault.{TurnFault}
 use Rattle.agent_node.specs.Passing.{others, plug_to, crossed}
-pub use Rattle.agent_node.specs.Doors.{Plug}
+pub use Rattle.agent_node.specs.Passing.{Plug}
 use Rattle.agent_node.specs.Seated.{Seated}
 use Rattle.agent_node.specs.Seat.{Seat}
 

@@ -11,7 +11,8 @@ use Rattle.agent_state.specs.State.{AgentState, AgentStepped}
 use Rattle.nsi_agent.specs.Homes.{Home}
 use Rattle.nsi_agent.specs.Steps.{after}
 use Rattle.agent_node.specs.Doors.{queue_at}
-pub use Rattle.agent_node.specs.Doors.{Door, change_first, says_all}
+pub use Rattle.agent_node.specs.Doors.{Door, change_first}
+pub use Rattle.agent_node.specs.Passing.{says_all}
 
 -- its number, what it keeps, its synced entries where these are told, how many they are and which stand behind these, what these cause,
 -- what has happened and isn't taken away, and its doors by the others' numbers

@@ -10,7 +10,7 @@ use Rattle.nsi_primitive.specs.declared.state.Machine.{Machine}
 use Rattle.nsi_agent.specs.Homes.{Home}
 use Rattle.nsi_agent.specs.Steps.{is_new, waits, work_of, works_left}
 use Rattle.agent_node.specs.Seat.{Seat, enters_now, enters_if, queues, says_all}
-pub use Rattle.agent_node.specs.Doors.{lying, clears, pushes}
+pub use Rattle.agent_node.specs.Passing.{lying, clears, pushes}
 
 ---- What came
 
