@@ -1,0 +1,9 @@
+pub mod Owing
+pub mod Waiting
+pub mod Serving
+pub mod Hearing
+pub mod Keeping
+pub mod Others
+pub mod Requesters
+pub mod Runs
+pub mod Reached

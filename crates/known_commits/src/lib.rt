@@ -1,0 +1,4 @@
+//! What a requester knows of a commit once it gets the confirmation.
+#![tactic(auto)]
+
+pub mod laws;
