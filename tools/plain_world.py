@@ -1,8 +1,7 @@
 """Topologies, least paths, scripts, nodes and rounds, written from the rules alone; `run` plays an input and writes its trace.
 
 A link's queue and what is under way on it are lists of parcels, ("message", MESSAGE) or ("ack", IDENTITY). Nothing is kept
-on a disk: an agent's journal is the list of its entries. Lines `restart` are played where that is asked for; else they have
-the fault Unbuilt, as in the program.
+on a disk: an agent's journal is the list of its entries. Lines `stop` have the fault Unbuilt, as in the program.
 """
 import re
 
@@ -204,9 +203,8 @@ def read_topology(lines):
 class Script:
     """Groups (second, acts), and what becomes of parcels: (from, to, kind, n) is lost or comes twice."""
 
-    def __init__(self, topology, restarts=False):
+    def __init__(self, topology):
         self.topology = topology
-        self.restarts = restarts
         self.plan = {}
         self.groups = []
         self.asks = 0
@@ -243,8 +241,6 @@ class Script:
 
     def restart(self, agent):
         name(agent)
-        if not self.restarts:
-            raise Fault("Unbuilt")
         self.act(agent, ("provider", "aggregator", "requester"), ("restart",))
 
     def at(self, second):
@@ -294,8 +290,8 @@ class Script:
         return what, label, source, dest, *schedule, *version
 
 
-def read_script(lines, first_line, topology, restarts=False):
-    script = Script(topology, restarts)
+def read_script(lines, first_line, topology):
+    script = Script(topology)
     for place, line in enumerate(lines, first_line):
         try:
             if not is_skipped(line):
@@ -453,8 +449,8 @@ def play(nodes, groups, limit):
     return written, False
 
 
-def run(text, limit=MOST_EVENTS, restarts=False):
-    """The status and the lines that are written, where lines `restart` are played or refused."""
+def run(text, limit=MOST_EVENTS):
+    """The status and the lines that are written."""
     if len(text) > LONGEST_INPUT:
         return STATUS["Long"], ["fault long"]
     lines = lines_of(text)
@@ -463,7 +459,7 @@ def run(text, limit=MOST_EVENTS, restarts=False):
     except Fault as fault:
         return STATUS["BadTopology"], ["fault topology {} {}".format(*fault.args)]
     try:
-        script = read_script(lines[length:], length + 1, topology, restarts)
+        script = read_script(lines[length:], length + 1, topology)
     except Fault as fault:
         return STATUS["BadScript"], ["fault script {} {}".format(*fault.args)]
     written, is_long = play(nodes_of(topology, script), script.groups, limit)

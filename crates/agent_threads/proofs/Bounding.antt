@@ -1,35 +1,83 @@
 -- Agents whose links are bounded stay so, whatever is played with them.
-use Rattle.std.proofs.Common.{ℕ, ◌+◌, ◌<◌, ◌≡◌, Bool, true, false, List, [], ◌∷◌, ◌++◌, refl, sym, ap, ◌∙◌, subst, arith, length, length-append, if◌then◌else◌}
+use Rattle.std.proofs.Common.{map, ℕ, ◌+◌, ◌<◌, ◌≡◌, ◌⊎◌, inl, inr, ap₂, true, false, List, [], ◌∷◌, ◌++◌, refl, sym, ap, ◌∙◌, subst, arith, length, length-append}
 use Rattle.nsi_primitive.specs.declared.entry.Event.{Event}
-use Rattle.nsi_script.specs.declared.script.Group.{Group}
 use Rattle.nsi_play.specs.Rounds.{Net, Homes, round, events_of, all_quiet}
-use Rattle.nsi_play.specs.Play.{Played, over, stopped, settles, plays}
-use Rattle.nsi_play.proofs.Settling.{plays_nil}
-use Rattle.quiet_rounds.specs.Bounded.{IsBounded}
+use Rattle.stp_topology.specs.declared.network.Network.{Network}
+use Rattle.nsi_script.specs.declared.script.Act.{Act}
+use Rattle.nsi_agent.specs.Homes.{Home, Routes, AreRoutes, home_in}
+use Rattle.agent_node.specs.Seat.{Seat}
+use Rattle.agent_node.specs.Restarts.{drops, reads}
+use Rattle.agent_node.specs.Kept.{Kept}
+use Rattle.quiet_rounds.specs.Bounded.{numbers, IsBoundedIn, IsBounded}
+use Rattle.quiet_rounds.proofs.Ends.{HasSameEnds, bare, same_ends, bare_said, bounded_same}
+use Rattle.nsi_primitive.specs.declared.entry.Entry.{Entry}
+use Rattle.nsi_agent.specs.Told.{told}
+use Rattle.agent_node.specs.Doors.{Door}
+use Rattle.agent_threads.specs.Nets.{seats, EachIs, AreOf}
+use Rattle.agent_threads.specs.Made.{DoesAct, RestartsAt}
+use Rattle.agent_threads.proofs.Same.{at_home}
+use Rattle.agent_threads.proofs.Draining.{act_seen}
+use Rattle.std.specs.List.{All}
+use Rattle.std.proofs.lemmas.Bool.{cases_eq, false≢true}
+use Rattle.std.proofs.lemmas.List.Elements.{All-cons, All-head, All-tail}
 use Rattle.quiet_rounds.specs.Left.{left}
-use Rattle.quiet_rounds.specs.Laws.{PlaysKeepBounds, LeftFalls, TellingLeaves}
-use Rattle.agent_threads.specs.Coming.{IsTold, IsBegun, IsSettledBy, IsPlayedBy}
+use Rattle.quiet_rounds.specs.Laws.{StepsKeepBounds, LeftFalls, TellingLeaves}
+use Rattle.agent_threads.specs.Coming.{IsTold}
 
-either_net : (b : Bool) (net : Net) → (if b then over net else stopped net).net ≡ net
-either_net true net = refl
-either_net false net = refl
+---- Restarts
 
-settles_none : (homes : Homes) (net : Net) → (settles 0 homes net).net ≡ net
-unfolding settles
-settles_none homes net = either_net (all_quiet homes net) net
+-- an agent with the same ends of its links
+abbrev SameEnds : Kept → Kept → Type 0
+SameEnds old new = HasSameEnds old.seat new.seat
 
-pub begun_bounded : PlaysKeepBounds → (homes : Homes) (g : Group) (count : ℕ) (x : Net) (events : List Event) (y : Net) → IsBegun homes g count x events y → IsBounded x → IsBounded y
-begun_bounded keep homes g count x events y b h = subst (λ (z : Net). IsBounded z) (sym b.rest) ((keep homes x h).begins g count)
+same_numbers : (xs ys : List Kept) → EachIs SameEnds xs ys → numbers (seats ys) ≡ numbers (seats xs)
+same_numbers [] [] e = refl
+same_numbers [] (y ∷ ys) e = absurd e
+same_numbers (x ∷ xs) [] e = absurd e
+same_numbers (x ∷ xs) (y ∷ ys) e = ap₂ ◌∷◌ e.0.number (same_numbers xs ys e.1)
 
-pub settled_bounded : PlaysKeepBounds → (homes : Homes) (x : Net) (events : List Event) (y : Net) → IsSettledBy homes x events y → IsBounded x → IsBounded y
-settled_bounded keep homes x events y s h =
-    let last : (settles (s.count + 0) homes x).net ≡ y = ap (λ (p : Played). p.net) (s.goes 0) ∙ settles_none homes y in
-    subst (λ (z : Net). IsBounded z) last ((keep homes x h).settles (s.count + 0))
+ends_bounded_in : (ns : List ℕ) (xs ys : List Kept) → EachIs SameEnds xs ys → All (IsBoundedIn ns) (seats xs) → All (IsBoundedIn ns) (seats ys)
+ends_bounded_in ns [] [] e h = h
+ends_bounded_in ns [] (y ∷ ys) e h = absurd e
+ends_bounded_in ns (x ∷ xs) [] e h = absurd e
+ends_bounded_in ns (x ∷ xs) (y ∷ ys) e h =
+    All-cons (IsBoundedIn ns) y.seat (seats ys) (bounded_same ns x.seat y.seat e.0 (All-head (IsBoundedIn ns) x.seat (seats xs) h)) (ends_bounded_in ns xs ys e.1 (All-tail (IsBoundedIn ns) x.seat (seats xs) h))
 
-pub played_bounded : PlaysKeepBounds → (homes : Homes) (done : List Group) (start : Net) (events : List Event) (next : ℕ) (now : Net) → IsPlayedBy homes done start events next now → IsBounded start → IsBounded now
-played_bounded keep homes done start events next now p h =
-    let last : (plays p.count (done ++ []) 0 homes start).net ≡ now = ap (λ (q : Played). q.net) (p.goes [] p.count (omega arith)) ∙ ap (λ (q : Played). q.net) (plays_nil p.count next homes now) in
-    subst (λ (z : Net). IsBounded z) last ((keep homes start h).plays p.count (done ++ []) 0)
+ends_bounded : (xs ys : List Kept) → EachIs SameEnds xs ys → IsBounded (seats xs) → IsBounded (seats ys)
+ends_bounded xs ys e h = subst (λ (ns : List ℕ). All (IsBoundedIn ns) (seats ys)) (sym (same_numbers xs ys e)) (ends_bounded_in (numbers (seats xs)) xs ys e h)
+
+bare_dropped : (ds : List Door) → map bare (map drops ds) ≡ map bare ds
+bare_dropped [] = refl
+bare_dropped (d ∷ ds) = ap (λ (es : List Door). bare d ∷ es) (bare_dropped ds)
+
+same_reads : (h : Home) (es : List Entry) (s : Seat) → HasSameEnds s (reads h 0 es s)
+unfolding reads
+same_reads h es s = record { number = refl; ends = bare_said h.agent_of (told h es).state.base.waiting (map drops s.doors) ∙ bare_dropped s.doors }
+
+restarts_same : (a : ℕ) (xs ys : List Kept) → EachIs (RestartsAt a) xs ys → (t : Network) → AreOf t xs → (routes : Routes) → AreRoutes t routes → EachIs SameEnds xs ys
+restarts_same a [] [] p t o routes r = tt
+restarts_same a [] (y ∷ ys) p t o routes r = absurd p
+restarts_same a (x ∷ xs) [] p t o routes r = absurd p
+restarts_same a (x ∷ xs) (y ∷ ys) p t o routes r = (one (cases_eq x.seat.number a), restarts_same a xs ys p.1 t o.1 routes r)
+  where
+    one : (x.seat.number ≡ a) ⊎ (x.seat.number ≡ a → ⊥) → HasSameEnds x.seat y.seat
+    one (inl e) =
+        let q = (p.0.here e).reread in
+        let h = home_in t routes x.seat.number in
+        subst (λ (s : Seat). HasSameEnds x.seat s) (sym (at_home t x (λ z. y.seat ≡ reads z 0 q.entries x.seat) o.0 q.seat routes r)) (same_reads h q.entries x.seat)
+    one (inr m) = subst (λ (k : Kept). HasSameEnds x.seat k.seat) (sym (p.0.there m)) (same_ends x.seat)
+
+-- an act leaves no link with more than it had
+pub act_bounded : StepsKeepBounds → (act : Act) (n : ℕ) (xs ys : List Kept) → EachIs (DoesAct act n) xs ys → (t : Network) → AreOf t xs → (routes : Routes) → AreRoutes t routes → IsBounded (seats xs) → IsBounded (seats ys)
+act_bounded keep (Act.Ask a ask) n xs ys p t o routes r h =
+    let homes = home_in t routes in
+    subst (λ (net : Net). IsBounded net) (sym (act_seen (Act.Ask a ask) n false xs ys p t o routes r (λ e. absurd (false≢true e)) tt)) ((keep homes (seats xs) h).acts (Act.Ask a ask) n)
+act_bounded keep (Act.Force a k) n xs ys p t o routes r h =
+    let homes = home_in t routes in
+    subst (λ (net : Net). IsBounded net) (sym (act_seen (Act.Force a k) n false xs ys p t o routes r (λ e. absurd (false≢true e)) tt)) ((keep homes (seats xs) h).acts (Act.Force a k) n)
+act_bounded keep (Act.Restart a) n xs ys p t o routes r h = ends_bounded xs ys (restarts_same a xs ys p t o routes r) h
+
+---- Rounds in which nothing happens
 
 no_more : (before own : List Event) → length (before ++ own) ≡ length before → own ≡ []
 no_more before [] h = refl

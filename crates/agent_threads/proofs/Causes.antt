@@ -1,9 +1,19 @@
 -- Why rounds and runs have failed.
-use Rattle.std.proofs.Common.{ℕ, ◌≡◌, List, [], ◌∷◌, inl, inr, refl, sym, subst, arith, Result, Err, IfErr}
-use Rattle.agent_node.specs.Kept.{Kept}
+use Rattle.std.proofs.Common.{ℕ, ◌≡◌, ◌∙◌, Bool, true, List, [], ◌∷◌, inl, inr, refl, sym, ap₂, subst, arith, Result, Ok, Err, IfErr, OnOk}
+use Rattle.stp_topology.specs.declared.network.Network.{Network}
+use Rattle.stp_topology.specs.Network.{name_of}
+use Rattle.agent_node.specs.Kept.{Kept, IsSameAgent}
+use Rattle.agent_node.specs.Reopening.{HasRisen as HasCountRisen}
 use Rattle.agent_threads.specs.declared.fault.RoundFault.{RoundFault}
 use Rattle.agent_threads.specs.declared.fault.RunFault.{RunFault}
-use Rattle.agent_threads.specs.Made.{run_fault, HasRisen, HasFailed, HasCause, HasRunCause, IsOfWriting}
+use Rattle.agent_threads.specs.Made.{run_fault, HasRisen, HasFailed, HasCause, HasRunCause, ShelfCounts, HaveRisen, KeepsShelf, AreUntold, IsOfRestart, IsOfAgent, IsOfWriting}
+use Rattle.agent_threads.specs.Nets.{seats, numbers, EachIs, IsOneOf, AreSame, AreAmong, AreListed}
+use Rattle.agent_threads.specs.Leaving.{StayOwned}
+use Rattle.agent_threads.specs.Promise.{Shows}
+use Rattle.agent_threads.proofs.Same.{still_of, same_agents}
+use Rattle.agent_threads.proofs.Owning.{still_seen}
+use Rattle.nsi_script.specs.declared.script.Act.{Act}
+use Rattle.std.specs.List.{All}
 
 pub same_error : {T E : Type 0} (r : Result T E) (y e k : E) → r ≡ Err y → y ≡ e → r ≡ Err k → e ≡ k
 same_error r y e k p q h = cc
@@ -24,22 +34,28 @@ cause_of (RoundFault.DiskFault a) os ns d s = failed a os ns (d a refl)
 cause_of (RoundFault.Stopped a) os ns d s = failed a os ns (s a refl)
 cause_of RoundFault.NoMemory os ns d s = tt
 
-pub not_disk : (e : RunFault) (a : ℕ) → IsOfWriting e → e ≡ RunFault.DiskFault a → ⊥
-not_disk e a w p = subst IsOfWriting p w
+pub no_agent : (e : RunFault) → IsOfWriting e → IsOfAgent e → ⊥
+no_agent RunFault.Long w a = a
+no_agent RunFault.WriteFault w a = a
+no_agent (RunFault.DiskFault n) w a = w
+no_agent (RunFault.NotAJournal n place) w a = w
+no_agent RunFault.NoMemory w a = a
 
 -- a fault of a write is a count that rose, or want of memory
 pub if_writing : (e : RunFault) (P : Type 0) → IsOfWriting e → (e ≡ RunFault.WriteFault → ⊥) → (e ≡ RunFault.NoMemory → P) → P
 if_writing RunFault.Long P w n m = absurd w
 if_writing RunFault.WriteFault P w n m = absurd (n refl)
 if_writing (RunFault.DiskFault a) P w n m = absurd w
+if_writing (RunFault.NotAJournal a place) P w n m = absurd w
 if_writing RunFault.NoMemory P w n m = m refl
 
 -- a fault of a write has its cause whoever the agents are, and isn't Long
-pub write_cause : (e : RunFault) (ks : List Kept) → IsOfWriting e → HasRunCause e ks
-write_cause RunFault.Long ks w = tt
-write_cause RunFault.WriteFault ks w = tt
-write_cause (RunFault.DiskFault a) ks w = absurd w
-write_cause RunFault.NoMemory ks w = tt
+pub write_cause : (e : RunFault) (acts : List Act) (olds news : List Kept) (c d : ShelfCounts) → IsOfWriting e → HasRunCause acts olds news c d e
+write_cause RunFault.Long acts olds news c d w = tt
+write_cause RunFault.WriteFault acts olds news c d w = tt
+write_cause (RunFault.DiskFault a) acts olds news c d w = absurd w
+write_cause (RunFault.NotAJournal a place) acts olds news c d w = absurd w
+write_cause RunFault.NoMemory acts olds news c d w = tt
 
 pub not_long : (e : RunFault) → IsOfWriting e → e ≡ RunFault.Long → ⊥
 not_long e w p = subst IsOfWriting p w
@@ -50,3 +66,90 @@ was_long RoundFault.Long e = refl
 was_long (RoundFault.DiskFault a) e = absurd (cc)
 was_long (RoundFault.Stopped a) e = absurd (cc)
 was_long RoundFault.NoMemory e = absurd (cc)
+
+---- Who is left
+
+pub among_twice : (xs ys zs : List Kept) → AreAmong xs ys → AreAmong ys zs → AreAmong xs zs
+among_twice xs ys zs p q a h = p a (q a h)
+
+among_by : (ns ms : List ℕ) → ms ≡ ns → (a : ℕ) → IsOneOf a ms → IsOneOf a ns
+among_by ns ms e a h = subst (IsOneOf a) e h
+
+same_numbers : (xs ys : List Kept) → EachIs IsSameAgent xs ys → numbers (seats ys) ≡ numbers (seats xs)
+same_numbers [] [] p = refl
+same_numbers [] (y ∷ ys) p = absurd p
+same_numbers (x ∷ xs) [] p = absurd p
+same_numbers (x ∷ xs) (y ∷ ys) p = ap₂ ◌∷◌ p.0.number (same_numbers xs ys p.1)
+
+pub among_same : (xs ys : List Kept) → EachIs IsSameAgent xs ys → AreAmong xs ys
+among_same xs ys p a h = among_by (numbers (seats xs)) (numbers (seats ys)) (same_numbers xs ys p) a h
+
+---- Restarts
+
+-- a restart isn't too long, and writes nothing
+pub restart_fits : (e : RunFault) → IsOfRestart e → e ≡ RunFault.Long → ⊥
+restart_fits e r p = subst IsOfRestart p r
+
+pub restart_writes : (e : RunFault) → IsOfRestart e → e ≡ RunFault.WriteFault → ⊥
+restart_writes e r p = subst IsOfRestart p r
+
+-- a round's fault, as that of a run
+pub round_cause : (f : RoundFault) (acts : List Act) (olds news : List Kept) (c d : ShelfCounts) → HasCause f news → HasRunCause acts olds news c d (run_fault f)
+round_cause RoundFault.Long acts olds news c d h = tt
+round_cause (RoundFault.DiskFault a) acts olds news c d h = inl h
+round_cause (RoundFault.Stopped a) acts olds news c d h = inl h
+round_cause RoundFault.NoMemory acts olds news c d h = tt
+
+pub round_writes : (f : RoundFault) → run_fault f ≡ RunFault.WriteFault → ⊥
+round_writes RoundFault.Long e = cc
+round_writes (RoundFault.DiskFault a) e = cc
+round_writes (RoundFault.Stopped a) e = cc
+round_writes RoundFault.NoMemory e = cc
+
+-- acts that aren't shown then weren't before, where they are among these
+pub untold_before : (acts more : List Act) (olds mids : List Kept) → AreSame olds mids → StayOwned olds mids → ((b : Bool) → All (Shows b) acts → All (Shows b) more) → AreUntold more mids → AreUntold acts olds
+untold_before acts more olds mids same owned among h t o routes r b w shows = h t (still_of t olds mids same o) routes r b (still_seen t olds mids owned o routes r b w) (among b shows)
+
+-- seen from where the counts were the same
+pub cause_before : (acts more : List Act) (olds mids news : List Kept) (b c d : ShelfCounts) (e : RunFault) → AreSame olds mids → StayOwned olds mids → ((z : Bool) → All (Shows z) acts → All (Shows z) more) → c.faults ≡ b.faults → c.stops ≡ b.stops
+    → HasRunCause more mids news c d e → HasRunCause acts olds news b d e
+cause_before acts more olds mids news b c d RunFault.Long same owned among p q h = tt
+cause_before acts more olds mids news b c d RunFault.WriteFault same owned among p q h = tt
+cause_before acts more olds mids news b c d (RunFault.DiskFault a) same owned among p q (inl h) = inl h
+cause_before acts more olds mids news b c d (RunFault.DiskFault a) same owned among p q (inr h) = inr (among_same olds mids (same_agents olds mids same) a h.0, risen h.1)
+  where
+    risen : HaveRisen c d → HaveRisen b d
+    risen (inl x) = inl (subst (λ (n : ℕ). HasCountRisen n d.faults) p x)
+    risen (inr x) = inr (subst (λ (n : ℕ). HasCountRisen n d.stops) q x)
+cause_before acts more olds mids news b c d (RunFault.NotAJournal a place) same owned among p q h = (
+  among_same olds mids (same_agents olds mids same) a h.0,
+  untold_before acts more olds mids same owned among h.1,
+)
+cause_before acts more olds mids news b c d RunFault.NoMemory same owned among p q h = tt
+
+---- Shelves
+
+-- its counts are the same
+pub shelf_still : {T : Type 0} (b c : ShelfCounts) (r : Result T RunFault) → c.faults ≡ b.faults → c.stops ≡ b.stops → KeepsShelf b c r
+shelf_still b c (Ok x) e f = record { faults = omega (arith, e); stops = omega (arith, f); quiet = e; calm = f }
+shelf_still b c (Err x) e f = record { faults = omega (arith, e); stops = omega (arith, f); quiet = tt; calm = tt }
+
+-- a call has failed, before which its counts were the same
+pub shelf_failed : {S T : Type 0} (b c d : ShelfCounts) (r : Result S RunFault) (q : Result T RunFault) (y : RunFault) → q ≡ Err y → c.faults ≡ b.faults → c.stops ≡ b.stops → KeepsShelf c d r → KeepsShelf b d q
+shelf_failed {S} {T} b c d r q y is e f k = subst (λ (z : Result T RunFault). KeepsShelf b d z) (sym is) (record { faults = let h = k.faults in omega (arith, e, h); stops = let h = k.stops in omega (arith, f, h); quiet = tt; calm = tt })
+
+-- a call that hasn't failed leaves them the same
+pub shelf_quiet : {S : Type 0} (c d : ShelfCounts) (r : Result S RunFault) (x : S) → r ≡ Ok x → KeepsShelf c d r → (d.faults ≡ c.faults) × (d.stops ≡ c.stops)
+shelf_quiet {S} c d r x is k = (subst (λ (z : Result S RunFault). OnOk z (d.faults ≡ c.faults)) is k.quiet, subst (λ (z : Result S RunFault). OnOk z (d.stops ≡ c.stops)) is k.calm)
+
+---- Names
+
+pub listed_stays : (f g : List ℕ → Bool) → ((n : List ℕ) → f n ≡ true → g n ≡ true) → (ks : List Kept) → AreListed f ks → AreListed g ks
+listed_stays f g stays [] l = tt
+listed_stays f g stays (k ∷ ks) l = (stays (name_of k.network k.seat.number) l.0, listed_stays f g stays ks l.1)
+
+pub listed_same : (f : List ℕ → Bool) (xs ys : List Kept) → AreSame xs ys → AreListed f xs → AreListed f ys
+listed_same f [] [] s l = tt
+listed_same f [] (y ∷ ys) s l = absurd s
+listed_same f (x ∷ xs) [] s l = absurd s
+listed_same f (x ∷ xs) (y ∷ ys) s l = (ap₂ (λ (t : Network) (n : ℕ). f (name_of t n)) s.0.network s.0.number ∙ l.0, listed_same f xs ys s.1 l.1)

@@ -19,42 +19,41 @@ use Rattle.agent_node.specs.Kept.{Kept}
 use Rattle.agent_node.specs.Made.{IsTurn}
 use Rattle.nsi_play.specs.Rounds.{Net, events_of, meets_all, met_all}
 use Rattle.run_totals.specs.Totals.{IsOf}
-use Rattle.agent_threads.specs.Nets.{seats, numbers, EachIs, AtHomes, AreUsable, AreSame}
+use Rattle.agent_threads.specs.Nets.{seats, numbers, IsOneOf, EachIs, AtHomes, AreUsable, AreSame}
 use Rattle.agent_threads.specs.Made.{Does, Drained, Stays, HaveRoom}
-use Rattle.agent_threads.specs.Journals.{AreBy, Grows}
-use Rattle.agent_threads.specs.Bounds.{AreUpTo, AreUnder, AreNumbered, AreOfOne, Moves, MovesOn, AreFurther, IsOneOf, AreOneOf, GoOn}
+use Rattle.agent_threads.specs.Bounds.{AreBy, AreUpTo, AreUnder, AreNumbered, AreOfOne, Moves, MovesOn, AreFurther, AreOneOf, GoOn}
 use Rattle.agent_threads.proofs.Same.{at_home, still_of, numbers_same}
 use Rattle.agent_threads.proofs.Moving.{moves_then, turned_moves, meets_move}
-use Rattle.agent_threads.proofs.Growing.{both_none, own_events}
+use Rattle.std.proofs.lemmas.Bool.{false≢true}
 
 -- what is so whichever routes is so, since there are some
-pub anyhow : RoutesExist → (ks : List Kept) (P : Type 0) → AreOfOne ks → AtHomes ks (λ homes. P) → P
+pub anyhow : RoutesExist → (ks : List Kept) (P : Type 0) → AreOfOne ks → AtHomes ks (λ homes tells. P) → P
 anyhow exist ks P one f =
     let r = exist one.network in
-    f one.network one.of r.0 r.1
+    f one.network one.of r.0 r.1 false (λ e. absurd (false≢true e))
 
 pub still_one : (xs ys : List Kept) → AreSame xs ys → AreOfOne xs → AreOfOne ys
 still_one xs ys s one = record { network = one.network; of = still_of one.network xs ys s one.of }
 
 ---- Each agent
 
-pub does_move : (to : ℕ) (f : Home → Seat → Seat) (xs ys : List Kept) → ((h : Home) (s : Seat) → Moves to s (f h s)) → EachIs (Does f) xs ys → AtHomes xs (λ homes. EachIs (MovesOn to) xs ys)
-does_move to f [] [] all p t o routes r = tt
-does_move to f [] (y ∷ ys) all p t o routes r = absurd p
-does_move to f (x ∷ xs) [] all p t o routes r = absurd p
-does_move to f (x ∷ xs) (y ∷ ys) all p t o routes r =
+pub does_move : (to : ℕ) (f : Home → Seat → Seat) (xs ys : List Kept) → ((h : Home) (s : Seat) → Moves to s (f h s)) → EachIs (Does f) xs ys → AtHomes xs (λ homes tells. EachIs (MovesOn to) xs ys)
+does_move to f [] [] all p t o routes r b w = tt
+does_move to f [] (y ∷ ys) all p t o routes r b w = absurd p
+does_move to f (x ∷ xs) [] all p t o routes r b w = absurd p
+does_move to f (x ∷ xs) (y ∷ ys) all p t o routes r b w =
     let h : Home = home_in t routes x.seat.number in
     let is : y.seat ≡ f h x.seat = at_home t x (λ z. y.seat ≡ f z x.seat) o.0 p.0.ok routes r in
-    (subst (λ (u : Seat). Moves to x.seat u) (sym is) (all h x.seat), does_move to f xs ys all p.1 t o.1 routes r)
+    (subst (λ (u : Seat). Moves to x.seat u) (sym is) (all h x.seat), does_move to f xs ys all p.1 t o.1 routes r false (λ e. absurd (false≢true e)))
 
-pub turns_move : (room : ℕ) (xs ys : List Kept) → EachIs (IsTurn room) xs ys → AreUsable ys → AtHomes xs (λ homes. EachIs (MovesOn 0) xs ys)
-turns_move room [] [] e u t o routes r = tt
-turns_move room [] (y ∷ ys) e u t o routes r = absurd e
-turns_move room (x ∷ xs) [] e u t o routes r = absurd e
-turns_move room (x ∷ xs) (y ∷ ys) e u t o routes r =
+pub turns_move : (room : ℕ) (xs ys : List Kept) → EachIs (IsTurn room) xs ys → AreUsable ys → AtHomes xs (λ homes tells. EachIs (MovesOn 0) xs ys)
+turns_move room [] [] e u t o routes r b w = tt
+turns_move room [] (y ∷ ys) e u t o routes r b w = absurd e
+turns_move room (x ∷ xs) [] e u t o routes r b w = absurd e
+turns_move room (x ∷ xs) (y ∷ ys) e u t o routes r b w =
     let h : Home = home_in t routes x.seat.number in
     let is : y.seat ≡ turned h x.seat = at_home t x (λ z. y.fault ≡ None → y.seat ≡ turned z x.seat) o.0 e.0.ok routes r u.0 in
-    (subst (λ (v : Seat). Moves 0 x.seat v) (sym is) (turned_moves 0 h x.seat), turns_move room xs ys e.1 u.1 t o.1 routes r)
+    (subst (λ (v : Seat). Moves 0 x.seat v) (sym is) (turned_moves 0 h x.seat), turns_move room xs ys e.1 u.1 t o.1 routes r false (λ e. absurd (false≢true e)))
 
 meets_all_move : (all : Net) (xs ys : List Kept) → EachIs Stays xs ys → seats ys ≡ map (meets_all all) (seats xs) → EachIs (MovesOn 0) xs ys
 meets_all_move all [] [] e f = tt
@@ -82,7 +81,7 @@ move_twice to (x ∷ xs) (y ∷ ys) (z ∷ zs) p q = (moves_then to x.seat y.sea
 
 by_one : (a : ℕ) (ns : List ℕ) (es : List Event) → AreBy a es → IsOneOf a ns → AreOneOf ns es
 by_one a ns [] p q = tt
-by_one a ns (e ∷ es) p q = (subst (λ (n : ℕ). IsOneOf n ns) (sym p.0) q, by_one a ns es p.1.1 q)
+by_one a ns (e ∷ es) p q = (subst (λ (n : ℕ). IsOneOf n ns) (sym p.0) q, by_one a ns es p.1 q)
 
 one_more : (n : ℕ) (ns : List ℕ) (es : List Event) → AreOneOf ns es → AreOneOf (n ∷ ns) es
 one_more n ns [] p = tt
@@ -92,17 +91,24 @@ one_append : (ns : List ℕ) (es fs : List Event) → AreOneOf ns es → AreOneO
 one_append ns [] fs p q = q
 one_append ns (e ∷ es) fs p q = (p.0, one_append ns es fs p.1 q)
 
+both_none : (xs ys : List Event) → xs ++ ys ≡ [] → (xs ≡ []) × (ys ≡ [])
+both_none [] ys e = (refl, e)
+both_none (x ∷ xs) ys e = absurd (cc)
+
+own_events : (to : ℕ) (x y : Kept) → MovesOn to x y → x.seat.events ≡ [] → AreBy x.seat.number y.seat.events
+own_events to x y m e = subst (AreBy x.seat.number) (sym (m.events ∙ ap (λ (es : List Event). es ++ m.more) e)) m.own
+
 -- what the agents of a net do is theirs
-grown_by : (xs ys : List Kept) → EachIs Grows xs ys → events_of (seats xs) ≡ [] → AreOneOf (numbers (seats xs)) (events_of (seats ys))
-grown_by [] [] e f = tt
-grown_by [] (y ∷ ys) e f = absurd e
-grown_by (x ∷ xs) [] e f = absurd e
-grown_by (x ∷ xs) (y ∷ ys) e f =
+grown_by : (to : ℕ) (xs ys : List Kept) → EachIs (MovesOn to) xs ys → events_of (seats xs) ≡ [] → AreOneOf (numbers (seats xs)) (events_of (seats ys))
+grown_by to [] [] e f = tt
+grown_by to [] (y ∷ ys) e f = absurd e
+grown_by to (x ∷ xs) [] e f = absurd e
+grown_by to (x ∷ xs) (y ∷ ys) e f =
     let q = both_none x.seat.events (events_of (seats xs)) f in
     let ns : List ℕ = numbers (seats xs) in
     one_append (x.seat.number ∷ ns) y.seat.events (events_of (seats ys))
-    (by_one x.seat.number (x.seat.number ∷ ns) y.seat.events (own_events x y e.0 q.0) (inl refl))
-    (one_more x.seat.number ns (events_of (seats ys)) (grown_by xs ys e.1 q.1))
+    (by_one x.seat.number (x.seat.number ∷ ns) y.seat.events (own_events to x y e.0 q.0) (inl refl))
+    (one_more x.seat.number ns (events_of (seats ys)) (grown_by to xs ys e.1 q.1))
 
 further_drained : (to total : ℕ) (xs ys zs : List Kept) → EachIs (MovesOn to) xs ys → EachIs Drained ys zs → length (events_of (seats ys)) ≤ total → AreFurther to total xs zs
 further_drained to total [] [] [] p d h = tt
@@ -123,11 +129,11 @@ further_drained to total (x ∷ xs) (y ∷ ys) (z ∷ zs) p d h =
     )
 
 -- one step of a net, and what it tells
-pub go_on : (to : ℕ) (xs ys zs : List Kept) (before events : List Event) → EachIs Grows xs ys → EachIs (MovesOn to) xs ys → EachIs Drained ys zs → events_of (seats xs) ≡ [] → events ≡ before ++ events_of (seats ys) → GoOn to xs zs before events
-go_on to xs ys zs before events g m d n e = record {
+pub go_on : (to : ℕ) (xs ys zs : List Kept) (before events : List Event) → EachIs (MovesOn to) xs ys → EachIs Drained ys zs → events_of (seats xs) ≡ [] → events ≡ before ++ events_of (seats ys) → GoOn to xs zs before events
+go_on to xs ys zs before events m d n e = record {
   own = events_of (seats ys);
   told = e;
-  by = grown_by xs ys g n;
+  by = grown_by to xs ys m n;
   each = further_drained to (length (events_of (seats ys))) xs ys zs m d (omega arith);
 }
 

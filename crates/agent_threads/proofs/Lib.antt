@@ -1,5 +1,7 @@
 pub mod Places
 pub mod Same
+pub mod Seen
+pub mod Owning
 pub mod Pairs
 pub mod Wires
 pub mod OneMeets
@@ -9,10 +11,8 @@ pub mod Quiet
 pub mod Causes
 pub mod Coming
 pub mod Told
-pub mod Entering
 pub mod Moving
-pub mod Growing
 pub mod Bounding
 pub mod Going
-pub mod Keeping
+pub mod Restarting
 pub mod Leaves

@@ -1,5 +1,5 @@
 -- What an agent takes is an event of its own, and only a tick moves its clock.
-use Rattle.std.proofs.Common.{ℕ, zero, suc, ◌+◌, ◌≤◌, ◌≡◌, ◌==◌, Bool, true, false, cond, List, [], ◌∷◌, refl, sym, ap, subst, arith, length, length-append}
+use Rattle.std.proofs.Common.{ℕ, zero, suc, ◌+◌, ◌≤◌, ◌≡◌, ◌==◌, Bool, true, false, cond, List, [], ◌∷◌, ◌++◌, ◌∙◌, append_assoc, append-nil, refl, sym, ap, subst, arith, length, length-append}
 use Rattle.std.specs.Prelude.{Option, Some, None}
 use Rattle.nsi_primitive.specs.declared.entry.Entry.{Entry}
 use Rattle.nsi_primitive.specs.declared.entry.Event.{Event}
@@ -17,7 +17,8 @@ use Rattle.agent_node.specs.Meetings.{met}
 use Rattle.nsi_script.specs.declared.script.Act.{Act}
 use Rattle.nsi_play.specs.Rounds.{Net, meets_each}
 use Rattle.agent_threads.specs.Made.{tick_to, part_in}
-use Rattle.agent_threads.specs.Bounds.{Moves}
+use Rattle.nsi_play.specs.Play.{RestartsNone}
+use Rattle.agent_threads.specs.Bounds.{AreBy, Moves}
 
 ---- Entries
 
@@ -45,28 +46,40 @@ after_is h s e = by_may (may_take_as h.role s e) refl
 
 ---- Steps
 
--- its state and its events stay
-pub moves_none : (to : ℕ) (s u : Seat) → u.state ≡ s.state → u.events ≡ s.events → Moves to s u
-moves_none to s u e f =
+by_append : (a : ℕ) (xs ys : List Event) → AreBy a xs → AreBy a ys → AreBy a (xs ++ ys)
+by_append a [] ys p q = q
+by_append a (x ∷ xs) ys p q = (p.0, by_append a xs ys p.1 q)
+
+-- its number, its state and its events stay
+pub moves_none : (to : ℕ) (s u : Seat) → u.number ≡ s.number → u.state ≡ s.state → u.events ≡ s.events → Moves to s u
+moves_none to s u n e f =
     let taken : u.state.base.taken ≡ s.state.base.taken = ap (λ (x : AgentState). x.base.taken) e in
     let now : u.state.base.now ≡ s.state.base.now = ap (λ (x : AgentState). x.base.now) e in
     record {
+      number = n;
+      more = [];
+      events = f ∙ sym (append-nil s.events);
+      own = tt;
       taken = omega (arith, taken, ap length f);
       clock = λ second p q. omega (arith, now, q);
     }
 
 pub moves_self : (to : ℕ) (s : Seat) → Moves to s s
-moves_self to s = moves_none to s s refl refl
+moves_self to s = moves_none to s s refl refl refl
 
 pub moves_then : (to : ℕ) (s u v : Seat) → Moves to s u → Moves to u v → Moves to s v
 moves_then to s u v p q = record {
+  number = q.number ∙ p.number;
+  more = p.more ++ q.more;
+  events = q.events ∙ (ap (λ (es : List Event). es ++ q.more) p.events ∙ append_assoc s.events p.more q.more);
+  own = by_append s.number p.more q.more p.own (subst (λ (n : ℕ). AreBy n q.more) p.number q.own);
   taken = omega (arith, p.taken, q.taken);
   clock = λ second a b. q.clock second a (p.clock second a b);
 }
 
--- then its state and its events stay
-moves_still : (to : ℕ) (s u v : Seat) → Moves to s u → v.state ≡ u.state → v.events ≡ u.events → Moves to s v
-moves_still to s u v p e f = moves_then to s u v p (moves_none to u v e f)
+-- then they stay
+moves_still : (to : ℕ) (s u v : Seat) → Moves to s u → v.number ≡ u.number → v.state ≡ u.state → v.events ≡ u.events → Moves to s v
+moves_still to s u v p n e f = moves_then to s u v p (moves_none to u v n e f)
 
 moves_one : (to : ℕ) (h : Home) (e : Entry) (s : Seat) → ((second : ℕ) → to ≤ second → s.state.base.now ≤ second → e.second ≤ second) → Moves to s (enters h e s)
 unfolding enters
@@ -74,6 +87,10 @@ moves_one to h e s f =
     let x : Event = entered s.number e (after h s.state e).answer in
     let a = after_is h s.state e in
     record {
+      number = refl;
+      more = x ∷ [];
+      events = refl;
+      own = (refl, tt);
       taken = omega (arith, a.taken, length-append s.events (x ∷ []));
       clock = λ second p q. a.clock second q (f second p q);
     }
@@ -90,7 +107,7 @@ take_moves : (to : ℕ) (h : Home) (from : ℕ) (p : Parcel) (s : Seat) → Move
 unfolding takes
 take_moves to h from (Parcel.Message m) s =
     let u : Seat = enters_if (is_new h s.state m) h (Input.Got m) s in
-    moves_still to s u _ (moves_maybe to (is_new h s.state m) h (Input.Got m) s) refl refl
+    moves_still to s u _ (moves_maybe to (is_new h s.state m) h (Input.Got m) s) refl refl refl
 take_moves to h from (Parcel.Ack i) s = moves_maybe to (waits i s.state) h (Input.Acked i) s
 
 takes_move : (to : ℕ) (h : Home) (xs : List (ℕ × Parcel)) (s : Seat) → Moves to s (takes_all h xs s)
@@ -116,6 +133,10 @@ sync_moves to true h s = moves_self to s
 sync_moves to false h s =
     let x : Event = sync_event s.number (s.synced + length s.fresh) in
     record {
+      number = refl;
+      more = x ∷ [];
+      events = refl;
+      own = (refl, tt);
       taken = omega (arith, length-append s.events (x ∷ []));
       clock = λ second p q. q;
     }
@@ -129,29 +150,29 @@ turned_moves to h s =
     let b : Seat = takes_all h (lying s.doors) a in
     let u : Seat = worked h b in
     let v : Seat = synced_all h u in
-    let first : Moves to s b = moves_then to s a b (moves_none to s a refl refl) (takes_move to h (lying s.doors) a) in
+    let first : Moves to s b = moves_then to s a b (moves_none to s a refl refl refl) (takes_move to h (lying s.doors) a) in
     let made : Moves to s u = moves_then to s b u first (works_move to (works_left h.role b.state) h b) in
     let all : Moves to s v = moves_then to s u v made (sync_moves to (length u.fresh == 0) h u) in
-    moves_still to s v _ all refl refl
+    moves_still to s v _ all refl refl refl
 
 pub tick_moves : (to : ℕ) (h : Home) (s : Seat) → Moves to s (tick_to to h s)
 unfolding ticked
-tick_moves to h s = moves_still to s (enters h (tick_at to) s) _ (moves_one to h (tick_at to) s (λ second p q. p)) refl refl
+tick_moves to h s = moves_still to s (enters h (tick_at to) s) _ (moves_one to h (tick_at to) s (λ second p q. p)) refl refl refl
 
 changes_move : (b : Bool) (u s : Seat) → Moves 0 s u → Moves 0 s (cond b u s)
 changes_move true u s p = p
 changes_move false u s p = moves_self 0 s
 
-pub part_moves : (act : Act) (n : ℕ) (h : Home) (s : Seat) → Moves 0 s (part_in act n h s)
-part_moves (Act.Ask a ask) n h s = changes_move (s.number == a) (asked h n ask s) s (moves_now 0 h (Input.Ask n ask) s)
-part_moves (Act.Force a k) n h s = changes_move (s.number == a) (forced h k s) s (moves_now 0 h (Input.Force k) s)
-part_moves (Act.Restart a) n h s = moves_self 0 s
+pub part_moves : (act : Act) → RestartsNone act → (n : ℕ) (h : Home) (s : Seat) → Moves 0 s (part_in act n h s)
+part_moves (Act.Ask a ask) none n h s = changes_move (s.number == a) (asked h n ask s) s (moves_now 0 h (Input.Ask n ask) s)
+part_moves (Act.Force a k) none n h s = changes_move (s.number == a) (forced h k s) s (moves_now 0 h (Input.Force k) s)
+part_moves (Act.Restart a) none n h s = absurd none
 
 ---- Meetings
 
 met_moves : (to : ℕ) (o s : Seat) → Moves to s (met o s)
 unfolding met
-met_moves to o s = moves_none to s _ refl refl
+met_moves to o s = moves_none to s _ refl refl refl
 
 -- meeting is no event
 pub meets_move : (to : ℕ) (s : Seat) (os : Net) → Moves to s (meets_each s os)

@@ -128,6 +128,3 @@ met_more ss s n d a =
     meets_append s ss s ∙ (meets_later s s ss n ∙ (ap (λ z. meets_each z ss) (met_self s d) ∙ sym (learns_only s.number s ss ss refl n))) in
     map_append (meets_all (ss ++ s ∷ [])) ss s
     ∙ ap₂ (λ (x : Net) (y : Seat). x ++ y ∷ []) (all_append ss s ss n ∙ sym (met_by_all s ss ss n a)) here
-
-pub met_none : met_all [] ≡ []
-met_none = refl

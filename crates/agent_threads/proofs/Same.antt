@@ -1,5 +1,5 @@
 -- The same agents, with the same links.
-use Rattle.std.proofs.Common.{ℕ, zero, suc, ◌<◌, ◌≡◌, List, [], ◌∷◌, refl, sym, ap, ap₂, ◌∙◌, subst, map, length, get_or, arith}
+use Rattle.std.proofs.Common.{ℕ, zero, suc, ◌<◌, ◌≡◌, List, [], ◌∷◌, refl, sym, ap, ap₂, ◌∙◌, subst, length, get_or, arith}
 use Rattle.stp_topology.specs.declared.network.Network.{Network}
 use Rattle.nsi_agent.specs.Homes.{Home, Routes, AreRoutes, home_in}
 use Rattle.agent_node.specs.Passing.{others, plug_to, crossed}
@@ -7,7 +7,7 @@ use Rattle.agent_node.specs.Seat.{Seat}
 use Rattle.agent_node.specs.Kept.{Kept, AreLinked, IsSameAgent}
 use Rattle.agent_node.specs.Made.{AtHome}
 use Rattle.nsi_disk.specs.Disk.{Meter}
-use Rattle.agent_threads.specs.Nets.{seats, numbers, EachIs, AreOf, AtHomes, IsSteady, AreSame, AreCalm, AreUsable, IsAbsent, AreApart, IsLinkedToAll, AreWired, AreNet}
+use Rattle.agent_threads.specs.Nets.{seats, numbers, EachIs, AreOf, IsSteady, AreSame, AreCalm, AreUsable, IsAbsent, AreApart, IsLinkedToAll, AreWired, AreNet}
 use Rattle.agent_threads.specs.Made.{Does, Stays}
 use Rattle.agent_threads.proofs.Places.{each_map}
 
@@ -143,7 +143,7 @@ stays_usable (x ∷ xs) (y ∷ ys) p u = (p.0.fault ∙ u.0, stays_usable xs ys 
 
 ---- Calls that make a function of every seat
 
-does_links : (f : Home → Seat → Seat) (xs ys : List Kept) → EachIs (Does f) xs ys → EachIs KeepsLinks xs ys
+pub does_links : (f : Home → Seat → Seat) (xs ys : List Kept) → EachIs (Does f) xs ys → EachIs KeepsLinks xs ys
 does_links f [] [] p = tt
 does_links f [] (y ∷ ys) p = absurd p
 does_links f (x ∷ xs) [] p = absurd p
@@ -160,13 +160,6 @@ does_net f xs ys p n = links_net xs ys (does_links f xs ys p) (does_usable f xs 
 
 pub does_same : (f : Home → Seat → Seat) (xs ys : List Kept) → EachIs (Does f) xs ys → AreSame xs ys
 does_same f xs ys p = links_same xs ys (does_links f xs ys p)
-
-pub does_seats : (f : Home → Seat → Seat) (xs ys : List Kept) → EachIs (Does f) xs ys → AtHomes xs (λ homes. seats ys ≡ map (λ s. f (homes s.number) s) (seats xs))
-does_seats f [] [] p t o routes r = refl
-does_seats f [] (y ∷ ys) p t o routes r = absurd p
-does_seats f (x ∷ xs) [] p t o routes r = absurd p
-does_seats f (x ∷ xs) (y ∷ ys) p t o routes r =
-    ap₂ ◌∷◌ (at_home t x (λ h. y.seat ≡ f h x.seat) o.0 p.0.ok routes r) (does_seats f xs ys p.1 t o.1 routes r)
 
 pub network_at : (t : Network) (ks : List Kept) (i : ℕ) (d : Kept) → i < length ks → AreOf t ks → (get_or ks i d).network ≡ t
 network_at t [] i d h o = absurd (omega arith)

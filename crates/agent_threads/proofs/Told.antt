@@ -1,5 +1,5 @@
 -- What has been written.
-use Rattle.std.proofs.Common.{ℕ, zero, suc, ◌+◌, ◌<◌, ◌≡◌, List, [], ◌∷◌, ◌++◌, inl, inr, Option, Some, None, Result, Ok, Err, IfSome, refl, sym, ap, ◌∙◌, subst, arith, length, length-append, ◌≤◌, take, drop, append_assoc, append-nil, get_or}
+use Rattle.std.proofs.Common.{Bool, ℕ, zero, suc, ◌+◌, ◌<◌, ◌≡◌, List, [], ◌∷◌, ◌++◌, inl, inr, Option, Some, None, Result, Ok, Err, IfSome, refl, sym, ap, ◌∙◌, subst, arith, length, length-append, ◌≤◌, take, drop, append_assoc, append-nil, get_or}
 use Rattle.std.specs.Result.{OnErr}
 use Rattle.std.proofs.Math.Seq.{take-append-add}
 use Rattle.std.proofs.lemmas.List.{take_all, take_more, drop_more, take-append-drop}
@@ -12,7 +12,7 @@ use Rattle.nsi_script.specs.declared.script.Group.{Group}
 use Rattle.agent_node.specs.Kept.{Kept}
 use Rattle.nsi_play.specs.Rounds.{Net, Homes}
 use Rattle.nsi_play.specs.Play.{asks_among, PassesFrom}
-use Rattle.agent_threads.specs.Nets.{seats, AtHomes, AreSame}
+use Rattle.agent_threads.specs.Nets.{seats_by, AreSame}
 use Rattle.agent_threads.specs.Coming.{IsPlayedBy, IsGroupOver, GroupPasses}
 use Rattle.run_totals.specs.Totals.{plus, totals_of}
 use Rattle.run_totals.specs.declared.totals.Totals.{Totals}
@@ -20,8 +20,13 @@ use Rattle.run_totals.proofs.Appending.{totals_append}
 use Rattle.agent_threads.specs.Reports.{written}
 use Rattle.run_totals.specs.declared.report.Report.{Report}
 use Rattle.agent_threads.specs.declared.report.RunOptions.{RunOptions}
-use Rattle.agent_threads.specs.Promise.{AllCanBeDone, CanBeDone, CanBePlayed, WritesSomeOfGroup, WritesSomeOfPlay}
+use Rattle.agent_threads.specs.Promise.{AllCanBeDone, CanBeDone, CanBePlayed, Shows, AtShown, WritesSomeOfGroup, WritesSomeOfPlay}
+use Rattle.agent_threads.specs.Leaving.{StayOwned}
 use Rattle.agent_threads.proofs.Same.{still_of}
+use Rattle.agent_threads.proofs.Owning.{still_seen}
+use Rattle.nsi_script.specs.Scripts.{acts_of}
+use Rattle.std.specs.List.{All}
+use Rattle.std.proofs.lemmas.List.Elements.{All-nil, All-cons, All-head, All-tail}
 use Rattle.agent_threads.proofs.Coming.{played_more, played_all, play_passes}
 
 pub on_err : {T E : Type 0} (r : Result T E) (P : Type 0) → P → OnErr r P
@@ -72,6 +77,24 @@ more_totals t es fs m n p q = q ∙ (ap (λ z. plus z (totals_of t fs)) p ∙ sy
 
 ---- Groups
 
+shown_first : (b : Bool) (xs ys : List Act) → All (Shows b) (xs ++ ys) → All (Shows b) xs
+shown_first b [] ys s = All-nil (Shows b)
+shown_first b (x ∷ xs) ys s = All-cons (Shows b) x xs (All-head (Shows b) x (xs ++ ys) s) (shown_first b xs ys (All-tail (Shows b) x (xs ++ ys) s))
+
+shown_rest : (b : Bool) (xs ys : List Act) → All (Shows b) (xs ++ ys) → All (Shows b) ys
+shown_rest b [] ys s = s
+shown_rest b (x ∷ xs) ys s = shown_rest b xs ys (All-tail (Shows b) x (xs ++ ys) s)
+
+-- what shows of a script shows of each group
+pub shows_at : (b : Bool) (gs : List Group) (i : ℕ) (d : Group) → i < length gs → All (Shows b) (acts_of gs) → All (Shows b) (get_or gs i d).acts
+shows_at b [] i d h s = absurd (omega arith)
+shows_at b (g ∷ gs) zero d h s = shown_first b g.acts (acts_of gs) s
+shows_at b (g ∷ gs) (suc i) d h s = shows_at b gs i d (omega arith) (shown_rest b g.acts (acts_of gs) s)
+
+-- what shows of acts shows of one of them
+pub shown_one : (todo : List Act) (i : ℕ) (d : Act) → i < length todo → d ≡ get_or todo i d → (b : Bool) → All (Shows b) todo → All (Shows b) (d ∷ [])
+shown_one todo i d h is b shows = All-cons (Shows b) d [] (subst (Shows b) (sym is) (shows i d h)) (All-nil (Shows b))
+
 cut_here : (gs : List Group) (i : ℕ) (d : Group) → i < length gs → take i gs ++ get_or gs i d ∷ drop (i + 1) gs ≡ gs
 cut_here gs i d h = ap (λ zs. take i gs ++ zs) (sym (drop_more gs i d h)) ∙ take-append-drop i gs
 
@@ -94,29 +117,26 @@ pub group_more : (homes : Homes) (script : List Group) (i : ℕ) (d : Group) (st
 group_more homes script i d start events next now own y h p o =
     subst (λ gs. IsPlayedBy homes gs start (events ++ own) (next + asks_among (get_or script i d).acts) y) (sym (take_more script i d h)) (played_more homes (take i script) start events next now (get_or script i d) own y p o)
 
--- what holds at the agents of a moment holds at those of the start
-pub at_start : (starts nows : List Kept) (P : Homes → Type 0) → AreSame starts nows → AtHomes nows P → AtHomes starts P
-at_start starts nows P s f t o routes r = f t (still_of t starts nows s o) routes r
-
 -- what stands where a group wasn't made or wasn't written
-pub some_of_play : (t : Network) (script : List Group) (i : ℕ) (d : Group) (starts nows : List Kept) (events : List Event) (next : ℕ) (options : RunOptions) (old mid new : Option (List ℕ)) → i < length script → AreSame starts nows
-    → AtHomes starts (λ homes. IsPlayedBy homes (take i script) (seats starts) events next (seats nows)) → length events ≤ options.limit → WritesAll old mid (written options.report t events)
+pub some_of_play : (t : Network) (script : List Group) (i : ℕ) (d : Group) (starts nows : List Kept) (events : List Event) (next : ℕ) (options : RunOptions) (old mid new : Option (List ℕ)) → i < length script → AreSame starts nows → StayOwned starts nows
+    → AtShown starts (acts_of script) (λ homes tells. IsPlayedBy homes (take i script) (seats_by tells starts) events next (seats_by tells nows)) → length events ≤ options.limit → WritesAll old mid (written options.report t events)
     → WritesSomeOfGroup t options (length events) (get_or script i d) next nows mid new → WritesSomeOfPlay t options script starts old new
-some_of_play t script i d starts nows events next options old mid new h s p few w (inl e) = (
+some_of_play t script i d starts nows events next options old mid new h s own p few w (inl e) = (
   i,
   events,
-  seats nows,
-  (λ u o routes r. played_all _ (take i script) (seats starts) events next (seats nows) (p u o routes r)),
+  (λ u o routes r b q shows. (seats_by b nows, played_all _ (take i script) (seats_by b starts) events next (seats_by b nows) (p u o routes r b q shows))),
   few,
   writes_front_all options.report t events old new (subst (λ m. WritesAll old m (written options.report t events)) (sym e) w),
 )
-some_of_play t script i d starts nows events next options old mid new h s p few w (inr q) = (
+some_of_play t script i d starts nows events next options old mid new h s own p few w (inr q) = (
   i + 1,
   events ++ q.0,
-  q.1,
-  (λ u o routes r.
-      played_all _ (take (i + 1) script) (seats starts) (events ++ q.0) (next + asks_among (get_or script i d).acts) q.1
-      (group_more _ script i d (seats starts) events next (seats nows) q.0 q.1 h (p u o routes r) (q.2 u (still_of u starts nows s o) routes r))),
+  (λ u o routes r b seen shows. (
+    seats_by b q.1,
+    played_all _ (take (i + 1) script) (seats_by b starts) (events ++ q.0) (next + asks_among (get_or script i d).acts) (seats_by b q.1)
+        (group_more _ script i d (seats_by b starts) events next (seats_by b nows) q.0 (seats_by b q.1) h (p u o routes r b seen shows)
+        (q.2 u (still_of u starts nows s o) routes r b (still_seen u starts nows own o routes r b seen) (shows_at b script i d h shows))),
+  )),
   (let m = q.3 in omega (arith, m, length-append events q.0)),
   writes_front_more options.report t events q.0 old mid new w q.4,
 )

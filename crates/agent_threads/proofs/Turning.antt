@@ -14,9 +14,10 @@ use Rattle.agent_node.specs.Turns.{lying, cleared, takes, takes_all, works_off, 
 use Rattle.agent_node.specs.Meetings.{met}
 use Rattle.agent_node.specs.Kept.{Kept, IsSameAgent}
 use Rattle.agent_node.specs.Made.{IsTurn}
+use Rattle.agent_node.proofs.Pasts.{past_turned}
 use Rattle.nsi_play.specs.Rounds.{Net, Homes, events_of, turned_in, turned_all, meets_each, meets_all, met_all, round}
 use Rattle.agent_threads.specs.declared.fault.RoundFault.{RoundFault}
-use Rattle.agent_threads.specs.Nets.{seats, EachIs, AtHomes, AreUsable}
+use Rattle.agent_threads.specs.Nets.{seats_by, seen, synced_in, EachIs, AtHomes, AreUsable}
 use Rattle.agent_threads.specs.Made.{HasRoom, HaveRoom, or_else, failure_at, stop_at, first_failure, first_stop, fault_of, HasRisen}
 use Rattle.agent_threads.proofs.Places.{each_map}
 use Rattle.agent_threads.proofs.Same.{at_home, KeepsLinks, steady_of}
@@ -32,9 +33,6 @@ room_at room (k ∷ ks) zero d h u = u.0
 room_at room (k ∷ ks) (suc i) d h u = room_at room ks i d (omega arith) u.1
 
 ---- Events aren't lost
-
-grows : Seat → Seat → Type 0
-grows s u = length s.events ≤ length u.events
 
 enters_grow : (h : Home) (e : Entry) (s : Seat) → length s.events ≤ length (enters h e s).events
 unfolding enters
@@ -90,13 +88,6 @@ turns_links room [] [] e u = tt
 turns_links room [] (n ∷ ns) e u = absurd e
 turns_links room (o ∷ os) [] e u = absurd e
 turns_links room (o ∷ os) (n ∷ ns) e u = (record { same = steady_of o n e.0.same (e.0.cause.quiet u.0) (e.0.cause.calm u.0); plugs = e.0.plugs }, turns_links room os ns e.1 u.1)
-
-pub turns_seats : (room : ℕ) (os ns : List Kept) → EachIs (IsTurn room) os ns → AreUsable ns → AtHomes os (λ homes. seats ns ≡ turned_all homes (seats os))
-turns_seats room [] [] e u t o routes r = refl
-turns_seats room [] (n ∷ ns) e u t o routes r = absurd e
-turns_seats room (o ∷ os) [] e u t p routes r = absurd e
-turns_seats room (o ∷ os) (n ∷ ns) e u t p routes r =
-    ap₂ ◌∷◌ (at_home t o (λ h. n.fault ≡ None → n.seat ≡ turned h o.seat) p.0 e.0.ok routes r u.0) (turns_seats room os ns e.1 u.1 t p.1 routes r)
 
 turn_agent : (room : ℕ) (a b : Kept) → IsTurn room a b → IsSameAgent a b
 turn_agent room a b t = t.same
@@ -204,23 +195,28 @@ stopped_first ks a e = ⊎_elim
     (λ q. q)
     (one_of (first_failure ks) (first_stop ks) (RoundFault.Stopped a) e)
 
-failures_long : (room : ℕ) (os ns : List Kept) → EachIs (IsTurn room) os ns → first_failure ns ≡ Some RoundFault.Long → AtHomes os (λ homes. length (events_of (seats os)) + room < length (events_of (turned_all homes (seats os))))
+-- its events are the same whatever is told of its synced entries
+turned_past : (b : Bool) (h : Home) (k : Kept) → (turned h (seen b k)).events ≡ (turned h k.seat).events
+turned_past true h k = ap (λ (s : Seat). s.events) (past_turned (synced_in k.kept) h k.seat)
+turned_past false h k = refl
+
+failures_long : (room : ℕ) (os ns : List Kept) → EachIs (IsTurn room) os ns → first_failure ns ≡ Some RoundFault.Long → AtHomes os (λ homes tells. length (events_of (seats_by tells os)) + room < length (events_of (turned_all homes (seats_by tells os))))
 unfolding first_failure
-failures_long room [] [] e f t o routes r = absurd (cc)
-failures_long room [] (n ∷ ns) e f t o routes r = absurd e
-failures_long room (o ∷ os) [] e f t p routes r = absurd e
-failures_long room (o ∷ os) (n ∷ ns) e f t p routes r =
+failures_long room [] [] e f t o routes r z w = absurd (cc)
+failures_long room [] (n ∷ ns) e f t o routes r z w = absurd e
+failures_long room (o ∷ os) [] e f t p routes r z w = absurd e
+failures_long room (o ∷ os) (n ∷ ns) e f t p routes r z w =
     let homes : Homes = home_in t routes in
-    let a = events_cons o.seat (seats os) in
-    let b = events_cons (turned_in homes o.seat) (turned_all homes (seats os)) in
+    let a = events_cons (seen z o) (seats_by z os) in
+    let b = events_cons (turned_in homes (seen z o)) (turned_all homes (seats_by z os)) in
     ⊎_elim
     (λ q.
     let x = at_home t o (λ h. n.fault ≡ Some TurnFault.Long → length o.seat.events + room < length (turned h o.seat).events) p.0 e.0.long routes r (is_long n.seat.number n.fault q) in
-    let y = events_grow homes (seats os) in
-    omega arith)
+    let y = events_grow homes (seats_by z os) in
+    omega (arith, ap length (turned_past z (homes o.seat.number) o)))
     (λ q.
-    let x = turned_grow (homes o.seat.number) o.seat in
-    let y = failures_long room os ns e.1 q t p.1 routes r in
+    let x = turned_grow (homes o.seat.number) (seen z o) in
+    let y = failures_long room os ns e.1 q t p.1 routes r z (λ told. (w told).1) in
     omega arith)
     (one_of (failure_at n.seat.number n.fault) (first_failure ns) RoundFault.Long f)
 
@@ -250,7 +246,7 @@ stops_risen room a (o ∷ os) (n ∷ ns) e f = ⊎_elim
     (λ q. inr (stops_risen room a os ns e.1 q))
     (one_of (stop_at n.seat.number n.fault) (first_stop ns) (RoundFault.Stopped a) f)
 
-pub turns_long : (room : ℕ) (os ns : List Kept) → EachIs (IsTurn room) os ns → fault_of ns ≡ Some RoundFault.Long → AtHomes os (λ homes. length (events_of (seats os)) + room < length (events_of (turned_all homes (seats os))))
+pub turns_long : (room : ℕ) (os ns : List Kept) → EachIs (IsTurn room) os ns → fault_of ns ≡ Some RoundFault.Long → AtHomes os (λ homes tells. length (events_of (seats_by tells os)) + room < length (events_of (turned_all homes (seats_by tells os))))
 turns_long room os ns e f = failures_long room os ns e (failed_first ns RoundFault.Long (λ x. x) f)
 
 pub turns_disk : (room a : ℕ) (os ns : List Kept) → EachIs (IsTurn room) os ns → fault_of ns ≡ Some (RoundFault.DiskFault a) → HasRisen a os ns

@@ -102,11 +102,11 @@ pub wired_more : (ks : List Kept) (k : Kept) → AreWired ks → IsLinkedToAll k
 wired_more [] k w l = (tt, tt)
 wired_more (x ∷ xs) k w l = (linked_more x xs k w.0 (linked_back k x l.0), wired_more xs k w.1 l.1)
 
-pub each_more : (os ns : List Kept) (o n : Kept) → EachIs Stays os ns → Stays o n → EachIs Stays (os ++ o ∷ []) (ns ++ n ∷ [])
-each_more [] [] o n e s = (s, tt)
-each_more [] (y ∷ ys) o n e s = absurd e
-each_more (x ∷ xs) [] o n e s = absurd e
-each_more (x ∷ xs) (y ∷ ys) o n e s = (e.0, each_more xs ys o n e.1 s)
+pub each_more : (R : Kept → Kept → Type 0) (os ns : List Kept) (o n : Kept) → EachIs R os ns → R o n → EachIs R (os ++ o ∷ []) (ns ++ n ∷ [])
+each_more R [] [] o n e s = (s, tt)
+each_more R [] (y ∷ ys) o n e s = absurd e
+each_more R (x ∷ xs) [] o n e s = absurd e
+each_more R (x ∷ xs) (y ∷ ys) o n e s = (e.0, each_more R xs ys o n e.1 s)
 
 pub plugs_more : (m : ℕ) (ks : List Kept) (k : Kept) → plugs_to m (ks ++ k ∷ []) ≡ plugs_to m ks ++ plug k m ∷ []
 plugs_more m [] k = refl

@@ -1,12 +1,12 @@
 -- How far the agents of a net have come: their clocks, how many entries they took, and whose events were told.
-use Rattle.std.specs.Prelude.{ℕ, ◌+◌, ◌≤◌, ◌<◌, ◌≡◌, ◌⊎◌, List, [], ◌∷◌, ◌++◌, length}
+use Rattle.std.specs.Prelude.{ℕ, ◌+◌, ◌≤◌, ◌<◌, ◌≡◌, List, [], ◌∷◌, ◌++◌, length}
 use Rattle.nsi_primitive.specs.declared.entry.Event.{Event}
 use Rattle.stp_topology.specs.declared.network.Network.{Network}
 use Rattle.agent_node.specs.Seat.{Seat}
 use Rattle.agent_node.specs.Kept.{Kept}
 use Rattle.nsi_play.specs.Rounds.{events_of}
 use Rattle.quiet_rounds.specs.Bounded.{IsBounded}
-use Rattle.agent_threads.specs.Nets.{seats, numbers, EachIs, AreOf}
+use Rattle.agent_threads.specs.Nets.{seats, numbers, EachIs, AreOf, IsOneOf}
 
 ---- How far
 
@@ -41,8 +41,17 @@ pub record AreReady (t : Network) (ks : List Kept) : Type 0 where
 
 ---- Further
 
--- Each entry that it took is an event of its own, and its clock is no further than it was, or than the second.
+-- all are events of this agent
+abbrev pub AreBy : ℕ → List Event → Type 0
+AreBy a [] = Unit {0}
+AreBy a (x ∷ xs) = (x.agent ≡ a) × AreBy a xs
+
+-- More has happened at an agent. Each entry that it took is an event, and its clock is no further than it was, or than the second.
 pub record Moves (to : ℕ) (old new : Seat) : Type 0 where
+  pub number : new.number ≡ old.number
+  pub more : List Event
+  pub events : new.events ≡ old.events ++ more
+  pub own : AreBy old.number more
   pub taken : length old.events + new.state.base.taken ≤ old.state.base.taken + length new.events
   pub clock : (second : ℕ) → to ≤ second → old.state.base.now ≤ second → new.state.base.now ≤ second
 
@@ -58,11 +67,6 @@ abbrev pub AreFurther : (to more : ℕ) (olds news : List Kept) → Type 0
 AreFurther to more olds news = EachIs (IsFurther to more) olds news
 
 ---- Told
-
--- one of these numbers
-abbrev pub IsOneOf : ℕ → List ℕ → Type 0
-IsOneOf a [] = ⊥
-IsOneOf a (n ∷ ns) = (a ≡ n) ⊎ IsOneOf a ns
 
 -- each is an event of one of these agents
 abbrev pub AreOneOf : List ℕ → List Event → Type 0

@@ -3,6 +3,5 @@ pub mod Made
 pub mod Reports
 pub mod Coming
 pub mod Promise
-pub mod Journals
 pub mod Bounds
 pub mod Leaving

@@ -1,10 +1,15 @@
 -- What calls make of the agents of a net.
-use Rattle.std.specs.Prelude.{ℕ, ◌≡◌, ◌+◌, ◌≤◌, ◌<◌, ◌⊎◌, List, [], ◌∷◌, Option, Some, None, Result, Ok, Err}
+use Rattle.std.specs.Prelude.{ℕ, ◌≡◌, ◌+◌, ◌≤◌, ◌<◌, ◌⊎◌, List, [], ◌∷◌, ◌++◌, Option, Some, None, Result, Ok, Err, OnOk}
 use Rattle.agent_state.specs.Entries.{most_entries}
-use Rattle.nsi_agent.specs.Homes.{Home}
+use Rattle.nsi_agent.specs.Homes.{Home, Routes, AreRoutes, home_in}
 use Rattle.agent_node.specs.declared.fault.TurnFault.{TurnFault}
 use Rattle.agent_node.specs.Seat.{Seat}
 use Rattle.agent_node.specs.Acts.{asked, forced, ticked}
+use Rattle.agent_node.specs.Restarts.{restarted}
+use Rattle.agent_node.specs.Reopening.{HasRisen as HasCountRisen, IsReread}
+use Rattle.agent_node.specs.declared.reopen.ReopenFault.{ReopenFault}
+use Rattle.disk_journal.specs.declared.opening.StartCause.{StartCause}
+use Rattle.nsi_disk.specs.declared.shelf.ShelfError.{ShelfError}
 use Rattle.agent_node.specs.Meetings.{met}
 use Rattle.agent_node.specs.Kept.{Kept, IsSameAgent, HasSameJournal}
 use Rattle.agent_node.specs.Made.{AtHome}
@@ -12,6 +17,9 @@ use Rattle.nsi_primitive.specs.declared.ask.Ask.{Ask}
 use Rattle.nsi_script.specs.declared.script.Act.{Act}
 use Rattle.nsi_play.specs.Play.{changes}
 use Rattle.nsi_play.specs.Rounds.{tells}
+use Rattle.agent_threads.specs.Nets.{seats, numbers, IsOneOf, IsOwned}
+use Rattle.agent_threads.specs.Promise.{AtShown}
+use Rattle.agent_threads.specs.Bounds.{MovesOn}
 use Rattle.agent_threads.specs.declared.fault.RoundFault.{RoundFault}
 use Rattle.agent_threads.specs.declared.fault.RunFault.{RunFault}
 
@@ -36,7 +44,23 @@ forces_at a n h s = changes a (forced h n) s
 abbrev pub part_in : Act → ℕ → Home → Seat → Seat
 part_in (Act.Ask a ask) count h s = asks_at a count ask h s
 part_in (Act.Force a n) count h s = forces_at a n h s
-part_in (Act.Restart a) count h s = s
+part_in (Act.Restart a) count h s = changes a (restarted h) s
+
+-- It was made anew from its journal, with which it has taken no more, and its clock is no further.
+pub record IsRestarted (old new : Kept) : Type 0 where
+  pub reread : IsReread old new
+  pub moves : MovesOn 0 old new
+
+-- the agent with that number was restarted, and the others are as they were
+pub record RestartsAt (a : ℕ) (old new : Kept) : Type 0 where
+  pub here : old.seat.number ≡ a → IsRestarted old new
+  pub there : (old.seat.number ≡ a → ⊥) → new ≡ old
+  pub usable : new.fault ≡ None
+
+-- an agent's part in an act was done
+abbrev pub DoesAct : Act → ℕ → Kept → Kept → Type 0
+DoesAct (Act.Restart a) count old new = RestartsAt a old new
+DoesAct act count old new = Does (part_in act count) old new
 
 abbrev pub tells_at : Home → Seat → Seat
 tells_at h s = tells s
@@ -95,7 +119,7 @@ HasRisen a [] ns = ⊥
 HasRisen a (o ∷ os) [] = ⊥
 HasRisen a (o ∷ os) (n ∷ ns) = ((n.seat.number ≡ a) × (o.meter.faults + o.meter.stops < n.meter.faults + n.meter.stops)) ⊎ HasRisen a os ns
 
--- a stop is told as a fault of the disk: the agent isn't restarted
+-- a stop is told as a fault of the disk: the agent isn't restarted behind it
 abbrev pub run_fault : RoundFault → RunFault
 run_fault RoundFault.Long = RunFault.Long
 run_fault (RoundFault.DiskFault a) = RunFault.DiskFault a
@@ -107,17 +131,84 @@ abbrev pub HasFailed : ℕ → List Kept → Type 0
 HasFailed a [] = ⊥
 HasFailed a (k ∷ ks) = ((k.seat.number ≡ a) × (0 < k.meter.faults + k.meter.stops)) ⊎ HasFailed a ks
 
--- why a round that was told so has failed
+-- why a round has failed
 abbrev pub HasCause : RoundFault → List Kept → Type 0
 HasCause RoundFault.Long ks = Unit {0}
 HasCause (RoundFault.DiskFault a) ks = HasFailed a ks
 HasCause (RoundFault.Stopped a) ks = HasFailed a ks
 HasCause RoundFault.NoMemory ks = Unit {0}
 
--- the same of a run
-abbrev pub HasRunCause : RunFault → List Kept → Type 0
-HasRunCause (RunFault.DiskFault a) ks = HasFailed a ks
-HasRunCause _ ks = Unit {0}
+---- Runs
+
+-- why an agent wasn't restarted
+abbrev pub reopen_fault : ℕ → ReopenFault → RunFault
+reopen_fault a (ReopenFault.GivenBack StartCause.DiskFault) = RunFault.DiskFault a
+reopen_fault a (ReopenFault.GivenBack StartCause.Stopped) = RunFault.DiskFault a
+reopen_fault a (ReopenFault.GivenBack (StartCause.NotAJournal place)) = RunFault.NotAJournal a place
+reopen_fault a (ReopenFault.GivenBack StartCause.NoMemory) = RunFault.NoMemory
+reopen_fault a (ReopenFault.Lost ShelfError.Failed) = RunFault.DiskFault a
+reopen_fault a (ReopenFault.Lost ShelfError.NoMemory) = RunFault.NoMemory
+
+-- the counts of where journals are read again
+pub record ShelfCounts : Type 0 where
+  pub faults : ℕ
+  pub stops : ℕ
+
+abbrev pub counted : (faults stops : ℕ) → ShelfCounts
+counted faults stops = record { faults = faults; stops = stops }
+
+-- a count rose, as far as its type reaches
+abbrev pub HaveRisen : ShelfCounts → ShelfCounts → Type 0
+HaveRisen old new = HasCountRisen old.faults new.faults ⊎ HasCountRisen old.stops new.stops
+
+-- the counts don't fall, and rise only where a call fails
+pub record KeepsShelf {T : Type 0} (old new : ShelfCounts) (result : Result T RunFault) : Type 0 where
+  pub faults : old.faults ≤ new.faults
+  pub stops : old.stops ≤ new.stops
+  pub quiet : OnOk result (new.faults ≡ old.faults)
+  pub calm : OnOk result (new.stops ≡ old.stops)
+
+-- these acts aren't shown: an agent is restarted, and not all their journals tell what made them
+abbrev pub AreUntold : List Act → List Kept → Type 0
+AreUntold acts ks = AtShown ks acts (λ homes tells. ⊥)
+
+-- its journal doesn't tell what made it
+abbrev pub IsUntold : Kept → Type 0
+IsUntold k = (routes : Routes) → AreRoutes k.network routes → IsOwned (home_in k.network routes) k → ⊥
+
+-- why an agent wasn't restarted: a count of where its disk went rose, or its journal has no reading, and doesn't tell what made the agent
+abbrev pub HasRestartCause : Kept → (before after : ShelfCounts) → RunFault → Type 0
+HasRestartCause k before after (RunFault.DiskFault a) = (a ≡ k.seat.number) × HaveRisen before after
+HasRestartCause k before after (RunFault.NotAJournal a place) = (a ≡ k.seat.number) × IsUntold k
+HasRestartCause k before after RunFault.NoMemory = Unit {0}
+HasRestartCause k before after _ = ⊥
+
+-- the fault of a restart
+abbrev pub IsOfRestart : RunFault → Type 0
+IsOfRestart RunFault.Long = ⊥
+IsOfRestart RunFault.WriteFault = ⊥
+IsOfRestart _ = Unit {0}
+
+-- behind the others stands an agent that was made of this one
+abbrev pub PutsBack : (Kept → Kept → Type 0) → Kept → (before after : List Kept) → Type 0
+PutsBack R old before after = (new : Kept) × (after ≡ before ++ new ∷ []) × R old new
+
+-- the others are left, and perhaps the agent behind them
+abbrev pub LosesOne : Kept → (before after : List Kept) → Type 0
+LosesOne old before after = (after ≡ before) ⊎ PutsBack IsSameAgent old before after
+
+-- Why acts of these agents have failed, which are those then: a disk of one of them has failed or stopped, or where it went when it was read
+-- again; a journal has no reading, and the acts aren't shown.
+abbrev pub HasRunCause : List Act → (olds news : List Kept) → (before after : ShelfCounts) → RunFault → Type 0
+HasRunCause acts olds news before after (RunFault.DiskFault a) = HasFailed a news ⊎ (IsOneOf a (numbers (seats olds)) × HaveRisen before after)
+HasRunCause acts olds news before after (RunFault.NotAJournal a place) = IsOneOf a (numbers (seats olds)) × AreUntold acts olds
+HasRunCause acts olds news before after _ = Unit {0}
+
+-- a fault that is an agent's
+abbrev pub IsOfAgent : RunFault → Type 0
+IsOfAgent (RunFault.DiskFault a) = Unit {0}
+IsOfAgent (RunFault.NotAJournal a place) = Unit {0}
+IsOfAgent _ = ⊥
 
 -- the fault of a write
 abbrev pub IsOfWriting : RunFault → Type 0

@@ -1,8 +1,12 @@
 -- The agents of a net with their journals and links, as their contracts see them.
-use Rattle.std.specs.Prelude.{ℕ, ◌≡◌, List, [], ◌∷◌, map, Option, None}
+use Rattle.std.specs.Prelude.{ℕ, ◌≡◌, Bool, true, false, List, [], ◌∷◌, ◌++◌, ◌⊎◌, map, Option, Some, None}
+use Rattle.nsi_primitive.specs.declared.entry.Entry.{Entry}
 use Rattle.stp_topology.specs.declared.network.Network.{Network}
 use Rattle.agent_link.specs.Link.{Wire}
+use Rattle.journal_entry.specs.Journal.{Kept as Journaled}
+use Rattle.stp_topology.specs.Network.{name_of}
 use Rattle.nsi_agent.specs.Homes.{Routes, AreRoutes, home_in}
+use Rattle.nsi_agent.specs.Told.{told}
 use Rattle.agent_node.specs.Passing.{others}
 use Rattle.agent_node.specs.Seat.{Seat}
 use Rattle.agent_node.specs.Kept.{Kept, plug, AreLinked}
@@ -21,6 +25,32 @@ EachIs R [] (n ∷ ns) = ⊥
 EachIs R (o ∷ os) [] = ⊥
 EachIs R (o ∷ os) (n ∷ ns) = R o n × EachIs R os ns
 
+---- What journals tell
+
+-- the entries that a journal tells as synced
+abbrev pub synced_in : Option Journaled → Option (List Entry)
+synced_in None = None
+synced_in (Some j) = Some j.synced
+
+abbrev pub past_by : (tells : Bool) → Kept → Option (List Entry)
+past_by true k = synced_in k.kept
+past_by false k = k.seat.past
+
+-- an agent, with its synced entries as its journal tells them, or as it is
+abbrev pub seen : (tells : Bool) → Kept → Seat
+seen tells k = record k.seat { past = past_by tells k }
+
+abbrev pub seats_by : (tells : Bool) → List Kept → Net
+seats_by tells ks = map (seen tells) ks
+
+-- its journal tells what it has synced, which with the entries behind it makes its state
+abbrev pub IsOwned : Homes → Kept → Type 0
+IsOwned homes k = (j : Journaled) × (k.kept ≡ Some j) × ((told (homes k.seat.number) (j.synced ++ k.seat.fresh)).state ≡ k.seat.state)
+
+abbrev pub AreOwned : Homes → List Kept → Type 0
+AreOwned homes [] = Unit {0}
+AreOwned homes (k ∷ ks) = IsOwned homes k × AreOwned homes ks
+
 ---- Topologies
 
 -- they stand in this topology
@@ -28,9 +58,10 @@ abbrev pub AreOf : Network → List Kept → Type 0
 AreOf t [] = Unit {0}
 AreOf t (k ∷ ks) = (k.network ≡ t) × AreOf t ks
 
--- so it is in the topology that they stand in, whichever legs are those of the least paths
-abbrev pub AtHomes : List Kept → (Homes → Type 0) → Type 0
-AtHomes ks P = (t : Network) → AreOf t ks → (routes : Routes) → AreRoutes t routes → P (home_in t routes)
+-- So it is in the topology that they stand in, whichever legs are those of the least paths: of the agents as they are, and with their synced
+-- entries, where their journals tell these.
+abbrev pub AtHomes : List Kept → (Homes → (tells : Bool) → Type 0) → Type 0
+AtHomes ks P = (t : Network) → AreOf t ks → (routes : Routes) → AreRoutes t routes → (tells : Bool) → (tells ≡ true → AreOwned (home_in t routes) ks) → P (home_in t routes) tells
 
 -- the same agent, with links to the same others; no call of its disk has failed, and none has stopped it
 pub record IsSteady (old new : Kept) : Type 0 where
@@ -72,6 +103,15 @@ abbrev pub IsAbsent : ℕ → List ℕ → Type 0
 IsAbsent a [] = Unit {0}
 IsAbsent a (n ∷ ns) = (a ≡ n → ⊥) × IsAbsent a ns
 
+-- one of these numbers
+abbrev pub IsOneOf : ℕ → List ℕ → Type 0
+IsOneOf a [] = ⊥
+IsOneOf a (n ∷ ns) = (a ≡ n) ⊎ IsOneOf a ns
+
+-- none has a number that none of those has
+abbrev pub AreAmong : List Kept → List Kept → Type 0
+AreAmong olds news = (a : ℕ) → IsOneOf a (numbers (seats news)) → IsOneOf a (numbers (seats olds))
+
 -- each has a number of its own, and none a link to itself
 abbrev pub AreApart : Net → Type 0
 AreApart [] = Unit {0}
@@ -91,6 +131,11 @@ AreWired (k ∷ ks) = IsLinkedToAll k ks × AreWired ks
 abbrev pub plugs_to : ℕ → List Kept → List (Option (Wire × Wire))
 plugs_to n [] = []
 plugs_to n (k ∷ ks) = plug k n ∷ plugs_to n ks
+
+-- disks of their names may be taken back
+abbrev pub AreListed : (List ℕ → Bool) → List Kept → Type 0
+AreListed listed [] = Unit {0}
+AreListed listed (k ∷ ks) = (listed (name_of k.network k.seat.number) ≡ true) × AreListed listed ks
 
 -- agents that can make a round
 pub record AreNet (ks : List Kept) : Type 0 where

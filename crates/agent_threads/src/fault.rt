@@ -26,7 +26,7 @@ impl From<AllocError> for RoundFault {
     }
 }
 
-/// Why a run has ended before its script. Agents aren't restarted: where a disk stops, this is a fault of the disk.
+/// Why a run has ended before its script. Behind a stop agents aren't restarted: it is a fault of the disk.
 #[derive(Clone, Copy, Debug, PartialEq, Eq)]
 pub enum RunFault {
     /// It has more events than are allowed.
@@ -35,6 +35,9 @@ pub enum RunFault {
     WriteFault,
     /// The agent's disk failed or stopped.
     DiskFault(AgentNo),
+    /// The agent's journal was to be read again, and the bytes of its disk are none from this place on; or it has more than the agent
+    /// took, and this is 0.
+    NotAJournal { agent: AgentNo, place: u64 },
     NoMemory,
 }
 

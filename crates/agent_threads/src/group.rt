@@ -1,6 +1,6 @@
 //! A group of a script: ticks, acts, and rounds until all agents are quiet.
 
-ghost use Rattle.std.specs.Prelude.{◌≡◌, ◌<◌, ◌≤◌, ◌+◌, ◌-◌, ◌++◌, ℕ, [], List, length, map, None, true, false, IfOk, IfErr, OnOk, IsErrOf};
+ghost use Rattle.std.specs.Prelude.{◌≡◌, ◌<◌, ◌≤◌, ◌+◌, ◌-◌, ◌++◌, ℕ, [], ◌∷◌, List, length, map, None, true, false, IfOk, IfErr, OnOk, IsErrOf};
 ghost use Rattle.std.specs.List.{All};
 ghost use Rattle.nsi_primitive.specs.Printable.{IsPrintableEvent};
 ghost use Rattle.nsi_primitive.specs.declared.entry.Event.{Event as EventOf};
@@ -9,18 +9,18 @@ ghost use Rattle.nsi_play.specs.Rounds.{round, events_of, all_quiet};
 ghost use Rattle.nsi_play.specs.Play.{asks_among, asks_in, acted, begins, ticked_in};
 ghost use Rattle.quiet_rounds.specs.Bounded.{IsBounded};
 ghost use Rattle.agent_node.specs.Kept.{IsSameAgent};
-ghost use Rattle.agent_threads.specs.Nets.{seats, EachIs, AtHomes, AreUsable, AreNet};
-ghost use Rattle.agent_threads.specs.Made.{Does, Drained, tick_to, HasRoom, HaveRoom, HasCause};
+ghost use Rattle.agent_threads.specs.Nets.{seats, seats_by, EachIs, AtHomes, AreUsable, AreNet, AreListed, AreAmong};
+ghost use Rattle.agent_threads.specs.Made.{Does, Drained, tick_to, HasRoom, HaveRoom, HasCause, counted, KeepsShelf, HasRunCause, IsOfRestart};
 ghost use Rattle.agent_threads.specs.Bounds.{AreUpTo, AreOfOne};
 ghost use Rattle.agent_threads.specs.Leaving.{LeavesNet};
 ghost use Rattle.agent_threads.specs.Coming.{IsTold, IsBegun, IsSettledBy, OverrunsBy};
-ghost use Rattle.agent_threads.specs.Promise.{CanAct, CanDo};
+ghost use Rattle.agent_threads.specs.Promise.{CanAct, CanDo, Shows, AtShown};
 
 use crate::act::act_all;
-use crate::fault::RoundFault;
+use crate::fault::{RoundFault, RunFault};
 use crate::resources::Resources;
 use crate::rounds::{round, settled};
-use agent_node::Node;
+use agent_node::{Node, Reopen};
 use journal_entry::Journal;
 use least_routes::laws::routes_exist;
 use nsi_base::Second;
@@ -112,41 +112,52 @@ fn tick<'t, J: Journal + Drop>(
     requires few { HaveRoom 1 nodes.old.items }
     requires later { AreUpTo to nodes.old.items }
     requires printable { All IsPrintableEvent events.old.items }
-    ensures ok { AtHomes nodes.old.items (λ homes. OnOk result
-        (IsTold (map (ticked_in to homes) (seats nodes.old.items))
-        events.old.items events.new.items (seats nodes.new.items))) }
+    ensures ok { AtHomes nodes.old.items (λ homes tells. OnOk result
+        (IsTold (map (ticked_in to homes) (seats_by tells nodes.old.items))
+        events.old.items events.new.items (seats_by tells nodes.new.items))) }
     ensures leaves { OnOk result (LeavesNet to nodes.old.items nodes.new.items
         events.old.items events.new.items) }
     ensures agents { EachIs IsSameAgent nodes.old.items nodes.new.items }
 {
     routes_exist();
+    nets_are_bounded();
     tick_all(alloc, nodes, to)?;
     drain(nodes, events)?;
     Ok(())
 }
 
 /// An act, and what has happened then.
-fn act<'t, J: Journal + Drop>(
+fn act<'t, J: Journal + Drop, B: Reopen<J>>(
     alloc: Global,
     nodes: &mut Vec<Node<'t, J>>,
+    shelf: &mut B,
     act: &Act,
     number: u32,
     events: &mut Vec<Event>,
-) -> Result<(), AllocError>
+) -> Result<(), RunFault>
     requires net { AreNet nodes.old.items }
     requires can { CanAct act.now nodes.old.items }
     requires told { events_of (seats nodes.old.items) ≡ [] }
     requires few { HaveRoom 1 nodes.old.items }
+    requires listed { AreListed (B.listed shelf.old) nodes.old.items }
     requires printable { All IsPrintableEvent events.old.items }
-    ensures ok { AtHomes nodes.old.items (λ homes. OnOk result
-        (IsTold (acted act.now number homes (seats nodes.old.items))
-        events.old.items events.new.items (seats nodes.new.items))) }
+    ensures ok { AtHomes nodes.old.items (λ homes tells. Shows tells act.now → OnOk result
+        (IsTold (acted act.now number homes (seats_by tells nodes.old.items))
+        events.old.items events.new.items (seats_by tells nodes.new.items))) }
     ensures leaves { OnOk result (LeavesNet 0 nodes.old.items nodes.new.items
         events.old.items events.new.items) }
-    ensures agents { EachIs IsSameAgent nodes.old.items nodes.new.items }
+    ensures agents { AreAmong nodes.old.items nodes.new.items }
+    ensures shelf { KeepsShelf (counted (B.faults shelf.old) (B.stops shelf.old))
+        (counted (B.faults shelf.new) (B.stops shelf.new)) result }
+    ensures stays { (n : List ℕ) → B.listed shelf.old n ≡ true → B.listed shelf.new n ≡ true }
+    ensures cause { IfErr result (HasRunCause (act.now ∷ []) nodes.old.items nodes.new.items
+        (counted (B.faults shelf.old) (B.stops shelf.old))
+        (counted (B.faults shelf.new) (B.stops shelf.new))) }
+    ensures mild { IfErr result IsOfRestart }
 {
     routes_exist();
-    act_all(alloc, nodes, act, number)?;
+    nets_are_bounded();
+    act_all(alloc, nodes, shelf, act, number)?;
     drain(nodes, events)?;
     Ok(())
 }
@@ -162,46 +173,61 @@ fn next_ask(number: u32, act: &Act) -> u32
     }
 }
 
-/// The ticks and acts of a group, whose first ask has this number. It gives the number of the ask behind them.
-pub fn begin<'t, J: Journal + Drop>(
+/// Where a group begins: the number of its first ask, and how many events it may have.
+#[derive(Clone, Copy, Debug, PartialEq, Eq)]
+pub struct GroupStart {
+    pub number: u32,
+    pub room: u64,
+}
+
+/// The ticks and acts of a group. It gives the number of the ask behind them.
+pub fn begin<'t, J: Journal + Drop, B: Reopen<J>>(
     alloc: Global,
     nodes: &mut Vec<Node<'t, J>>,
+    shelf: &mut B,
     group: &Group,
-    number: u32,
+    start: GroupStart,
     events: &mut Vec<Event>,
-    room: u64,
-) -> Result<u32, RoundFault>
+) -> Result<u32, RunFault>
     requires net { AreNet nodes.old.items }
     requires can { CanDo group.now.acts nodes.old.items }
-    requires asks { number + asks_among group.now.acts ≤ greatest_asks }
+    requires asks { start.number + asks_among group.now.acts ≤ greatest_asks }
     requires none { events.old.items ≡ [] }
     requires told { events_of (seats nodes.old.items) ≡ [] }
-    requires few { HaveRoom (room + 1) nodes.old.items }
+    requires few { HaveRoom (start.room + 1) nodes.old.items }
     requires later { AreUpTo group.now.at nodes.old.items }
-    ensures ok { AtHomes nodes.old.items (λ homes. OnOk result
-        (IsBegun homes group.now number (seats nodes.old.items)
-        events.new.items (seats nodes.new.items))) }
+    requires listed { AreListed (B.listed shelf.old) nodes.old.items }
+    ensures ok { AtShown nodes.old.items group.now.acts (λ homes tells. OnOk result
+        (IsBegun homes group.now start.number (seats_by tells nodes.old.items)
+        events.new.items (seats_by tells nodes.new.items))) }
     ensures leaves { OnOk result (LeavesNet group.now.at nodes.old.items nodes.new.items
         events.old.items events.new.items) }
-    ensures next { IfOk result (λ n. n ≡ number + asks_among group.now.acts) }
-    ensures within { OnOk result (length events.new.items ≤ room) }
-    ensures long { AtHomes nodes.old.items (λ homes. IsErrOf result RoundFault.Long →
-        room < length (begins group.now number homes (seats nodes.old.items)).events) }
-    ensures cause { IfErr result (λ e. HasCause e nodes.new.items) }
-    ensures agents { EachIs IsSameAgent nodes.old.items nodes.new.items }
+    ensures next { IfOk result (λ n. n ≡ start.number + asks_among group.now.acts) }
+    ensures within { OnOk result (length events.new.items ≤ start.room) }
+    ensures long { AtShown nodes.old.items group.now.acts (λ homes tells.
+        IsErrOf result RunFault.Long → start.room < length
+        (begins group.now start.number homes (seats_by tells nodes.old.items)).events) }
+    ensures agents { AreAmong nodes.old.items nodes.new.items }
+    ensures shelf { KeepsShelf (counted (B.faults shelf.old) (B.stops shelf.old))
+        (counted (B.faults shelf.new) (B.stops shelf.new)) result }
+    ensures stays { (n : List ℕ) → B.listed shelf.old n ≡ true → B.listed shelf.new n ≡ true }
+    ensures cause { IfErr result (HasRunCause group.now.acts nodes.old.items nodes.new.items
+        (counted (B.faults shelf.old) (B.stops shelf.old))
+        (counted (B.faults shelf.new) (B.stops shelf.new))) }
+    ensures mild { IsErrOf result RunFault.WriteFault → ⊥ }
 {
     tick(alloc, nodes, group.at, events)?;
-    let mut next = number;
+    let mut next = start.number;
     for action in group.acts.items() {
-        if events.len() as u64 > room {
-            return Err(RoundFault::Long);
+        if events.len() as u64 > start.room {
+            return Err(RunFault::Long);
         }
         let later = next_ask(next, action);
-        act(alloc, nodes, action, next, events)?;
+        act(alloc, nodes, shelf, action, next, events)?;
         next = later;
     }
-    if events.len() as u64 > room {
-        return Err(RoundFault::Long);
+    if events.len() as u64 > start.room {
+        return Err(RunFault::Long);
     }
     Ok(next)
 }
@@ -219,19 +245,20 @@ fn step<'t, R: Threads + Sync, J: Journal + Drop + Send>(
     requires printable { All IsPrintableEvent events.old.items }
     requires within { length events.old.items ≤ room }
     requires few { HaveRoom (room - length events.old.items) nodes.old.items }
-    ensures ok { AtHomes nodes.old.items (λ homes. OnOk result
-        (IsTold (round homes (seats nodes.old.items))
-        events.old.items events.new.items (seats nodes.new.items))) }
+    ensures ok { AtHomes nodes.old.items (λ homes tells. OnOk result
+        (IsTold (round homes (seats_by tells nodes.old.items))
+        events.old.items events.new.items (seats_by tells nodes.new.items))) }
     ensures leaves { OnOk result (LeavesNet 0 nodes.old.items nodes.new.items
         events.old.items events.new.items) }
     ensures within { OnOk result (length events.new.items ≤ room) }
-    ensures long { AtHomes nodes.old.items (λ homes. IsErrOf result RoundFault.Long →
-        let more = events_of (round homes (seats nodes.old.items)) in
+    ensures long { AtHomes nodes.old.items (λ homes tells. IsErrOf result RoundFault.Long →
+        let more = events_of (round homes (seats_by tells nodes.old.items)) in
         room < length events.old.items + length more) }
     ensures cause { IfErr result (λ e. HasCause e nodes.new.items) }
     ensures agents { EachIs IsSameAgent nodes.old.items nodes.new.items }
 {
     routes_exist();
+    nets_are_bounded();
     let left = room - events.len() as u64;
     round(resources, nodes, left)?;
     drain(nodes, events)?;
@@ -255,22 +282,21 @@ fn advance<'t, R: Threads + Sync, J: Journal + Drop + Send>(
     requires printable { All IsPrintableEvent events.old.items }
     requires within { length events.old.items ≤ room }
     requires few { HaveRoom (room - length events.old.items) nodes.old.items }
-    ensures ok { AtHomes nodes.old.items (λ homes. IfOk result (λ quiet. (own : List EventOf)
+    ensures ok { AtHomes nodes.old.items (λ homes tells. IfOk result (λ quiet. (own : List EventOf)
         × (events.new.items ≡ events.old.items ++ own)
-        × IsSettledBy homes (seats nodes.old.items) own (seats nodes.new.items)
-        × (quiet ≡ true → all_quiet homes (seats nodes.new.items) ≡ true))) }
+        × IsSettledBy homes (seats_by tells nodes.old.items) own (seats_by tells nodes.new.items)
+        × (quiet ≡ true → all_quiet homes (seats_by tells nodes.new.items) ≡ true))) }
     ensures leaves { OnOk result (LeavesNet 0 nodes.old.items nodes.new.items
         events.old.items events.new.items) }
     ensures more { IfOk result (λ quiet.
         quiet ≡ false → length events.old.items < length events.new.items) }
     ensures within { OnOk result (length events.new.items ≤ room) }
-    ensures long { AtHomes nodes.old.items (λ homes. IsErrOf result RoundFault.Long →
-        OverrunsBy homes (seats nodes.old.items) (length events.old.items) room) }
+    ensures long { AtHomes nodes.old.items (λ homes tells. IsErrOf result RoundFault.Long →
+        OverrunsBy homes (seats_by tells nodes.old.items) (length events.old.items) room) }
     ensures cause { IfErr result (λ e. HasCause e nodes.new.items) }
     ensures agents { EachIs IsSameAgent nodes.old.items nodes.new.items }
 {
     routes_exist();
-    nets_are_bounded();
     left_falls();
     while !settled(nodes) {
         let before = events.len();
@@ -296,20 +322,18 @@ pub fn settle<'t, R: Threads + Sync, J: Journal + Drop + Send>(
     requires printable { All IsPrintableEvent events.old.items }
     requires within { length events.old.items ≤ room }
     requires few { HaveRoom (room - length events.old.items) nodes.old.items }
-    ensures ok { AtHomes nodes.old.items (λ homes. OnOk result ((own : List EventOf)
+    ensures ok { AtHomes nodes.old.items (λ homes tells. OnOk result ((own : List EventOf)
         × (events.new.items ≡ events.old.items ++ own)
-        × IsSettledBy homes (seats nodes.old.items) own (seats nodes.new.items)
-        × (all_quiet homes (seats nodes.new.items) ≡ true))) }
+        × IsSettledBy homes (seats_by tells nodes.old.items) own (seats_by tells nodes.new.items)
+        × (all_quiet homes (seats_by tells nodes.new.items) ≡ true))) }
     ensures leaves { OnOk result (LeavesNet 0 nodes.old.items nodes.new.items
         events.old.items events.new.items) }
     ensures within { OnOk result (length events.new.items ≤ room) }
-    ensures long { AtHomes nodes.old.items (λ homes. IsErrOf result RoundFault.Long →
-        OverrunsBy homes (seats nodes.old.items) (length events.old.items) room) }
+    ensures long { AtHomes nodes.old.items (λ homes tells. IsErrOf result RoundFault.Long →
+        OverrunsBy homes (seats_by tells nodes.old.items) (length events.old.items) room) }
     ensures cause { IfErr result (λ e. HasCause e nodes.new.items) }
     ensures agents { EachIs IsSameAgent nodes.old.items nodes.new.items }
 {
-    routes_exist();
-    nets_are_bounded();
     let mut quiet = false;
     while !quiet {
         quiet = advance(resources, nodes, events, room)?;

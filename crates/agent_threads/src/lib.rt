@@ -7,6 +7,7 @@ mod group;
 mod meeting;
 mod report;
 mod resources;
+mod restart;
 mod rounds;
 mod run;
 
@@ -14,4 +15,4 @@ pub use fault::{RoundFault, RunFault};
 pub use report::RunOptions;
 pub use resources::Resources;
 pub use rounds::{round, settled};
-pub use run::play_all;
+pub use run::{Play, play_all};

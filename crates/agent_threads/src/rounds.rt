@@ -5,8 +5,8 @@ ghost use Rattle.std.specs.List.{All, list_all};
 ghost use Rattle.agent_node.specs.Made.{IsTurn};
 ghost use Rattle.nsi_play.specs.Rounds.{round, events_of, all_quiet};
 ghost use Rattle.agent_node.specs.Kept.{Kept, IsSameAgent};
-ghost use Rattle.agent_threads.specs.Nets.{seats, EachIs, AtHomes, AreSame, IsUsable, AreUsable, AreNet};
-ghost use Rattle.agent_threads.specs.Journals.{Grows};
+ghost use Rattle.agent_threads.specs.Nets.{seats_by, EachIs, AtHomes, AreSame, IsUsable, AreUsable, AreNet};
+ghost use Rattle.agent_threads.specs.Leaving.{StayOwned};
 ghost use Rattle.agent_threads.specs.Bounds.{MovesOn};
 ghost use Rattle.agent_threads.specs.Made.{HasRoom, HaveRoom, failure_at, stop_at, first_failure, first_stop, fault_of, answer, HasRisen};
 
@@ -127,12 +127,12 @@ pub fn round<'t, R: Threads + Sync, J: Journal + Drop + Send>(
 ) -> Result<(), RoundFault>
     requires net { AreNet nodes.old.items }
     requires few { HaveRoom room nodes.old.items }
-    ensures ok { AtHomes nodes.old.items (λ homes.
-        OnOk result (seats nodes.new.items ≡ round homes (seats nodes.old.items))) }
+    ensures ok { AtHomes nodes.old.items (λ homes tells. OnOk result
+        (seats_by tells nodes.new.items ≡ round homes (seats_by tells nodes.old.items))) }
     ensures net { OnOk result (AreNet nodes.new.items) }
     ensures same { OnOk result (AreSame nodes.old.items nodes.new.items) }
-    ensures long { AtHomes nodes.old.items (λ homes. IsErrOf result RoundFault.Long →
-        let before = seats nodes.old.items in
+    ensures long { AtHomes nodes.old.items (λ homes tells. IsErrOf result RoundFault.Long →
+        let before = seats_by tells nodes.old.items in
         length (events_of before) + room < length (events_of (round homes before))) }
     ensures disk { (a : ℕ) → IsErrOf result (RoundFault.DiskFault a) →
         HasRisen a nodes.old.items nodes.new.items }
@@ -142,9 +142,8 @@ pub fn round<'t, R: Threads + Sync, J: Journal + Drop + Send>(
     // Of several faults it is the first agent's that isn't a stop.
     ensures first { OnErr result (result ≡ answer (fault_of nodes.new.items)) }
     ensures agents { EachIs IsSameAgent nodes.old.items nodes.new.items }
-    ensures grow { AtHomes nodes.old.items (λ homes.
-        OnOk result (EachIs Grows nodes.old.items nodes.new.items)) }
-    ensures moves { AtHomes nodes.old.items (λ homes.
+    ensures owned { OnOk result (StayOwned nodes.old.items nodes.new.items) }
+    ensures moves { AtHomes nodes.old.items (λ homes tells.
         OnOk result (EachIs (MovesOn 0) nodes.old.items nodes.new.items)) }
 {
     turn_all(resources, nodes, room);
@@ -157,7 +156,8 @@ pub fn round<'t, R: Threads + Sync, J: Journal + Drop + Send>(
 
 /// Whether all agents are quiet: nothing is unsynced, no work waits, nothing is to be pushed and nothing came.
 pub fn settled<'t, J: Journal + Drop>(nodes: &[Node<'t, J>]) -> bool
-    ensures { AtHomes nodes.now (λ homes. result ≡ all_quiet homes (seats nodes.now)) }
+    ensures { AtHomes nodes.now (λ homes tells.
+        result ≡ all_quiet homes (seats_by tells nodes.now)) }
 {
     for node in nodes {
         let is_quiet = node.quiet();

@@ -36,6 +36,7 @@ risen_more a b h = (b - a, omega (arith, h), inl (omega (arith, h)))
 pub start_fault : (most f g h s r q : ℕ) (e : RunFault) → IsStartFault most f g s r e → g ≤ h → r ≤ q → IsStartFault most f h s q e
 start_fault most f g h s r q RunFault.Long i x y = i
 start_fault most f g h s r q RunFault.WriteFault i x y = i
+start_fault most f g h s r q (RunFault.NotAJournal a place) i x y = i
 start_fault most f g h s r q (RunFault.DiskFault a) (l, inl b) x y = (l, inl (risen_then f g h b x))
 start_fault most f g h s r q (RunFault.DiskFault a) (l, inr b) x y = (l, inr (risen_then s r q b y))
 start_fault most f g h s r q RunFault.NoMemory i x y = (omega (arith, i.0, x), omega (arith, i.1, y))

@@ -1,5 +1,5 @@
 -- Agents that were begun have taken nothing.
-use Rattle.std.proofs.Common.{ℕ, ◌≡◌, Bool, List, [], ◌∷◌, ◌++◌, refl, sym, ap, ap₂, subst, arith, map}
+use Rattle.std.proofs.Common.{ℕ, ◌≡◌, Bool, true, Option, Some, None, List, [], ◌∷◌, ◌++◌, refl, sym, ap, ap₂, subst, arith, map}
 use Rattle.nsi_primitive.specs.declared.entry.Event.{Event}
 use Rattle.stp_topology.specs.declared.network.Network.{Network}
 use Rattle.agent_node.specs.Seat.{Seat}
@@ -8,9 +8,18 @@ use Rattle.agent_node.specs.Kept.{Kept}
 use Rattle.nsi_play.specs.Rounds.{Net, events_of}
 use Rattle.quiet_rounds.specs.Bounded.{IsBoundedIn, IsBounded, numbers as bounded_numbers}
 use Rattle.quiet_rounds.specs.Laws.{OpeningsAreBounded}
-use Rattle.agent_threads.specs.Nets.{seats}
+use Rattle.agent_threads.specs.Nets.{seats, seats_by, seen, synced_in, IsOwned, AreOwned}
 use Rattle.agent_threads.specs.Bounds.{AreUpTo, AreUnder, AreNumbered, AreReady}
+use Rattle.std.specs.Prelude.{IfSome, is_some}
+use Rattle.journal_entry.specs.Journal.{Kept as Journaled}
+use Rattle.agent_state.specs.State.{blank_agent}
+use Rattle.stp_topology.specs.Network.{name_of}
+use Rattle.nsi_agent.specs.Homes.{Home, home_in}
+use Rattle.nsi_agent.specs.Told.{told, goes_on}
 use Rattle.net_run.specs.Begun.{AreOpened, AreListed}
+use Rattle.net_run.specs.Held.{AreTold}
+use Rattle.net_run.specs.Journals.{no_entries, AreEmpty}
+use Rattle.net_run.proofs.Running.{AreFresh}
 use Rattle.nsi_play.specs.Play.{untold_net}
 use Rattle.agent_node.specs.Restarts.{untold}
 use Rattle.nsi_play.specs.Openings.{opening}
@@ -49,6 +58,48 @@ same_numbers (s ∷ ss) = ap (λ (ns : List ℕ). s.number ∷ ns) (same_numbers
 
 untold_bounded : (net : Net) → IsBounded net → IsBounded (untold_net net)
 untold_bounded net h = subst (λ (ns : List ℕ). All (IsBoundedIn ns) (untold_net net)) (sym (same_numbers net)) (bounded_in (bounded_numbers net) net h)
+
+---- What their journals tell
+
+told_empty : {A : Type 0} (o : Option A) (P : Type 0) → is_some o ≡ true → IfSome o (λ x. P) → P
+told_empty None P e p = absurd (cc)
+told_empty (Some x) P e p = p
+
+seen_one : (t : Network) (plans : Plans) (n : ℕ) (k : Kept) → k.seat ≡ untold (seat_of t plans n) → k.kept ≡ Some no_entries → seen true k ≡ seat_of t plans n
+seen_one t plans n k is kept = ap₂ (λ (s : Seat) (o : Option Journaled). record s { past = synced_in o }) is kept
+
+nothing_told : (h : Home) → (told h []).state ≡ blank_agent
+unfolding goes_on
+nothing_told h = refl
+
+owned_one : (t : Network) (plans : Plans) (homes : ℕ → Home) (n : ℕ) (k : Kept) → k.seat ≡ untold (seat_of t plans n) → k.kept ≡ Some no_entries → IsOwned homes k
+owned_one t plans homes n k is kept =
+    (no_entries, kept, subst (λ (s : Seat). (told (homes k.seat.number) ([] ++ s.fresh)).state ≡ s.state) (sym is) (nothing_told (homes k.seat.number)))
+
+module _ (t : Network) (plans : Plans) (held : List ℕ → Option (List ℕ)) (listed : List ℕ → Bool) (tells : AreTold t held) where
+  fresh_seats : (ns : List ℕ) (ks : List Kept) → AreListed listed t ks → AreEmpty t held ks → seats ks ≡ untold_net (map (seat_of t plans) ns) → seats_by true ks ≡ map (seat_of t plans) ns
+  fresh_seats [] [] l none e = refl
+  fresh_seats (n ∷ ns) [] l none e = absurd (cc)
+  fresh_seats [] (k ∷ ks) l none e = absurd (cc)
+  fresh_seats (n ∷ ns) (k ∷ ks) l none e =
+      let is : k.seat ≡ untold (seat_of t plans n) = cc in
+      ap₂ ◌∷◌ (seen_one t plans n k is (told_empty (held (name_of t k.seat.number)) (k.kept ≡ Some no_entries) (tells k.seat.number l.0.0) none.0)) (fresh_seats ns ks l.1 none.1 (cc))
+
+  fresh_owned : (homes : ℕ → Home) (ns : List ℕ) (ks : List Kept) → AreListed listed t ks → AreEmpty t held ks → seats ks ≡ untold_net (map (seat_of t plans) ns) → AreOwned homes ks
+  fresh_owned homes ns [] l none e = tt
+  fresh_owned homes [] (k ∷ ks) l none e = absurd (cc)
+  fresh_owned homes (n ∷ ns) (k ∷ ks) l none e =
+      let is : k.seat ≡ untold (seat_of t plans n) = cc in
+      (owned_one t plans homes n k is (told_empty (held (name_of t k.seat.number)) (k.kept ≡ Some no_entries) (tells k.seat.number l.0.0) none.0), fresh_owned homes ns ks l.1 none.1 (cc))
+
+pub fresh_of : (t : Network) (plans : Plans) (held : List ℕ → Option (List ℕ)) (listed : List ℕ → Bool) (ks : List Kept) → AreOpened t plans ks → AreListed listed t ks → AreEmpty t held ks → AreFresh t plans held ks
+fresh_of t plans held listed ks o l none = record {
+  opened = o;
+  seats = λ tells. fresh_seats t plans held listed tells (agents t) ks l none o.seats;
+  owned = λ tells routes. fresh_owned t plans held listed tells (home_in t routes) (agents t) ks l none o.seats;
+}
+
+---- What a run asks of them
 
 pub ready_of : OpeningsAreBounded → (listed : List ℕ → Bool) (t : Network) (plans : Plans) (ks : List Kept) → AreOpened t plans ks → AreListed listed t ks → AreReady t ks
 ready_of bounded listed t plans ks o l =

@@ -1,6 +1,7 @@
 -- The counts of a shelf.
-use Rattle.std.specs.Prelude.{ℕ, ◌≤◌, ◌<◌, ◌⊎◌}
+use Rattle.std.specs.Prelude.{ℕ, ◌≤◌, ◌<◌, ◌⊎◌, length}
 use Rattle.nsi_disk.specs.ShelfCounts.{Raised}
+use Rattle.stp_topology.specs.declared.network.Network.{Network}
 use Rattle.agent_threads.specs.declared.fault.RunFault.{RunFault}
 
 abbrev pub HasRisen : ℕ → ℕ → Type 0
@@ -18,3 +19,9 @@ abbrev pub IsStartFault : ℕ → (f g s r : ℕ) → RunFault → Type 0
 IsStartFault most f g s r (RunFault.DiskFault a) = (a < most) × HasBroken f g s r
 IsStartFault most f g s r RunFault.NoMemory = (f ≤ g) × (s ≤ r)
 IsStartFault most f g s r _ = ⊥
+
+-- Why a run has failed that is shown or isn't: the disk of an agent failed or stopped; a journal has no reading, where it isn't shown.
+abbrev pub HasFaultOf : Network → (Shown : Type 0) → (f g s r : ℕ) → RunFault → Type 0
+HasFaultOf t Shown f g s r (RunFault.DiskFault a) = (a < length t.agents) × HasBroken f g s r
+HasFaultOf t Shown f g s r (RunFault.NotAJournal a place) = (a < length t.agents) × (Shown → ⊥)
+HasFaultOf t Shown f g s r _ = Unit {0}

@@ -113,8 +113,8 @@ where
     Ok(())
 }
 
-/// Begins the agents of a topology, each on the disk of its name, which is emptied, and joins them by links, for which the lines plan
-/// what is lost and what comes twice. On a fault each disk that was fetched is given back.
+/// Begins the agents of a topology, each on the disk of its name, which is emptied, and joins them by links, for which
+/// the lines plan what is lost and what comes twice. On a fault each disk that was fetched is given back.
 pub fn open_net<'t, H: Shelf>(
     alloc: Global,
     topology: &'t Topology,

@@ -1,28 +1,31 @@
 //! A whole run over the disks of a shelf.
 
-ghost use Rattle.std.specs.Prelude.{◌≡◌, ◌≤◌, ◌<◌, ℕ, length, IfOk, OnOk, OnErr, IsErrOf};
+ghost use Rattle.std.specs.Prelude.{◌≡◌, ◌≤◌, ◌<◌, IfOk, IfErr, OnOk, OnErr, IsErrOf};
 ghost use Rattle.nsi_script.specs.Fits.{Fits};
 ghost use Rattle.nsi_play.specs.Openings.{plans_of};
+ghost use Rattle.agent_threads.specs.Made.{IsOfAgent};
 ghost use Rattle.net_run.specs.Worlds.{WritesPlay, WritesTooLong, WritesGroups, WritesSomeOfPlay};
-ghost use Rattle.net_run.specs.Held.{HoldsJournals};
-ghost use Rattle.net_run.specs.Shelves.{HasBroken, IsQuiet};
+ghost use Rattle.net_run.specs.Held.{IsShown, HoldsJournals};
+ghost use Rattle.net_run.specs.Shelves.{HasFaultOf, IsQuiet};
 
 use crate::closing::close_net;
 use crate::opening::open_net;
-use agent_threads::{Resources, RunFault, RunOptions, play_all};
+use agent_threads::{Play, Resources, RunFault, RunOptions, play_all};
 use least_routes::laws::routes_exist;
 use nsi_disk::Shelf;
 use nsi_outside::Sink;
 use nsi_play::laws::{needs_no_past, one_play};
 use nsi_script::Script;
+use nsi_world::laws::play_runs;
 use quiet_rounds::laws::nets_are_bounded;
 use run_totals::Totals;
 use std::thread::Threads;
 use stp_topology::Topology;
 
-/// Plays the groups of a script with the agents of a topology, each round by so many workers at most. Their links lose and repeat what
-/// the script plans. Their journals are kept on the disks of their names, and begin empty. What is wanted of each group is written in its end. It answers the numbers of
-/// all. The disks are given back, however the run ends.
+/// Plays the groups of a script with the agents of a topology, each round by so many workers at most. Their links lose
+/// and repeat what the script plans. Their journals are kept on the disks of their names, and begin empty. What is
+/// wanted of each group is written in its end. It answers the numbers of all. The disks are given back, however the run
+/// ends.
 pub fn run_world<R: Threads + Sync, K: Sink, H: Shelf>(
     resources: &Resources<'_, R>,
     topology: &Topology,
@@ -38,25 +41,25 @@ where
 
     // What is wanted of the play is written.
     ensures done { IfOk result (λ n. WritesPlay topology.now options
-        (plans_of script.now.lose) script.now.groups
+        (plans_of script.now.lose) (H.holds shelf.old) script.now.groups
         (K.content out.old) (K.content out.new) n) }
 
     // It is too long only where the play passes the limit, and then the groups that fit were written.
     ensures long { IsErrOf result RunFault.Long → WritesTooLong topology.now options
-        (plans_of script.now.lose) script.now.groups
+        (plans_of script.now.lose) (H.holds shelf.old) script.now.groups
         (K.content out.old) (K.content out.new) }
 
-    // Another fault comes only from outside. Where a disk has failed, whole groups were written; else a front of them.
-    ensures broken { (a : ℕ) → IsErrOf result (RunFault.DiskFault a) →
-        (a < length topology.now.agents) × WritesGroups topology.now options
-        (plans_of script.now.lose) script.now.groups
-        (K.content out.old) (K.content out.new) }
-    ensures front { OnErr result (WritesSomeOfPlay topology.now options
-        (plans_of script.now.lose) script.now.groups
+    // Another fault comes only from outside. Where a disk has failed or a journal has no reading, whole groups were
+    // written; else a front of them.
+    ensures whole { IfErr result (λ e. IsOfAgent e → WritesGroups topology.now options
+        (plans_of script.now.lose) (H.holds shelf.old) script.now.groups
         (K.content out.old) (K.content out.new)) }
-    ensures disk { (a : ℕ) → IsErrOf result (RunFault.DiskFault a) →
-        HasBroken (H.faults shelf.old) (H.faults shelf.new)
-        (H.stops shelf.old) (H.stops shelf.new) }
+    ensures front { OnErr result (WritesSomeOfPlay topology.now options
+        (plans_of script.now.lose) (H.holds shelf.old) script.now.groups
+        (K.content out.old) (K.content out.new)) }
+    ensures cause { IfErr result (HasFaultOf topology.now
+        (IsShown topology.now script.now.groups (H.holds shelf.old))
+        (H.faults shelf.old) (H.faults shelf.new) (H.stops shelf.old) (H.stops shelf.new)) }
     ensures write { IsErrOf result RunFault.WriteFault → K.faults out.old < K.faults out.new }
 
     // No fault is swallowed.
@@ -75,18 +78,17 @@ where
     one_play();
     needs_no_past();
     nets_are_bounded();
+    play_runs();
     let mut nodes = match open_net(resources.alloc, topology, script.lose.items(), shelf) {
         Ok(nodes) => nodes,
         Err(fault) => return Err(fault),
     };
-    let played = play_all(
-        resources,
+    let play = Play {
         topology,
-        &mut nodes,
-        script.groups.items(),
+        groups: script.groups.items(),
         options,
-        out,
-    );
+    };
+    let played = play_all(resources, &play, &mut nodes, shelf, out);
     close_net(nodes, topology, shelf);
     played
 }

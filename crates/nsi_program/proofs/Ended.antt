@@ -19,7 +19,7 @@ use Rattle.nsi_program.proofs.Checks.{some_begins}
 use Rattle.agent_threads.specs.declared.report.RunOptions.{RunOptions}
 use Rattle.run_command.specs.Runs.{RunsIf, RunsRead, Breaks}
 use Rattle.run_command.specs.Ends.{IsCutShort as RunIsCutShort}
-use Rattle.nsi_program.specs.RunsTo.{RunsTo, options_of, status_of_run}
+use Rattle.nsi_program.specs.RunsTo.{RunsTo, options_of, status_of_run, HidesDisks}
 use Rattle.nsi_program.specs.VerifiesTo.{VerifiesTo, status_of_verify}
 use Rattle.verify_command.specs.Verifies.{VerifiesIf, VerifiesRead}
 use Rattle.nsi_base.specs.Lines.{lines_of}
@@ -131,11 +131,11 @@ abbrev runs : Play → Option Command
 runs play = Some (Command.Run play)
 
 pub run_ended : (command : Option Command) (play : Play) (holds : Holds) (content left new : Option (List ℕ)) (status : Status) → command ≡ runs play
-    → IfSome left (λ bytes. WritesSome (RunsTo (options_of play) bytes status) content new) → HasEnded command holds content left status new
+    → IfSome left (λ bytes. WritesSome (RunsTo (options_of play) holds bytes status) content new) → HasEnded command holds content left status new
 run_ended command play holds content left new status e h =
     let P : Option Command → Type 0 = λ x. HasEnded x holds content left status new in subst P (sym e) (ended content left h)
   where
-    ended : (content left : Option (List ℕ)) → IfSome left (λ bytes. WritesSome (RunsTo (options_of play) bytes status) content new) → HasEnded (runs play) holds content left status new
+    ended : (content left : Option (List ℕ)) → IfSome left (λ bytes. WritesSome (RunsTo (options_of play) holds bytes status) content new) → HasEnded (runs play) holds content left status new
     ended None left h = (None, refl, tt)
     ended (Some c) None h = (None, refl, tt)
     ended (Some c) (Some bytes) h = (Some (status, c ++ h.0), ((status, h.0), h.1, refl), (refl, h.2))
@@ -143,31 +143,31 @@ run_ended command play holds content left new status e h =
 pub run_cut : (command : Option Command) (play : Play) (holds : Holds) (content left rest new : Option (List ℕ)) → command ≡ runs play → Writes content new read_fault_line → IsCut command holds content left rest new
 run_cut command play holds content left rest new e w = let P : Option Command → Type 0 = λ x. IsCut x holds content left rest new in subst P (sym e) w
 
-pub run_broken : (command : Option Command) (play : Play) (holds : Holds) (content left new : Option (List ℕ)) → command ≡ runs play → IfSome left (λ bytes. WritesSome (Breaks (options_of play) bytes) content new) → IsBroken command holds content left new
+pub run_broken : (command : Option Command) (play : Play) (holds : Holds) (content left new : Option (List ℕ)) → command ≡ runs play → IfSome left (λ bytes. WritesSome (Breaks (options_of play) holds bytes) content new) → IsBroken command holds content left new
 run_broken command play holds content left new e w = let P : Option Command → Type 0 = λ x. IsBroken x holds content left new in subst P (sym e) w
 
 pub run_cut_short : (command : Option Command) (play : Play) (holds : Holds) (content left rest : Option (List ℕ)) (before after : Counts) (new : Option (List ℕ)) → command ≡ runs play
-    → RunIsCutShort (options_of play) content left before after new → IsCutShort command holds content left rest before after new
+    → RunIsCutShort (options_of play) holds content left before after new → IsCutShort command holds content left rest before after new
 run_cut_short command play holds content left rest before after new e h = let P : Option Command → Type 0 = λ x. IsCutShort x holds content left rest before after new in subst P (sym e) h
 
 -- a faulty topology is all that is told of a run
-run_named : (options : RunOptions) (bytes c text : List ℕ) (status : Status) (new : Option (List ℕ)) → RunsTo options bytes status text → new ≡ Some (c ++ text)
+run_named : (options : RunOptions) (holds : Holds) (bytes c text : List ℕ) (status : Status) (new : Option (List ℕ)) → RunsTo options holds bytes status text → new ≡ Some (c ++ text)
     → (n : ℕ) (fault : TopologyFault) → length bytes ≤ greatest_input → read_lines nothing 0 (lines_of bytes) ≡ Err (n, fault) → (status ≡ Status.BadTopology) × (new ≡ Some (c ++ topology_fault n fault))
-run_named options bytes c text status new r w n fault few h =
-    let P : Bool → Type 0 = λ b. RunsIf b options bytes r.0 text in
-    let Q : Result (Network × ℕ) (ℕ × TopologyFault) → Type 0 = λ x. RunsRead options bytes x r.0 text in
+run_named options holds bytes c text status new r w n fault few h =
+    let P : Bool → Type 0 = λ b. RunsIf b options holds bytes r.0 text in
+    let Q : Result (Network × ℕ) (ℕ × TopologyFault) → Type 0 = λ x. RunsRead options holds bytes x r.0 text in
     let o = subst Q h (subst P (within (length bytes) greatest_input few) r.2) in
     (r.1 ∙ ap status_of_run o.0, w ∙ ap (λ x. Some (c ++ x)) o.1)
   where
     within : (a b : ℕ) → a ≤ b → leb a b ≡ true
     within a b few = grind arith
 
-pub run_names_fault : (options : RunOptions) (content left new : Option (List ℕ)) (status : Status) → IfSome left (λ bytes. WritesSome (RunsTo options bytes status) content new) → NamesFault content left status new
-run_names_fault options None left new status k = tt
-run_names_fault options (Some c) None new status k = tt
-run_names_fault options (Some c) (Some bytes) new status k = λ n fault few h. run_named options bytes c k.0 status new k.1 k.2 n fault few h
+pub run_names_fault : (options : RunOptions) (holds : Holds) (content left new : Option (List ℕ)) (status : Status) → IfSome left (λ bytes. WritesSome (RunsTo options holds bytes status) content new) → NamesFault content left status new
+run_names_fault options holds None left new status k = tt
+run_names_fault options holds (Some c) None new status k = tt
+run_names_fault options holds (Some c) (Some bytes) new status k = λ n fault few h. run_named options holds bytes c k.0 status new k.1 k.2 n fault few h
 
-pub tells_disks : (command : Option Command) (play : Play) (status : Status) → command ≡ runs play → TellsDisks command status → status ≡ Status.Long → ⊥
+pub tells_disks : (command : Option Command) (play : Play) (status : Status) → command ≡ runs play → TellsDisks command status → HidesDisks status → ⊥
 tells_disks command play status e t = subst (λ (x : Option Command). TellsDisks x status) e t
 
 ---- Verdicts

@@ -46,7 +46,7 @@ nothing_stopped read most content left few =
 
 -- nothing is a front of what each run writes
 abbrev pub BeginWithNothing : Type 0
-BeginWithNothing = (options : RunOptions) (left old : Option (List ℕ)) → IfSome left (λ bytes. WritesSomeFront (Begins options bytes) old old)
+BeginWithNothing = (options : RunOptions) (holds : Holds) (left old : Option (List ℕ)) → IfSome left (λ bytes. WritesSomeFront (Begins options holds bytes) old old)
 
 no_verdict : (most : ℕ) (left old : Option (List ℕ)) → IfSome left (λ bytes. WritesSomeFront (BeginsVerify most bytes) old old)
 no_verdict most None old = tt
@@ -60,7 +60,7 @@ nothing_cut_short none words holds content left counts = go (command_of words) r
     go None e = inl (refl, nothing_front content content (as_line (codes "fault usage")) refl)
     go (Some (Command.Provide most)) e =
         inl (refl, any_reading holds left (λ read. IsStopped read most content left content) (λ read. nothing_stopped read most content left (limit_few words most e)))
-    go (Some (Command.Run play)) e = inl (refl, none (options_of play) left content)
+    go (Some (Command.Run play)) e = inl (refl, none (options_of play) holds left content)
     go (Some Command.Check) e = inl (refl, nothing_begun left content content refl)
     go (Some (Command.Verify most)) e = inl (refl, no_verdict most left content)
     go (Some (Command.Generate load)) e = inl (refl, nothing_front content content (load_of load.from load.size) refl)

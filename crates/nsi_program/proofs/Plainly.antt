@@ -2,7 +2,7 @@
 use Rattle.std.proofs.Common.{◌≡◌, ◌≤◌, ◌<◌, ℕ, ◌⊎◌, inl, inr, List, ◌++◌, length, leb, Bool, true, false, Option, Some, None, Result, Err, refl, sym, ap, ◌∙◌, subst, arith}
 use Rattle.std.specs.Prelude.{IfSome, codes}
 use Rattle.nsi_disk.specs.ShelfCounts.{Raised}
-use Rattle.fault_lines.specs.Counts.{Counts, HasDiskFault}
+use Rattle.fault_lines.specs.Counts.{HasDiskFault}
 use Rattle.fault_lines.specs.Lines.{as_line, read_fault_line}
 use Rattle.command_limits.specs.Limits.{most_events}
 use Rattle.command_words.specs.declared.command.Command.{Command}
@@ -29,7 +29,7 @@ use Rattle.nsi_program.specs.Ends.{HasTopology, IsChecked, IsCutShort}
 use Rattle.nsi_program.proofs.Nothing.{BeginWithNothing, nothing_backs, nothing_cut_short}
 use Rattle.command_words.specs.Words.{command_of}
 use Rattle.nsi_program.specs.Plain.{Outside, EndsPlainly}
-use Rattle.nsi_program.specs.RunsTo.{RunsTo, options_of}
+use Rattle.nsi_program.specs.RunsTo.{RunsTo, options_of, HidesDisks}
 use Rattle.nsi_program.specs.VerifiesTo.{VerifiesTo, BeginsVerify}
 use Rattle.nsi_program.proofs.Ended.{provide_ended, with_reading, check_ended, usage_ended, check_cut_short, usage_cut_short, generate_ended, generate_cut_short, generated_is, run_ended, run_names_fault, verify_ended, verify_names_fault}
 
@@ -283,16 +283,16 @@ nothing_plain none words old = record {
 
 -- what `run` promises
 pub record HasRun (play : Play) (old new : Outside) (status : Status) : Type 0 where
-  pub ends : is_told status ≡ true → IfSome old.left (λ bytes. WritesSome (RunsTo (options_of play) bytes status) old.content new.content)
+  pub ends : is_told status ≡ true → IfSome old.left (λ bytes. WritesSome (RunsTo (options_of play) old.holds bytes status) old.content new.content)
   pub read_fault : status ≡ Status.ReadFault → old.counts.reads < new.counts.reads
   pub alone : status ≡ Status.ReadFault → Writes old.content new.content read_fault_line
   pub write_fault : status ≡ Status.WriteFault → old.writes < new.writes
   pub disk_fault : status ≡ Status.DiskFault → HasDiskFault old.counts new.counts
-  pub broken : status ≡ Status.DiskFault → IfSome old.left (λ bytes. WritesSome (Breaks (options_of play) bytes) old.content new.content)
-  pub unfinished : (status ≡ Status.WriteFault) ⊎ (status ≡ Status.NoMemory) → RunIsCutShort (options_of play) old.content old.left old.counts new.counts new.content
+  pub broken : status ≡ Status.DiskFault → IfSome old.left (λ bytes. WritesSome (Breaks (options_of play) old.holds bytes) old.content new.content)
+  pub unfinished : (status ≡ Status.WriteFault) ⊎ (status ≡ Status.NoMemory) → RunIsCutShort (options_of play) old.holds old.content old.left old.counts new.counts new.content
   pub quiet_in : is_told status ≡ true → new.counts.reads ≡ old.counts.reads
   pub quiet_out : is_told status ≡ true → new.writes ≡ old.writes
-  pub quiet_disk : is_told status ≡ true → (status ≡ Status.Long → ⊥) → Raised old.counts.faults 0 new.counts.faults × Raised old.counts.stops 0 new.counts.stops
+  pub quiet_disk : is_told status ≡ true → (HidesDisks status → ⊥) → Raised old.counts.faults 0 new.counts.faults × Raised old.counts.stops 0 new.counts.stops
   pub reading : status ≡ Status.ReadFault → new.writes ≡ old.writes
   pub memory : status ≡ Status.NoMemory → new.writes ≡ old.writes
   pub journals : status ≡ Status.Done → IfSome old.left (λ bytes. KeepsRun bytes old.holds new.holds)
@@ -304,7 +304,7 @@ run_plain play old new status p = record {
   safe = λ m e. absurd (no_provide m e);
   checked = λ e. absurd (no_check e);
   generated = λ load e. absurd (no_load load e);
-  bad_topology = λ _ told. run_names_fault (options_of play) old.content old.left new.content status (p.ends told);
+  bad_topology = λ _ told. run_names_fault (options_of play) old.holds old.content old.left new.content status (p.ends told);
   read_fault = p.read_fault;
   cut = p.alone;
   alone = λ e. absurd (no_check e);

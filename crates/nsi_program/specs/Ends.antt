@@ -17,7 +17,7 @@ use Rattle.provide_command.specs.Promise.{behind_content, promise_of, Writes, Wr
 use Rattle.provide_command.specs.Writes.{WritesSome, WritesSomeFront}
 use Rattle.run_command.specs.Runs.{Begins as RunBegins, Breaks}
 use Rattle.nsi_program.specs.Check.{Checks, Begins}
-use Rattle.nsi_program.specs.RunsTo.{RunsTo, options_of}
+use Rattle.nsi_program.specs.RunsTo.{RunsTo, options_of, HidesDisks}
 use Rattle.nsi_program.specs.VerifiesTo.{VerifiesTo, BeginsVerify}
 
 -- words of no form are answered by a fault, whatever the input
@@ -40,7 +40,7 @@ Promises ends (Some c) (Some bytes) promise = (end : Status × List ℕ) × ends
 abbrev pub MayEnd : Option Command → (List ℕ → Option (List ℕ)) → Option (List ℕ) → Option (List ℕ) → Option (Status × List ℕ) → Type 0
 MayEnd None holds content left promise = promise ≡ usage_promise content
 MayEnd (Some (Command.Provide most)) holds content left promise = WithReading holds left (λ read. promise ≡ promise_of read most content left)
-MayEnd (Some (Command.Run play)) holds content left promise = Promises (λ bytes end. RunsTo (options_of play) bytes end.0 end.1) content left promise
+MayEnd (Some (Command.Run play)) holds content left promise = Promises (λ bytes end. RunsTo (options_of play) holds bytes end.0 end.1) content left promise
 MayEnd (Some Command.Check) holds content left promise = Promises (λ bytes end. Checks bytes end.0 end.1) content left promise
 MayEnd (Some (Command.Verify most)) holds content left promise = Promises (λ bytes end. VerifiesTo most bytes end.0 end.1) content left promise
 MayEnd (Some (Command.Generate load)) holds content left promise = promise ≡ load_promise load content
@@ -62,14 +62,14 @@ IsCut (Some (Command.Generate load)) holds content left rest new = ⊥
 -- other command has a disk.
 abbrev pub IsBroken : Option Command → (List ℕ → Option (List ℕ)) → (content left new : Option (List ℕ)) → Type 0
 IsBroken (Some (Command.Provide most)) holds content left new = IsProvideBroken most holds content left new
-IsBroken (Some (Command.Run play)) holds content left new = IfSome left (λ bytes. WritesSome (Breaks (options_of play) bytes) content new)
+IsBroken (Some (Command.Run play)) holds content left new = IfSome left (λ bytes. WritesSome (Breaks (options_of play) holds bytes) content new)
 IsBroken _ holds content left new = ⊥
 
 -- Writing was cut short, and no read has failed.
 abbrev pub IsCutInAnswers : Option Command → (List ℕ → Option (List ℕ)) → (content left new : Option (List ℕ)) → Type 0
 IsCutInAnswers None holds content left new = WritesFront content new (as_line (codes "fault usage"))
 IsCutInAnswers (Some (Command.Provide most)) holds content left new = WithReading holds left (λ read. IsStopped read most content left new)
-IsCutInAnswers (Some (Command.Run play)) holds content left new = IfSome left (λ bytes. WritesSomeFront (RunBegins (options_of play) bytes) content new)
+IsCutInAnswers (Some (Command.Run play)) holds content left new = IfSome left (λ bytes. WritesSomeFront (RunBegins (options_of play) holds bytes) content new)
 IsCutInAnswers (Some Command.Check) holds content left new = IfSome left (λ bytes. WritesSomeFront (Begins bytes) content new)
 IsCutInAnswers (Some (Command.Verify most)) holds content left new = IfSome left (λ bytes. WritesSomeFront (BeginsVerify most bytes) content new)
 IsCutInAnswers (Some (Command.Generate load)) holds content left new = WritesFront content new (load_of load.from load.size)
@@ -86,7 +86,7 @@ IsCutInFault (Some (Command.Generate load)) holds content left rest new = ⊥
 -- Writing was cut short within the line of a disk's fault.
 abbrev pub IsCutInDisk : Option Command → (List ℕ → Option (List ℕ)) → (content left new : Option (List ℕ)) → Type 0
 IsCutInDisk (Some (Command.Provide most)) holds content left new = IsProvideCutInDisk most holds content left new
-IsCutInDisk (Some (Command.Run play)) holds content left new = IfSome left (λ bytes. WritesSomeFront (Breaks (options_of play) bytes) content new)
+IsCutInDisk (Some (Command.Run play)) holds content left new = IfSome left (λ bytes. WritesSomeFront (Breaks (options_of play) holds bytes) content new)
 IsCutInDisk _ holds content left new = ⊥
 
 -- Writing was cut short: in the answers, or behind a fault of reading or of the disk, whose counts then rose.
@@ -112,7 +112,7 @@ ReadsTopology (Some Command.Check) = ⊤
 ReadsTopology (Some (Command.Verify most)) = ⊤
 ReadsTopology (Some (Command.Generate load)) = ⊥
 
--- A fault of a disk is told: but where `run` has too many events.
+-- A fault of a disk is told: but where `run` has too many events, or a journal without a reading.
 abbrev pub TellsDisks : Option Command → Status → Type 0
-TellsDisks (Some (Command.Run play)) status = status ≡ Status.Long → ⊥
+TellsDisks (Some (Command.Run play)) status = HidesDisks status → ⊥
 TellsDisks _ status = ⊤

@@ -31,8 +31,8 @@ use std::thread::Threads;
 /// Runs the command that the words name, on the bytes of the input. The words are those behind the program's name.
 ///
 /// `provide` reads as it goes: a line is answered before the next one is read. A line of more than 65,536 bytes is
-/// refused; an input of more than 67,108,864 bytes is answered up to there. `check`, `run` and `verify` read the whole input
-/// first, `generate` none. The words of a race name no command.
+/// refused; an input of more than 67,108,864 bytes is answered up to there. `check`, `run` and `verify` read the whole
+/// input first, `generate` none. The words of a race name no command.
 pub fn top_plain<R: Threads + Sync, S: Source, K: Sink, H: Shelf>(
     rt: &R,
     alloc: Global,
@@ -43,7 +43,8 @@ pub fn top_plain<R: Threads + Sync, S: Source, K: Sink, H: Shelf>(
 ) -> Status
 where
     H::Disk: Drop + Send,
-    // The words, the bytes and the journal say how it ends and all that is written.
+    // The words, the bytes and the journal say how it ends and all that is written; of `run` where the shelf tells what
+    // it holds or the script restarts nobody.
     ensures ends { is_told result ≡ true →
         HasEnded (command_of (map string_bytes words.now)) (H.holds shelf.old) (K.content out.old)
         (S.left input.old) result (K.content out.new) }
@@ -102,8 +103,9 @@ where
         → result ≡ Status.Done → IfSome (S.left input.old)
         (λ bytes. KeepsRun bytes (H.holds shelf.old) (H.holds shelf.new)) }
 
-    // No fault is swallowed, and none is told as want of memory; but a failed read is, or a failed disk, where there is no memory for
-    // its line. In the round of `run` that has too many events another agent's disk may have failed too.
+    // No fault is swallowed, and none is told as want of memory; but a failed read is, or a failed disk, where there is
+    // no memory for its line. In the round of `run` that has too many events another agent's disk may have failed too,
+    // and so may one whose journal has no reading.
     ensures quiet_in { is_told result ≡ true → S.faults input.new ≡ S.faults input.old }
     ensures quiet_out { is_told result ≡ true → K.faults out.new ≡ K.faults out.old }
     ensures quiet_disk { is_told result ≡ true →

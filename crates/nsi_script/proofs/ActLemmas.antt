@@ -9,7 +9,7 @@ use Rattle.stp_topology.specs.declared.network.Network.{Network}
 use Rattle.nsi_script.specs.declared.script.Act.{Act}
 use Rattle.nsi_script.specs.declared.script.Group.{Group}
 use Rattle.nsi_script.specs.declared.script.Script.{Script}
-use Rattle.nsi_script.specs.Fits.{Fits, IsActOf, IsServed, IsRising}
+use Rattle.nsi_script.specs.Fits.{Fits, IsActOf, IsRising}
 use Rattle.nsi_script.specs.Lines.{greatest_asks}
 use Rattle.nsi_script.specs.Scripts.{acts_of, asks_of, is_ask, is_reserved, reserves, seconds_of, last_second, group_at, with_act}
 
@@ -74,16 +74,14 @@ fits_group t s at f l = record {
       let last : get_or (seconds_of s.groups) (length (seconds_of s.groups) - 1) 0 ≤ at = subst (λ n. get_or (seconds_of s.groups) (n - 1) 0 ≤ at) (sym (length-map s.groups (λ (g : Group). g.at))) l in
       subst IsRising (sym (map-append (λ (g : Group). g.at) s.groups (group_at at ∷ []))) (rising_push (seconds_of s.groups) at f.rising last);
   acts = subst (All (IsActOf t)) (sym (acts_same s.groups at)) f.acts;
-  served = subst (All IsServed) (sym (acts_same s.groups at)) f.served;
   few_asks = subst (λ n. n ≤ greatest_asks) (sym (asks_same s.groups at)) f.few_asks;
 }
 
-pub fits_act : (t : Network) (s : Script) (act : Act) → Fits t s → 0 < length s.groups → IsActOf t act → IsServed act → asks_of s.groups + cond (is_ask act) 1 0 ≤ greatest_asks → Fits t (record s { groups = with_act s.groups act })
-fits_act t s act f h of served few = record {
+pub fits_act : (t : Network) (s : Script) (act : Act) → Fits t s → 0 < length s.groups → IsActOf t act → asks_of s.groups + cond (is_ask act) 1 0 ≤ greatest_asks → Fits t (record s { groups = with_act s.groups act })
+fits_act t s act f h of few = record {
   planned = f.planned;
   stopped = f.stopped;
   rising = subst IsRising (sym (seconds_same s.groups act)) f.rising;
   acts = subst (All (IsActOf t)) (sym (acts_push s.groups act h)) (All-push (IsActOf t) (acts_of s.groups) act f.acts of);
-  served = subst (All IsServed) (sym (acts_push s.groups act h)) (All-push IsServed (acts_of s.groups) act f.served served);
   few_asks = subst (λ n. n ≤ greatest_asks) (sym (asks_push s.groups act h)) few;
 }

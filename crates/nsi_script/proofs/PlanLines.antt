@@ -48,6 +48,5 @@ fits_plan t s line lines e is f = record {
   stopped = f.stopped;
   rising = f.rising;
   acts = f.acts;
-  served = f.served;
   few_asks = f.few_asks;
 }

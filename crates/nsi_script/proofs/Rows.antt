@@ -78,11 +78,19 @@ unfolding lines_to value_from number_of words_of kind_name kind_named first_name
 words = (refl, refl, refl, refl, refl, refl, refl, refl, refl, refl, refl, refl, refl, refl, refl, refl, refl, refl, refl)
 
 -- lines that aren't served, whatever comes behind that
-unbuilt :
-    (script_of pair 6 (codes "stop p9 1 torn") ≡ Err (6, Unbuilt))
-    × (script_of pair 6 (codes "restart p9") ≡ Err (6, Unbuilt))
+unbuilt : script_of pair 6 (codes "stop p9 1 torn") ≡ Err (6, Unbuilt)
 unfolding lines_to value_from number_of words_of kind_name kind_named first_named labelled_in summary_in numbers_in version_in reserve_in plain_named ask_by_verb known_agent add_at put_act put_ask ask_of add_force add_restart add_plan add_stop by_verb of_line read_lines
-unbuilt = (refl, refl)
+unbuilt = refl
+
+-- an agent of any kind is restarted
+restarts :
+    (script_of pair 6 (codes "at 0\nrestart p1\nrestart r1") ≡ Ok (record nothing { groups = record { at = 0; acts = Act.Restart 0 ∷ (Act.Restart 1 ∷ []) } ∷ [] }))
+    × (script_of pair 6 (codes "restart") ≡ Err (6, Word))
+    × (script_of pair 6 (codes "restart p1 1") ≡ Err (6, Word))
+    × (script_of pair 6 (codes "restart p9") ≡ Err (6, Agent))
+    × (script_of pair 6 (codes "restart p1") ≡ Err (6, Time))
+unfolding lines_to value_from number_of words_of kind_name kind_named first_named labelled_in summary_in numbers_in version_in reserve_in plain_named ask_by_verb known_agent add_at put_act put_ask ask_of add_force add_restart add_plan add_stop by_verb of_line read_lines
+restarts = (refl, refl, refl, refl, refl)
 
 -- an ask under the label c1
 abbrev about : What → Act

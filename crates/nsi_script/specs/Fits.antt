@@ -6,14 +6,13 @@ use Rattle.stp_topology.specs.declared.network.Network.{Network}
 use Rattle.stp_topology.specs.declared.network.AgentKind.TheVariants.{Requester}
 use Rattle.stp_topology.specs.Network.{kind_of}
 use Rattle.stp_topology.specs.Sound.{IsProvider}
-use Rattle.nsi_script.specs.declared.form.Form.TheVariants as forms
 use Rattle.nsi_script.specs.declared.form.Sort.{Sort}
 use Rattle.nsi_script.specs.declared.form.Sort.TheVariants as sorts
 use Rattle.nsi_script.specs.declared.script.Act.{Act}
 use Rattle.nsi_script.specs.declared.script.PlanLine.{PlanLine}
 use Rattle.nsi_script.specs.declared.script.Script.{Script}
 use Rattle.nsi_script.specs.declared.script.StopLine.{StopLine}
-use Rattle.nsi_script.specs.Lines.{greatest_asks, is_linked, is_served}
+use Rattle.nsi_script.specs.Lines.{greatest_asks, is_linked}
 use Rattle.nsi_script.specs.Scripts.{acts_of, asks_of, seconds_of}
 
 -- the agent is a requester
@@ -31,11 +30,6 @@ abbrev pub IsActOf : Network → Act → Type 0
 IsActOf t (Act.Ask agent ask) = (agent < length t.agents) × IsRequester t agent × IsPrintableAsk ask
 IsActOf t (Act.Force agent number) = (agent < length t.agents) × IsProvider t agent
 IsActOf t (Act.Restart agent) = agent < length t.agents
-
--- an act whose lines are served
-abbrev pub IsServed : Act → Type 0
-IsServed (Act.Restart agent) = IsTrue (is_served forms.Restart)
-IsServed act = Unit {0}
 
 -- each second is at least the one before
 abbrev pub IsRising : List ℕ → Type 0
@@ -59,5 +53,4 @@ pub record Fits (t : Network) (s : Script) : Type 0 where
   pub stopped : All (IsStopOf t) s.stops
   pub rising : IsRising (seconds_of s.groups)
   pub acts : All (IsActOf t) (acts_of s.groups)
-  pub served : All IsServed (acts_of s.groups)
   pub few_asks : asks_of s.groups ≤ greatest_asks

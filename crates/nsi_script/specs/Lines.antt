@@ -34,8 +34,8 @@ greatest_asks = 100000
 
 -- which lines of plans, stops and restarts are served; the others have the fault `Unbuilt`
 abbrev pub is_served : Form → Bool
-is_served forms.Plan = true
-is_served form = false
+is_served forms.Stop = false
+is_served _ = true
 
 -- whether an agent is of the sort
 abbrev pub is_of : Sort → Option AgentKind → Bool

@@ -4,7 +4,7 @@ ghost use Rattle.std.specs.Prelude.{◌≡◌, ◌<◌, ◌≤◌, ◌∷◌, []
 ghost use Rattle.stp_topology.specs.declared.network.Network.{Network};
 ghost use Rattle.nsi_script.specs.Drafts.{script_in, AreIndexed, StaysFit};
 ghost use Rattle.nsi_script.specs.Faults.{Gives, Leaves};
-ghost use Rattle.nsi_script.specs.Fits.{IsActOf, IsServed};
+ghost use Rattle.nsi_script.specs.Fits.{IsActOf};
 ghost use Rattle.nsi_script.specs.Labels.{is_noted};
 ghost use Rattle.nsi_script.specs.Lines.{add_at, ask_of, add_ask, add_force, add_restart, add_plan, add_stop, put_act, accepted, put_ask, by_verb, line_of, is_label_known, is_told, is_planned_for, is_stopped_for};
 ghost use Rattle.nsi_script.specs.Scripts.{nothing, group_at, with_act, last_second, is_ask, is_reserve, reserves};
@@ -156,7 +156,7 @@ impl Draft {
         ensures leaves { Leaves result (script_in self.new) (put_act (script_in self.old) act) }
         ensures indexed { OnOk result (AreIndexed self.new) }
         ensures fits { (t : Network) →
-            IsActOf t act → IsServed act → StaysFit t self.old self.new result }
+            IsActOf t act → StaysFit t self.old self.new result }
     {
         demand(is_begun(&self.groups), ScriptFault::Time)?;
         push_act(&mut self.groups, act)?;

@@ -11,7 +11,7 @@ use crate::fault::{LineRefusal, ScriptFault};
 use nsi_base::AgentNo;
 use stp_topology::{AgentKind, Topology};
 
-/// The forms of lines that aren't all served yet.
+/// The forms of lines that aren't all served yet: stops aren't.
 #[derive(Clone, Copy, Debug, PartialEq, Eq)]
 pub enum Form {
     Plan,
@@ -31,7 +31,7 @@ pub enum Sort {
 pub fn is_served(form: Form) -> bool
     ensures { result ≡ is_served form }
 {
-    matches!(form, Form::Plan)
+    matches!(form, Form::Plan | Form::Restart)
 }
 
 fn is_of(sort: Sort, kind: AgentKind) -> bool

@@ -5,16 +5,19 @@ use Rattle.stp_topology.specs.declared.network.Network.{Network}
 use Rattle.stp_topology.specs.Network.{name_of}
 use Rattle.nsi_script.specs.declared.script.Script.{Script}
 use Rattle.run_totals.specs.declared.totals.Totals.{Totals}
-use Rattle.fault_lines.specs.Lines.{disk_fault_line, long_line}
+use Rattle.fault_lines.specs.Lines.{journal_fault, disk_fault_line, long_line}
 use Rattle.agent_threads.specs.declared.fault.RunFault.{RunFault}
 use Rattle.agent_threads.specs.Reports.{written}
 use Rattle.agent_threads.specs.declared.report.RunOptions.{RunOptions}
-use Rattle.net_run.specs.Worlds.{WritesPlay, WritesTooLong, WritesGroups, WritesSomeOfPlay}
+use Rattle.agent_threads.specs.Made.{IsOfAgent}
+use Rattle.net_run.specs.Held.{IsShown}
+use Rattle.net_run.specs.Shelves.{HasBroken, HasFaultOf}
+use Rattle.net_run.specs.Worlds.{Holds, WritesPlay, WritesTooLong, WritesGroups, WritesSomeOfPlay}
 use Rattle.nsi_play.specs.Openings.{plans_of}
 use Rattle.run_command.specs.declared.command.RunEnd.{RunEnd}
 use Rattle.run_command.specs.Runs.{Plays, BeginsPlay, BreaksPlay, no_text, closing_line}
 use Rattle.run_command.proofs.Wholes.{PlaysRun, FrontsRun}
-use Rattle.run_command.specs.Ends.{is_told, WritesSome, WritesSomeFront, Counts, HasDiskFault, Closes, IsQuiet, FailsAs, HasRun, HasPlayed}
+use Rattle.run_command.specs.Ends.{HidesDisks, IsOfAgent as IsFaultOf, is_told, WritesSome, WritesSomeFront, Counts, HasDiskFault, Closes, IsQuiet, FailsAs, HasRun, HasPlayed}
 use Rattle.run_command.proofs.Closing.{behind_all, behind_front}
 
 pub some_text : (P : List ℕ → Type 0) (old new : Option (List ℕ)) (text : List ℕ) → P text → WritesAll old new text → WritesSome P old new
@@ -76,7 +79,7 @@ broken_only end k e = e
 
 module _ (Texts : RunEnd → List ℕ → Type 0) (Fronts Broken : List ℕ → Type 0) (old mid new : Option (List ℕ)) (before after : Counts) (b a : ℕ) (base line : List ℕ) (end : RunEnd) (w : WritesAll old mid base) where
   -- a line tells how it has ended
-  pub told_run : (own : RunEnd) → Closes line own end mid new b a → is_told own ≡ true → Texts own (base ++ line) → Fronts (base ++ line) → ((own ≡ RunEnd.Long → ⊥) → IsQuiet before after) → HasRun Texts Fronts Broken old new before after b a end
+  pub told_run : (own : RunEnd) → Closes line own end mid new b a → is_told own ≡ true → Texts own (base ++ line) → Fronts (base ++ line) → ((HidesDisks own → ⊥) → IsQuiet before after) → HasRun Texts Fronts Broken old new before after b a end
   told_run own k o x f q =
       record {
         ends = λ t.
@@ -88,7 +91,7 @@ module _ (Texts : RunEnd → List ℕ → Type 0) (Fronts Broken : List ℕ → 
         unfinished = λ _. inl (some_front Fronts old new (base ++ line) f (behind_front base line mid new old w k.front));
         write = k.write;
         quiet = k.quiet;
-        quiet_disk = λ t n. q (λ e. n (told_only own end k.kind t ∙ e));
+        quiet_disk = λ t n. q (λ e. n (subst HidesDisks (sym (told_only own end k.kind t)) e));
         read = λ r. not_read own end (told_read own o) k.kind r;
       }
 
@@ -128,46 +131,55 @@ run_along T U F G B D old new before after b a end f g h k =
 
 ---- Plays
 
-module _ (t : Network) (options : RunOptions) (script : Script) (old mid new : Option (List ℕ)) (before after : Counts) (b m a : ℕ) (same : m ≡ b) (end : RunEnd) where
+module _ (t : Network) (options : RunOptions) (holds : Holds) (script : Script) (old mid new : Option (List ℕ)) (before after : Counts) (b m a : ℕ) (same : m ≡ b) (end : RunEnd) where
   closes_from : (line : List ℕ) (own : RunEnd) → Closes line own end mid new m a → Closes line own end mid new b a
   closes_from line own k = let P : ℕ → Type 0 = λ x. Closes line own end mid new x a in subst P same k
 
-  pub settled_run : PlaysRun options.limit t script → (n : Totals) → WritesPlay t options (plans_of script.lose) script.groups old mid n → Closes (closing_line options.report n) RunEnd.Done end mid new m a → IsQuiet before after → HasPlayed options t script old new before after b a end
+  pub settled_run : PlaysRun options.limit t script → (n : Totals) → WritesPlay t options (plans_of script.lose) holds script.groups old mid n → Closes (closing_line options.report n) RunEnd.Done end mid new m a → IsQuiet before after → HasPlayed options holds t script old new before after b a end
   settled_run runs n w k q =
       let events = w.0 in
       let base = written options.report t events in
       let line = closing_line options.report n in
-      let is : Plays options t script RunEnd.Done (base ++ line) =
-      record { events = events; play = w.1; run = runs events w.1 w.3; within = w.3; spelled = ap (λ (x : Totals). base ++ closing_line options.report x) w.2 } in
-      told_run (Plays options t script) (BeginsPlay options t script) (BreaksPlay options t script) old mid new before after b a base line end w.4
+      let is : Plays options holds t script RunEnd.Done (base ++ line) =
+      record { events = events; play = w.1; run = λ shown. runs events (w.1 shown) w.3; within = w.3; spelled = ap (λ (x : Totals). base ++ closing_line options.report x) w.2 } in
+      told_run (Plays options holds t script) (BeginsPlay options holds t script) (BreaksPlay options holds t script) old mid new before after b a base line end w.4
       RunEnd.Done (closes_from line RunEnd.Done k) refl is (inl (RunEnd.Done, is)) (λ _. q)
 
-  pub too_long_run : FrontsRun options.limit t script → WritesTooLong t options (plans_of script.lose) script.groups old mid → Closes long_line RunEnd.Long end mid new m a → HasPlayed options t script old new before after b a end
+  pub too_long_run : FrontsRun options.limit t script → WritesTooLong t options (plans_of script.lose) holds script.groups old mid → Closes long_line RunEnd.Long end mid new m a → HasPlayed options holds t script old new before after b a end
   too_long_run fronts w k =
       let text = written options.report t w.1 ++ long_line in
-      let is : Plays options t script RunEnd.Long text = record { groups = w.0; events = w.1; first = record { play = w.2; run = fronts w.0 w.1 w.2 w.3; within = w.3 }; passes = w.4; spelled = refl } in
-      told_run (Plays options t script) (BeginsPlay options t script) (BreaksPlay options t script) old mid new before after b a (written options.report t w.1) long_line end w.5
-      RunEnd.Long (closes_from long_line RunEnd.Long k) refl is (inl (RunEnd.Long, is)) (λ n. absurd (n refl))
+      let is : Plays options holds t script RunEnd.Long text = record { groups = w.0; events = w.1; first = record { play = w.2; run = λ shown. fronts w.0 w.1 (w.2 shown) w.3; within = w.3 }; passes = w.4; spelled = refl } in
+      told_run (Plays options holds t script) (BeginsPlay options holds t script) (BreaksPlay options holds t script) old mid new before after b a (written options.report t w.1) long_line end w.5
+      RunEnd.Long (closes_from long_line RunEnd.Long k) refl is (inl (RunEnd.Long, is)) (λ n. absurd (n tt))
 
-  pub failed_run : FrontsRun options.limit t script → (agent : ℕ) → WritesGroups t options (plans_of script.lose) script.groups old mid → Closes (disk_fault_line (name_of t agent)) RunEnd.DiskFault end mid new m a → HasDiskFault before after → HasPlayed options t script old new before after b a end
+  pub failed_run : FrontsRun options.limit t script → (agent : ℕ) → WritesGroups t options (plans_of script.lose) holds script.groups old mid → Closes (disk_fault_line (name_of t agent)) RunEnd.DiskFault end mid new m a → HasDiskFault before after → HasPlayed options holds t script old new before after b a end
   failed_run fronts agent w k d =
       let line = disk_fault_line (name_of t agent) in
-      let is : BreaksPlay options t script (written options.report t w.1 ++ line) = (agent, record { groups = w.0; events = w.1; first = record { play = w.2; run = fronts w.0 w.1 w.2 w.3; within = w.3 }; spelled = refl }) in
-      broken_run (Plays options t script) (BeginsPlay options t script) (BreaksPlay options t script) old mid new before after b a (written options.report t w.1) line end w.4
+      let is : BreaksPlay options holds t script (written options.report t w.1 ++ line) = (agent, record { groups = w.0; events = w.1; first = record { play = w.2; run = λ shown. fronts w.0 w.1 (w.2 shown) w.3; within = w.3 }; spelled = refl }) in
+      broken_run (Plays options holds t script) (BeginsPlay options holds t script) (BreaksPlay options holds t script) old mid new before after b a (written options.report t w.1) line end w.4
       (closes_from line RunEnd.DiskFault k) is d
+
+  pub unread_run : FrontsRun options.limit t script → (agent place : ℕ) → (IsShown t script.groups holds → ⊥) → WritesGroups t options (plans_of script.lose) holds script.groups old mid → Closes (journal_fault (name_of t agent) place) RunEnd.NotAJournal end mid new m a
+      → HasPlayed options holds t script old new before after b a end
+  unread_run fronts agent place unshown w k =
+      let line = journal_fault (name_of t agent) place in
+      let is : Plays options holds t script RunEnd.NotAJournal (written options.report t w.1 ++ line) =
+      (agent, place, unshown, record { groups = w.0; events = w.1; first = record { play = w.2; run = λ shown. fronts w.0 w.1 (w.2 shown) w.3; within = w.3 }; spelled = refl }) in
+      told_run (Plays options holds t script) (BeginsPlay options holds t script) (BreaksPlay options holds t script) old mid new before after b a (written options.report t w.1) line end w.4
+      RunEnd.NotAJournal (closes_from line RunEnd.NotAJournal k) refl is (inl (RunEnd.NotAJournal, is)) (λ n. absurd (n tt))
 
 ---- Plays that have failed
 
 -- a front of some groups stands, and nothing more is written
-module _ (t : Network) (options : RunOptions) (script : Script) (old new : Option (List ℕ)) (before after : Counts) (b a : ℕ) where
-  begun_front : FrontsRun options.limit t script → WritesSomeOfPlay t options (plans_of script.lose) script.groups old new → WritesSomeFront (BeginsPlay options t script) old new
+module _ (t : Network) (options : RunOptions) (holds : Holds) (script : Script) (old new : Option (List ℕ)) (before after : Counts) (b a : ℕ) where
+  begun_front : FrontsRun options.limit t script → WritesSomeOfPlay t options (plans_of script.lose) holds script.groups old new → WritesSomeFront (BeginsPlay options holds t script) old new
   begun_front fronts w =
       let text = written options.report t w.1 ++ no_text t in
-      let is : BeginsPlay options t script text = inr (record { groups = w.0; events = w.1; first = record { play = w.2; run = fronts w.0 w.1 w.2 w.3; within = w.3 }; spelled = refl }) in
-      some_front (BeginsPlay options t script) old new text is (subst (WritesFront old new) (sym (append-nil (written options.report t w.1))) w.4)
+      let is : BeginsPlay options holds t script text = inr (record { groups = w.0; events = w.1; first = record { play = w.2; run = λ shown. fronts w.0 w.1 (w.2 shown) w.3; within = w.3 }; spelled = refl }) in
+      some_front (BeginsPlay options holds t script) old new text is (subst (WritesFront old new) (sym (append-nil (written options.report t w.1))) w.4)
 
-  silent_run : FrontsRun options.limit t script → (end : RunEnd) → (end ≡ RunEnd.WriteFault → b < a) → ((end ≡ RunEnd.WriteFault → ⊥) → a ≡ b) → (end ≡ RunEnd.WriteFault) ⊎ (end ≡ RunEnd.NoMemory) → WritesSomeOfPlay t options (plans_of script.lose) script.groups old new
-      → HasPlayed options t script old new before after b a end
+  silent_run : FrontsRun options.limit t script → (end : RunEnd) → (end ≡ RunEnd.WriteFault → b < a) → ((end ≡ RunEnd.WriteFault → ⊥) → a ≡ b) → (end ≡ RunEnd.WriteFault) ⊎ (end ≡ RunEnd.NoMemory) → WritesSomeOfPlay t options (plans_of script.lose) holds script.groups old new
+      → HasPlayed options holds t script old new before after b a end
   silent_run fronts end w q k f =
       record {
         ends = λ o. absurd (not_told k o);
@@ -193,30 +205,48 @@ module _ (t : Network) (options : RunOptions) (script : Script) (old new : Optio
       not_reading (inr e) o = cc
 
 -- what the call of a play promises of its fault
-pub record Failing (t : Network) (options : RunOptions) (script : Script) (old mid : Option (List ℕ)) (before after : Counts) (b m : ℕ) (fault : RunFault) : Type 0 where
-  pub long : fault ≡ RunFault.Long → WritesTooLong t options (plans_of script.lose) script.groups old mid
-  pub broken : (agent : ℕ) → fault ≡ RunFault.DiskFault agent → WritesGroups t options (plans_of script.lose) script.groups old mid
+pub record Failing (t : Network) (options : RunOptions) (holds : Holds) (script : Script) (old mid : Option (List ℕ)) (before after : Counts) (b m : ℕ) (fault : RunFault) : Type 0 where
+  pub long : fault ≡ RunFault.Long → WritesTooLong t options (plans_of script.lose) holds script.groups old mid
+  pub broken : IsOfAgent fault → WritesGroups t options (plans_of script.lose) holds script.groups old mid
+  pub unread : (agent place : ℕ) → fault ≡ RunFault.NotAJournal agent place → IsShown t script.groups holds → ⊥
   pub disk : (agent : ℕ) → fault ≡ RunFault.DiskFault agent → HasDiskFault before after
-  pub front : WritesSomeOfPlay t options (plans_of script.lose) script.groups old mid
+  pub front : WritesSomeOfPlay t options (plans_of script.lose) holds script.groups old mid
   pub write : fault ≡ RunFault.WriteFault → b < m
   pub quiet : (fault ≡ RunFault.WriteFault → ⊥) → m ≡ b
 
-module _ (t : Network) (options : RunOptions) (script : Script) (old mid new : Option (List ℕ)) (before after : Counts) (b m a : ℕ) (end : RunEnd) where
-  pub failing_run : FrontsRun options.limit t script → (fault : RunFault) → Failing t options script old mid before after b m fault → FailsAs t fault end mid new m a → HasPlayed options t script old new before after b a end
-  failing_run fronts RunFault.Long f k = too_long_run t options script old mid new before after b m a (f.quiet (λ e. cc)) end fronts (f.long refl) k
-  failing_run fronts (RunFault.DiskFault agent) f k = failed_run t options script old mid new before after b m a (f.quiet (λ e. cc)) end fronts agent (f.broken agent refl) k (f.disk agent refl)
+module _ (t : Network) (options : RunOptions) (holds : Holds) (script : Script) (old mid new : Option (List ℕ)) (before after : Counts) (b m a : ℕ) (end : RunEnd) where
+  pub failing_run : FrontsRun options.limit t script → (fault : RunFault) → Failing t options holds script old mid before after b m fault → FailsAs t fault end mid new m a → HasPlayed options holds t script old new before after b a end
+  failing_run fronts RunFault.Long f k = too_long_run t options holds script old mid new before after b m a (f.quiet (λ e. cc)) end fronts (f.long refl) k
+  failing_run fronts (RunFault.DiskFault agent) f k = failed_run t options holds script old mid new before after b m a (f.quiet (λ e. cc)) end fronts agent (f.broken tt) k (f.disk agent refl)
+  failing_run fronts (RunFault.NotAJournal agent place) f k = unread_run t options holds script old mid new before after b m a (f.quiet (λ e. cc)) end fronts agent place (f.unread agent place refl) (f.broken tt) k
   failing_run fronts RunFault.WriteFault f k =
       let r = f.write refl in
-      let P : Option (List ℕ) → Type 0 = λ o. WritesSomeOfPlay t options (plans_of script.lose) script.groups old o in
-      silent_run t options script old new before after b a fronts end (λ _. subst (λ x. b < x) (sym k.still) r) (λ n. absurd (n k.is)) (inl k.is) (subst P (sym k.same) f.front)
+      let P : Option (List ℕ) → Type 0 = λ o. WritesSomeOfPlay t options (plans_of script.lose) holds script.groups old o in
+      silent_run t options holds script old new before after b a fronts end (λ _. subst (λ x. b < x) (sym k.still) r) (λ n. absurd (n k.is)) (inl k.is) (subst P (sym k.same) f.front)
   failing_run fronts RunFault.NoMemory f k =
-      let P : Option (List ℕ) → Type 0 = λ o. WritesSomeOfPlay t options (plans_of script.lose) script.groups old o in
+      let P : Option (List ℕ) → Type 0 = λ o. WritesSomeOfPlay t options (plans_of script.lose) holds script.groups old o in
       let e = k.is in
-      silent_run t options script old new before after b a fronts end (λ w. cc) (λ _. k.still ∙ f.quiet (λ w. cc)) (inr k.is) (subst P (sym k.same) f.front)
+      silent_run t options holds script old new before after b a fronts end (λ w. cc) (λ _. k.still ∙ f.quiet (λ w. cc)) (inr k.is) (subst P (sym k.same) f.front)
 
 -- a play that has failed isn't done
 pub fails_not_done : (t : Network) (fault : RunFault) (end : RunEnd) (old new : Option (List ℕ)) (b a : ℕ) → FailsAs t fault end old new b a → end ≡ RunEnd.Done → ⊥
 fails_not_done t RunFault.Long end old new b a k e = kinds RunEnd.Long end k.kind (λ d. cc) e
 fails_not_done t (RunFault.DiskFault agent) end old new b a k e = kinds RunEnd.DiskFault end k.kind (λ d. cc) e
+fails_not_done t (RunFault.NotAJournal agent place) end old new b a k e = kinds RunEnd.NotAJournal end k.kind (λ d. cc) e
 fails_not_done t RunFault.WriteFault end old new b a k e = let i = k.is in cc
 fails_not_done t RunFault.NoMemory end old new b a k e = let i = k.is in cc
+
+---- Causes
+
+pub unread_cause : (t : Network) (Shown : Type 0) (f g s r : ℕ) (fault : RunFault) (agent place : ℕ) → fault ≡ RunFault.NotAJournal agent place → HasFaultOf t Shown f g s r fault → Shown → ⊥
+unread_cause t Shown f g s r fault agent place e c = (subst (HasFaultOf t Shown f g s r) e c).1
+
+pub disk_cause : (t : Network) (Shown : Type 0) (f g s r : ℕ) (fault : RunFault) (agent : ℕ) → fault ≡ RunFault.DiskFault agent → HasFaultOf t Shown f g s r fault → HasBroken f g s r
+disk_cause t Shown f g s r fault agent e c = (subst (HasFaultOf t Shown f g s r) e c).1
+
+pub of_agent : (t : Network) (Shown : Type 0) (f g s r : ℕ) (fault : RunFault) → HasFaultOf t Shown f g s r fault → IsFaultOf t fault
+of_agent t Shown f g s r RunFault.Long c = tt
+of_agent t Shown f g s r RunFault.WriteFault c = tt
+of_agent t Shown f g s r (RunFault.DiskFault agent) c = c.0
+of_agent t Shown f g s r (RunFault.NotAJournal agent place) c = c.0
+of_agent t Shown f g s r RunFault.NoMemory c = tt

@@ -6,10 +6,11 @@ use Rattle.stp_topology.specs.declared.network.Network.{Network}
 use Rattle.stp_topology.specs.Network.{name_of}
 use Rattle.nsi_script.specs.declared.script.Script.{Script}
 pub use Rattle.fault_lines.specs.Counts.{Counts, counted, HasRisen, HasDiskFault}
-use Rattle.fault_lines.specs.Lines.{disk_fault_line, long_line, read_fault_line}
+use Rattle.fault_lines.specs.Lines.{journal_fault, disk_fault_line, long_line, read_fault_line}
 use Rattle.agent_threads.specs.declared.fault.RunFault.{RunFault}
 use Rattle.agent_threads.specs.declared.report.RunOptions.{RunOptions}
 use Rattle.run_command.specs.declared.command.RunEnd.{RunEnd}
+use Rattle.net_run.specs.Worlds.{Holds}
 use Rattle.run_command.specs.Runs.{Plays, BeginsPlay, BreaksPlay, Runs, Begins, Breaks}
 
 -- an end that is neither want of memory nor a fault of reading, writing or a disk
@@ -31,10 +32,10 @@ WritesSomeFront P old new = IfSome old (λ c. (text : List ℕ) × (k : ℕ) × 
 ---- Runs that were cut short
 
 -- Writing was cut short: in the run, or behind a fault of reading or of a disk, whose counts then rose.
-abbrev pub IsCutShort : RunOptions → (content left : Option (List ℕ)) → (before after : Counts) → Option (List ℕ) → Type 0
-IsCutShort options content left before after new =
-    ((after.reads ≡ before.reads) × IfSome left (λ bytes. WritesSomeFront (Begins options bytes) content new)) ⊎ ((before.reads < after.reads) × WritesFront content new read_fault_line)
-    ⊎ (HasDiskFault before after × IfSome left (λ bytes. WritesSomeFront (Breaks options bytes) content new))
+abbrev pub IsCutShort : RunOptions → Holds → (content left : Option (List ℕ)) → (before after : Counts) → Option (List ℕ) → Type 0
+IsCutShort options holds content left before after new =
+    ((after.reads ≡ before.reads) × IfSome left (λ bytes. WritesSomeFront (Begins options holds bytes) content new)) ⊎ ((before.reads < after.reads) × WritesFront content new read_fault_line)
+    ⊎ (HasDiskFault before after × IfSome left (λ bytes. WritesSomeFront (Breaks options holds bytes) content new))
 
 ---- Steps of a run
 
@@ -51,9 +52,10 @@ pub record Closes (text : List ℕ) (own end : RunEnd) (old new : Option (List �
   pub write : end ≡ RunEnd.WriteFault → faults_before < faults_after
   pub quiet : (end ≡ RunEnd.WriteFault → ⊥) → faults_after ≡ faults_before
 
--- a disk that has failed is that of an agent of the topology
+-- a disk that has failed, or a journal without a reading, is that of an agent of the topology
 abbrev pub IsOfAgent : Network → RunFault → Type 0
 IsOfAgent t (RunFault.DiskFault agent) = agent < length t.agents
+IsOfAgent t (RunFault.NotAJournal agent place) = agent < length t.agents
 IsOfAgent t fault = Unit {0}
 
 -- nothing more is written
@@ -62,11 +64,18 @@ pub record EndsSilently (own end : RunEnd) (old new : Option (List ℕ)) (faults
   pub same : new ≡ old
   pub still : faults_after ≡ faults_before
 
+-- an end behind which the counts of disks may have risen: in the round that has too many events, and where a journal has no reading
+abbrev pub HidesDisks : RunEnd → Type 0
+HidesDisks RunEnd.Long = Unit {0}
+HidesDisks RunEnd.NotAJournal = Unit {0}
+HidesDisks _ = ⊥
+
 -- why a play has failed is told, but where writing has failed or memory is wanting
 abbrev pub FailsAs : Network → RunFault → RunEnd → (old new : Option (List ℕ)) → (faults_before faults_after : ℕ) → Type 0
 FailsAs t RunFault.Long end old new before after = Closes long_line RunEnd.Long end old new before after
 FailsAs t RunFault.WriteFault end old new before after = EndsSilently RunEnd.WriteFault end old new before after
 FailsAs t (RunFault.DiskFault agent) end old new before after = Closes (disk_fault_line (name_of t agent)) RunEnd.DiskFault end old new before after
+FailsAs t (RunFault.NotAJournal agent place) end old new before after = Closes (journal_fault (name_of t agent) place) RunEnd.NotAJournal end old new before after
 FailsAs t RunFault.NoMemory end old new before after = EndsSilently RunEnd.NoMemory end old new before after
 
 -- the counts of the shelf's disks haven't risen
@@ -84,13 +93,13 @@ pub record HasRun (Texts : RunEnd → List ℕ → Type 0) (Fronts Broken : List
       → WritesSomeFront Fronts old new ⊎ (HasDiskFault before after × WritesSomeFront Broken old new)
   pub write : end ≡ RunEnd.WriteFault → faults_before < faults_after
   pub quiet : (end ≡ RunEnd.WriteFault → ⊥) → faults_after ≡ faults_before
-  pub quiet_disk : is_told end ≡ true → (end ≡ RunEnd.Long → ⊥) → IsQuiet before after
+  pub quiet_disk : is_told end ≡ true → (HidesDisks end → ⊥) → IsQuiet before after
   pub read : end ≡ RunEnd.ReadFault → ⊥
 
 -- a script is played
-abbrev pub HasPlayed : RunOptions → Network → Script → (old new : Option (List ℕ)) → (before after : Counts) → (faults_before faults_after : ℕ) → RunEnd → Type 0
-HasPlayed options t script = HasRun (Plays options t script) (BeginsPlay options t script) (BreaksPlay options t script)
+abbrev pub HasPlayed : RunOptions → Holds → Network → Script → (old new : Option (List ℕ)) → (before after : Counts) → (faults_before faults_after : ℕ) → RunEnd → Type 0
+HasPlayed options holds t script = HasRun (Plays options holds t script) (BeginsPlay options holds t script) (BreaksPlay options holds t script)
 
 -- an input is read
-abbrev pub HasRead : RunOptions → List ℕ → (old new : Option (List ℕ)) → (before after : Counts) → (faults_before faults_after : ℕ) → RunEnd → Type 0
-HasRead options bytes = HasRun (Runs options bytes) (Begins options bytes) (Breaks options bytes)
+abbrev pub HasRead : RunOptions → Holds → List ℕ → (old new : Option (List ℕ)) → (before after : Counts) → (faults_before faults_after : ℕ) → RunEnd → Type 0
+HasRead options holds bytes = HasRun (Runs options holds bytes) (Begins options holds bytes) (Breaks options holds bytes)

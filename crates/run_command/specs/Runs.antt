@@ -13,7 +13,7 @@ use Rattle.nsi_script.specs.declared.script.Script.{Script}
 use Rattle.nsi_script.specs.Text.{script_of}
 use Rattle.nsi_agent.specs.Homes.{Routes, AreRoutes, home_in}
 use Rattle.nsi_play.specs.Openings.{plans_of}
-use Rattle.nsi_play.specs.Play.{IsPlay, Passes}
+use Rattle.nsi_play.specs.Play.{Passes}
 use Rattle.nsi_world.specs.Worlds.{empty, said}
 use Rattle.nsi_world.specs.Runs.{world_after, asks_of, numbered}
 use Rattle.nsi_world.specs.Scripts.{wishes_of}
@@ -27,8 +27,9 @@ use Rattle.run_totals.specs.declared.totals.Totals.{Totals}
 use Rattle.agent_threads.specs.Reports.{written}
 use Rattle.run_totals.specs.declared.report.Report.{Report}
 use Rattle.agent_threads.specs.declared.report.RunOptions.{RunOptions}
-use Rattle.net_run.specs.Held.{HoldsJournals}
-use Rattle.fault_lines.specs.Lines.{as_line, topology_fault, script_fault, disk_fault_line, long_line}
+use Rattle.net_run.specs.Held.{IsShown, HoldsJournals}
+use Rattle.net_run.specs.Worlds.{Holds, PlaysPart}
+use Rattle.fault_lines.specs.Lines.{as_line, topology_fault, script_fault, journal_fault, disk_fault_line, long_line}
 use Rattle.run_command.specs.declared.command.RunEnd.{RunEnd}
 
 -- how many events the run has
@@ -56,10 +57,11 @@ pub record IsSafeThroughout (t : Network) (routes : Routes) (events : List Event
 abbrev pub NothingIsSafeThroughout : Type 0
 NothingIsSafeThroughout = (t : Network) (routes : Routes) → IsSafeThroughout t routes []
 
--- the play of some first groups of a script, which has no more events than that, and is such a run whichever legs are those of the least paths
-pub record IsTextOf (options : RunOptions) (t : Network) (script : Script) (groups : ℕ) (events : List Event) : Type 0 where
-  pub play : IsPlay t (plans_of script.lose) (take groups script.groups) events
-  pub run : (routes : Routes) → AreRoutes t routes → IsSafeThroughout t routes events
+-- the play of some first groups of a script, which has no more events than that, and is such a run whichever legs are those of the least paths;
+-- so it is where the shelf tells what it holds, or the script restarts nobody
+pub record IsTextOf (options : RunOptions) (holds : Holds) (t : Network) (script : Script) (groups : ℕ) (events : List Event) : Type 0 where
+  pub play : PlaysPart t (plans_of script.lose) holds script.groups (take groups script.groups) events
+  pub run : IsShown t script.groups holds → (routes : Routes) → AreRoutes t routes → IsSafeThroughout t routes events
   pub within : length events ≤ options.limit
 
 -- These events are a safe run that asks the whole script, in order. In the world that they make each journal is synced whole and no work
@@ -75,66 +77,74 @@ pub record IsWholeRun (t : Network) (routes : Routes) (script : Script) (events 
   pub left : LeavesOnlyLost t (home_in t routes) (plans_of script.lose) events
   pub over : LoseNothing (plans_of script.lose) → All GoesOn events → (a : ℕ) → a < length t.agents → All (IsDone t (home_in t routes) (world_after empty events) a) (said (home_in t routes) (world_after empty events) a)
 
--- what is wanted of the whole play, which is such a run whichever legs are those of the least paths, and behind it its numbers
-pub record IsSettled (options : RunOptions) (t : Network) (script : Script) (text : List ℕ) : Type 0 where
+-- what is wanted of the whole play, which is such a run whichever legs are those of the least paths, where the shelf tells what it holds or
+-- the script restarts nobody, and behind it its numbers
+pub record IsSettled (options : RunOptions) (holds : Holds) (t : Network) (script : Script) (text : List ℕ) : Type 0 where
   pub events : List Event
-  pub play : IsPlay t (plans_of script.lose) script.groups events
-  pub run : (routes : Routes) → AreRoutes t routes → IsWholeRun t routes script events
+  pub play : PlaysPart t (plans_of script.lose) holds script.groups script.groups events
+  pub run : IsShown t script.groups holds → (routes : Routes) → AreRoutes t routes → IsWholeRun t routes script events
   pub within : length events ≤ options.limit
   pub spelled : text ≡ written options.report t events ++ closing_line options.report (totals_of t events)
 
 -- as many groups as make no more events than that, and behind them that there are more
-pub record IsTooLong (options : RunOptions) (t : Network) (script : Script) (text : List ℕ) : Type 0 where
+pub record IsTooLong (options : RunOptions) (holds : Holds) (t : Network) (script : Script) (text : List ℕ) : Type 0 where
   pub groups : ℕ
   pub events : List Event
-  pub first : IsTextOf options t script groups events
-  pub passes : Passes options.limit t (plans_of script.lose) (take (groups + 1) script.groups)
+  pub first : IsTextOf options holds t script groups events
+  pub passes : IsShown t script.groups holds → Passes options.limit t (plans_of script.lose) (take (groups + 1) script.groups)
   pub spelled : text ≡ written options.report t events ++ long_line
 
 -- some first groups of the play, and that text behind them
-pub record StartsPlay (options : RunOptions) (t : Network) (script : Script) (behind : Network → List ℕ) (text : List ℕ) : Type 0 where
+pub record StartsPlay (options : RunOptions) (holds : Holds) (t : Network) (script : Script) (behind : Network → List ℕ) (text : List ℕ) : Type 0 where
   pub groups : ℕ
   pub events : List Event
-  pub first : IsTextOf options t script groups events
+  pub first : IsTextOf options holds t script groups events
   pub spelled : text ≡ written options.report t events ++ behind t
 
 -- some first groups of the play, and behind them whose disk has failed
-abbrev pub BreaksPlay : RunOptions → Network → Script → List ℕ → Type 0
-BreaksPlay options t script text = (agent : ℕ) × StartsPlay options t script (λ u. disk_fault_line (name_of u agent)) text
+abbrev pub BreaksPlay : RunOptions → Holds → Network → Script → List ℕ → Type 0
+BreaksPlay options holds t script text = (agent : ℕ) × StartsPlay options holds t script (λ u. disk_fault_line (name_of u agent)) text
+
+-- Some first groups of the play, and behind them whose journal has no reading. So it is only where the script restarts an agent, and the shelf
+-- doesn't tell what it holds.
+abbrev pub UnreadsPlay : RunOptions → Holds → Network → Script → List ℕ → Type 0
+UnreadsPlay options holds t script text =
+    (agent : ℕ) × (place : ℕ) × (IsShown t script.groups holds → ⊥) × StartsPlay options holds t script (λ u. journal_fault (name_of u agent) place) text
 
 abbrev pub no_text : Network → List ℕ
 no_text t = []
 
-abbrev pub Plays : RunOptions → Network → Script → RunEnd → List ℕ → Type 0
-Plays options t script RunEnd.Done text = IsSettled options t script text
-Plays options t script RunEnd.Long text = IsTooLong options t script text
-Plays options t script end text = ⊥
+abbrev pub Plays : RunOptions → Holds → Network → Script → RunEnd → List ℕ → Type 0
+Plays options holds t script RunEnd.Done text = IsSettled options holds t script text
+Plays options holds t script RunEnd.Long text = IsTooLong options holds t script text
+Plays options holds t script RunEnd.NotAJournal text = UnreadsPlay options holds t script text
+Plays options holds t script end text = ⊥
 
 -- all that a play writes, or some first groups of it
-abbrev pub BeginsPlay : RunOptions → Network → Script → List ℕ → Type 0
-BeginsPlay options t script text = ((end : RunEnd) × Plays options t script end text) ⊎ StartsPlay options t script no_text text
+abbrev pub BeginsPlay : RunOptions → Holds → Network → Script → List ℕ → Type 0
+BeginsPlay options holds t script text = ((end : RunEnd) × Plays options holds t script end text) ⊎ StartsPlay options holds t script no_text text
 
 ---- Inputs
 
-abbrev pub RunsScript : RunOptions → Network → Result Script (ℕ × ScriptFault) → RunEnd → List ℕ → Type 0
-RunsScript options t (Ok script) end text = Plays options t script end text
-RunsScript options t (Err e) end text = (end ≡ RunEnd.BadScript) × (text ≡ script_fault e.0 e.1)
+abbrev pub RunsScript : RunOptions → Holds → Network → Result Script (ℕ × ScriptFault) → RunEnd → List ℕ → Type 0
+RunsScript options holds t (Ok script) end text = Plays options holds t script end text
+RunsScript options holds t (Err e) end text = (end ≡ RunEnd.BadScript) × (text ≡ script_fault e.0 e.1)
 
 -- the script stands behind the topology's lines
 abbrev pub script_behind : List ℕ → Network × ℕ → Result Script (ℕ × ScriptFault)
 script_behind bytes read = script_of read.0 (read.1 + 1) (behind_lines read.1 bytes)
 
-abbrev pub RunsRead : RunOptions → List ℕ → Result (Network × ℕ) (ℕ × TopologyFault) → RunEnd → List ℕ → Type 0
-RunsRead options bytes (Ok read) end text = RunsScript options read.0 (script_behind bytes read) end text
-RunsRead options bytes (Err e) end text = (end ≡ RunEnd.BadTopology) × (text ≡ topology_fault e.0 e.1)
+abbrev pub RunsRead : RunOptions → Holds → List ℕ → Result (Network × ℕ) (ℕ × TopologyFault) → RunEnd → List ℕ → Type 0
+RunsRead options holds bytes (Ok read) end text = RunsScript options holds read.0 (script_behind bytes read) end text
+RunsRead options holds bytes (Err e) end text = (end ≡ RunEnd.BadTopology) × (text ≡ topology_fault e.0 e.1)
 
-abbrev pub RunsIf : (fits : Bool) → RunOptions → List ℕ → RunEnd → List ℕ → Type 0
-RunsIf true options bytes end text = RunsRead options bytes (read_lines nothing 0 (lines_of bytes)) end text
-RunsIf false options bytes end text = (end ≡ RunEnd.Long) × (text ≡ long_line)
+abbrev pub RunsIf : (fits : Bool) → RunOptions → Holds → List ℕ → RunEnd → List ℕ → Type 0
+RunsIf true options holds bytes end text = RunsRead options holds bytes (read_lines nothing 0 (lines_of bytes)) end text
+RunsIf false options holds bytes end text = (end ≡ RunEnd.Long) × (text ≡ long_line)
 
 -- how `run` ends on these bytes with these options, and all that it writes
-abbrev pub Runs : RunOptions → List ℕ → RunEnd → List ℕ → Type 0
-Runs options bytes end text = RunsIf (nat_le (length bytes) greatest_input) options bytes end text
+abbrev pub Runs : RunOptions → Holds → List ℕ → RunEnd → List ℕ → Type 0
+Runs options holds bytes end text = RunsIf (nat_le (length bytes) greatest_input) options holds bytes end text
 
 ---- Runs that were cut short
 
@@ -149,12 +159,12 @@ abbrev pub OfRead : List ℕ → (Network → Script → Type 0) → Type 0
 OfRead bytes P = (t : Network) × (script : Script) × AreRead bytes t script × P t script
 
 -- some first groups of the play, and behind them whose disk has failed
-abbrev pub Breaks : RunOptions → List ℕ → List ℕ → Type 0
-Breaks options bytes text = OfRead bytes (λ t script. BreaksPlay options t script text)
+abbrev pub Breaks : RunOptions → Holds → List ℕ → List ℕ → Type 0
+Breaks options holds bytes text = OfRead bytes (λ t script. BreaksPlay options holds t script text)
 
 -- all that a run writes, or some first groups of its play
-abbrev pub Begins : RunOptions → List ℕ → List ℕ → Type 0
-Begins options bytes text = ((end : RunEnd) × Runs options bytes end text) ⊎ OfRead bytes (λ t script. StartsPlay options t script no_text text)
+abbrev pub Begins : RunOptions → Holds → List ℕ → List ℕ → Type 0
+Begins options holds bytes text = ((end : RunEnd) × Runs options holds bytes end text) ⊎ OfRead bytes (λ t script. StartsPlay options holds t script no_text text)
 
 ---- Journals
 

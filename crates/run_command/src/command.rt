@@ -6,10 +6,11 @@ ghost use Rattle.nsi_outside.specs.Stream.{WritesAll};
 ghost use Rattle.stp_topology.specs.Network.{name_of};
 ghost use Rattle.nsi_script.specs.Fits.{Fits};
 ghost use Rattle.nsi_play.specs.Openings.{plans_of};
-ghost use Rattle.fault_lines.specs.Lines.{topology_fault, script_fault, disk_fault_line, read_fault_line};
-ghost use Rattle.run_command.specs.Ends.{is_told, WritesSome, WritesSomeFront, IsCutShort, IsQuiet, HasDiskFault, IsTold, Closes, IsOfAgent, FailsAs, HasPlayed, HasRead, counted};
+ghost use Rattle.fault_lines.specs.Lines.{topology_fault, script_fault, journal_fault, disk_fault_line, read_fault_line};
+ghost use Rattle.run_command.specs.Ends.{is_told, WritesSome, WritesSomeFront, IsCutShort, IsQuiet, HasDiskFault, IsTold, Closes, IsOfAgent, FailsAs, HidesDisks, HasPlayed, HasRead, counted};
 ghost use Rattle.topology_input.specs.Reading.{IsDeclared};
 ghost use Rattle.net_run.specs.Held.{HoldsJournals};
+ghost use Rattle.net_run.specs.Worlds.{Holds};
 ghost use Rattle.run_command.specs.Runs.{NothingIsSafeThroughout, Runs, Begins, Breaks, KeepsRun, closing_line};
 
 use crate::texts::closing_line;
@@ -17,7 +18,7 @@ use agent_threads::{Resources, RunFault, RunOptions};
 use answered_play::laws::every_play;
 use circuit_laws::safety::{every_run_safe, nothing_safe};
 use end_to_end::laws::{every_run, nothing};
-use fault_lines::{disk_fault_text, script_fault, topology_fault};
+use fault_lines::{disk_fault_text, journal_fault, script_fault, topology_fault};
 use line_reader::{ReadError, read_whole};
 use net_run::run_world;
 use nsi_base::{AgentNo, GREATEST_INPUT};
@@ -45,6 +46,8 @@ pub enum RunEnd {
     WriteFault,
     /// An agent's disk failed or stopped.
     DiskFault,
+    /// A journal that was to be read again is none.
+    NotAJournal,
     NoMemory,
 }
 
@@ -114,6 +117,24 @@ fn broken<K: Sink>(alloc: Global, out: &mut K, topology: &Topology, agent: Agent
     }
 }
 
+/// Writes whose journal has no reading.
+fn unread<K: Sink>(
+    alloc: Global,
+    out: &mut K,
+    topology: &Topology,
+    agent: AgentNo,
+    place: u64,
+) -> RunEnd
+    requires { agent < length topology.now.agents }
+    ensures { Closes (journal_fault (name_of topology.now agent) place) RunEnd.NotAJournal result
+        (K.content out.old) (K.content out.new) (K.faults out.old) (K.faults out.new) }
+{
+    match journal_fault(alloc, topology.name(agent), place) {
+        Ok(text) => close(out, &text, RunEnd::NotAJournal),
+        Err(_) => RunEnd::NoMemory,
+    }
+}
+
 /// Tells why a play has failed.
 fn fail<K: Sink>(alloc: Global, out: &mut K, topology: &Topology, fault: &RunFault) -> RunEnd
     requires { IsOfAgent topology.now fault.now }
@@ -124,6 +145,7 @@ fn fail<K: Sink>(alloc: Global, out: &mut K, topology: &Topology, fault: &RunFau
         RunFault::Long => close(out, b"fault long\n", RunEnd::Long),
         RunFault::WriteFault => RunEnd::WriteFault,
         RunFault::DiskFault(agent) => broken(alloc, out, topology, agent),
+        RunFault::NotAJournal { agent, place } => unread(alloc, out, topology, agent, place),
         RunFault::NoMemory => RunEnd::NoMemory,
     }
 }
@@ -141,7 +163,7 @@ where
     H::Disk: Drop + Send,
     requires limit { options.limit ≤ 2000000 }
     requires fits { Fits topology.now script.now }
-    ensures played { HasPlayed options topology.now script.now
+    ensures played { HasPlayed options (H.holds shelf.old) topology.now script.now
         (K.content out.old) (K.content out.new)
         (counted 0 (H.faults shelf.old) (H.stops shelf.old))
         (counted 0 (H.faults shelf.new) (H.stops shelf.new))
@@ -178,7 +200,8 @@ where
     requires size { length bytes.now ≤ greatest_input }
     requires declared { IsDeclared bytes.now declared.now }
     requires behind { declared.now.lines + length declared.now.behind.now ≤ length bytes.now }
-    ensures read { HasRead options bytes.now (K.content out.old) (K.content out.new)
+    ensures read { HasRead options (H.holds shelf.old) bytes.now
+        (K.content out.old) (K.content out.new)
         (counted 0 (H.faults shelf.old) (H.stops shelf.old))
         (counted 0 (H.faults shelf.new) (H.stops shelf.new))
         (K.faults out.old) (K.faults out.new) result }
@@ -211,7 +234,8 @@ where
     H::Disk: Drop + Send,
     requires limit { options.limit ≤ 2000000 }
     requires size { length bytes.now ≤ greatest_input }
-    ensures read { HasRead options bytes.now (K.content out.old) (K.content out.new)
+    ensures read { HasRead options (H.holds shelf.old) bytes.now
+        (K.content out.old) (K.content out.new)
         (counted 0 (H.faults shelf.old) (H.stops shelf.old))
         (counted 0 (H.faults shelf.new) (H.stops shelf.new))
         (K.faults out.old) (K.faults out.new) result }
@@ -227,8 +251,8 @@ where
     }
 }
 
-/// Plays the script that stands in the input behind a topology, each round by so many workers at most. The whole input is read first, and
-/// what is wanted of each group is written in its end. Journals begin empty.
+/// Plays the script that stands in the input behind a topology, each round by so many workers at most. The whole input
+/// is read first, and what is wanted of each group is written in its end. Journals begin empty.
 pub fn run<R: Threads + Sync, S: Source, K: Sink, H: Shelf>(
     resources: &Resources<'_, R>,
     options: RunOptions,
@@ -239,9 +263,10 @@ pub fn run<R: Threads + Sync, S: Source, K: Sink, H: Shelf>(
 where
     H::Disk: Drop + Send,
     requires { options.limit ≤ 2000000 }
-    // The bytes say how it ends and all that is written.
+    // The bytes say how it ends and all that is written, where the shelf tells what it holds or no agent is restarted.
     ensures ends { is_told result ≡ true → IfSome (S.left input.old)
-        (λ bytes. WritesSome (Runs options bytes result) (K.content out.old) (K.content out.new)) }
+        (λ bytes. WritesSome (Runs options (H.holds shelf.old) bytes result)
+        (K.content out.old) (K.content out.new)) }
 
     // A fault comes only from outside, and leaves whole groups or a front of them.
     ensures read_fault { result ≡ RunEnd.ReadFault → S.faults input.old < S.faults input.new }
@@ -253,17 +278,19 @@ where
         (counted (S.faults input.old) (H.faults shelf.old) (H.stops shelf.old))
         (counted (S.faults input.new) (H.faults shelf.new) (H.stops shelf.new)) }
     ensures broken { result ≡ RunEnd.DiskFault → IfSome (S.left input.old)
-        (λ bytes. WritesSome (Breaks options bytes) (K.content out.old) (K.content out.new)) }
+        (λ bytes. WritesSome (Breaks options (H.holds shelf.old) bytes)
+        (K.content out.old) (K.content out.new)) }
     ensures unfinished { (result ≡ RunEnd.WriteFault) ⊎ (result ≡ RunEnd.NoMemory) →
-        IsCutShort options (K.content out.old) (S.left input.old)
+        IsCutShort options (H.holds shelf.old) (K.content out.old) (S.left input.old)
         (counted (S.faults input.old) (H.faults shelf.old) (H.stops shelf.old))
         (counted (S.faults input.new) (H.faults shelf.new) (H.stops shelf.new))
         (K.content out.new) }
 
-    // No fault is swallowed, and none is told as want of memory; but in the round that has too many events another disk may have failed.
+    // No fault is swallowed, and none is told as want of memory; but in the round that has too many events another disk
+    // may have failed, and so may that of a journal without a reading.
     ensures quiet_in { is_told result ≡ true → S.faults input.new ≡ S.faults input.old }
     ensures quiet_out { (result ≡ RunEnd.WriteFault → ⊥) → K.faults out.new ≡ K.faults out.old }
-    ensures quiet_disk { is_told result ≡ true → (result ≡ RunEnd.Long → ⊥) →
+    ensures quiet_disk { is_told result ≡ true → (HidesDisks result → ⊥) →
         IsQuiet
         (counted (S.faults input.old) (H.faults shelf.old) (H.stops shelf.old))
         (counted (S.faults input.new) (H.faults shelf.new) (H.stops shelf.new)) }
@@ -283,8 +310,8 @@ where
 
 /// Nothing is a front of what a run writes, whatever the input.
 pub fn begins_with_nothing()
-    ensures { (options : _) (left old : Option (List ℕ)) → IfSome left
-        (λ bytes. WritesSomeFront (Begins options bytes) old old) }
+    ensures { (options : _) (holds : Holds) (left old : Option (List ℕ)) → IfSome left
+        (λ bytes. WritesSomeFront (Begins options holds bytes) old old) }
 {
     nothing_throughout();
 }

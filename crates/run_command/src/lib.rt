@@ -1,4 +1,5 @@
-//! The command `run`: all agents of a topology play a script, and each of their steps is written, or how many there were.
+//! The command `run`: all agents of a topology play a script, and each of their steps is written, or how many there
+//! were.
 #![tactic(auto)]
 
 mod command;

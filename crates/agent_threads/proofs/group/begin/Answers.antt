@@ -1,14 +1,19 @@
-use Rattle.std.proofs.Common.{◌≡◌, ◌<◌, ◌+◌, ◌∙◌, sym, refl, ap, subst, arith, length, drop, get_or, map, List}
+use Rattle.std.proofs.Common.{◌≡◌, ◌<◌, ◌+◌, ◌∙◌, [], ◌∷◌, sym, refl, ap, subst, arith, length, drop, get_or, map, List}
 use Rattle.nsi_agent.specs.Homes.{home_in}
 use Rattle.nsi_primitive.specs.declared.entry.Event.{Event}
 use Rattle.nsi_script.specs.declared.script.Act.{Act}
 use Rattle.nsi_play.specs.Play.{behind, acts, asks_in, acted, ticked_in}
-use Rattle.agent_threads.specs.Nets.{seats}
+use Rattle.agent_threads.specs.Nets.{seats_by}
 use Rattle.agent_threads.specs.Coming.{IsTold}
-use Rattle.agent_threads.specs.Promise.{CanBeDone}
-use Rattle.agent_threads.proofs.Same.{still_of, same_agents, same_agents_twice}
-use Rattle.agent_threads.proofs.Coming.{acts_first, acts_next, acts_end, asks_next, asks_end}
-use Rattle.agent_threads.proofs.Told.{act_at}
+use Rattle.agent_threads.specs.Promise.{CanBeDone, Shows}
+use Rattle.agent_threads.proofs.Same.{still_of, same_agents}
+use Rattle.agent_threads.proofs.Owning.{still_seen}
+use Rattle.agent_threads.proofs.Causes.{same_error, if_err, among_same, among_twice, cause_before, restart_fits, restart_writes, shelf_failed, shelf_still, listed_same, listed_stays}
+use Rattle.std.proofs.lemmas.Result.{err_from_is_err_and}
+use Rattle.agent_threads.specs.declared.fault.RunFault.{RunFault}
+use Rattle.agent_threads.specs.Made.{counted, HasRunCause}
+use Rattle.agent_threads.proofs.Coming.{acts_first, acts_next, acts_end, acts_longer, asks_next, asks_end}
+use Rattle.agent_threads.proofs.Told.{act_at, shown_one}
 use Rattle.agent_threads.proofs.Leaves.{leaves_then}
 use Rattle.agent_threads.proofs.Going.{room_less, room_after, go_count}
 use Rattle.agent_threads.proofs.group.begin.Goals as goal
@@ -19,15 +24,18 @@ tick-requires-clause-one g c =
     record { network = can.network; of = can.of }
 
 pub tick-requires-clause-few : goal.tick-requires-clause-few
-tick-requires-clause-few g c = room_less (c.args.room + 1) 1 c.args.nodes.now.items (omega arith) c.requires.few
+tick-requires-clause-few g c = room_less (c.args.start.room + 1) 1 c.args.nodes.now.items (omega arith) c.requires.few
 
 pub loop-action-init : goal.loop-action-init
 loop-action-init g c = record {
-  way = λ t o routes r.
-      acts_first (home_in t routes) c.tick.new.events.items c.args.group.now c.args.number (seats c.args.nodes.now.items) (seats c.tick.new.nodes.items)
-      (subst (λ (es : List Event). IsTold (map (ticked_in c.args.group.now.at (home_in t routes)) (seats c.args.nodes.now.items)) es c.tick.new.events.items (seats c.tick.new.nodes.items)) c.requires.none (c.in_ok-tick.ensures.ok t o routes r));
+  way = λ t o routes r b v shows.
+      acts_first (home_in t routes) c.tick.new.events.items c.args.group.now c.args.start.number (seats_by b c.args.nodes.now.items) (seats_by b c.tick.new.nodes.items)
+      (subst (λ (es : List Event). IsTold (map (ticked_in c.args.group.now.at (home_in t routes)) (seats_by b c.args.nodes.now.items)) es c.tick.new.events.items (seats_by b c.tick.new.nodes.items)) c.requires.none (c.in_ok-tick.ensures.ok t o routes r b v));
   asks = refl;
   leaves = c.in_ok-tick.ensures.leaves;
+  stays = λ n h. h;
+  faults = refl;
+  stops = refl;
 }
 
 pub act-requires-clause-can : goal.act-requires-clause-can
@@ -58,8 +66,13 @@ act-requires-clause-few g c =
     let l = c.loop-action in
     let f = l.invariant.leaves.further in
     let count = go_count c.args.group.now.at c.args.nodes.now.items l.nodes.items c.args.events.now.items l.events.items f in
-    room_after c.args.group.now.at (c.args.room + 1) 1 (length f.own) c.args.nodes.now.items l.nodes.items
-    (omega (arith, count, ap length c.requires.none, c.if-len-room.false)) f.each c.requires.few
+    room_after c.args.group.now.at (c.args.start.room + 1) 1 (length f.own) c.args.nodes.now.items l.nodes.items
+    (omega (arith, count, ap length c.requires.none, c.if-len-start.false)) f.each c.requires.few
+
+pub act-requires-clause-listed : goal.act-requires-clause-listed
+act-requires-clause-listed g c =
+    let l = c.loop-action in
+    listed_stays (g.B.Reopen.listed c.args.shelf.now) (g.B.Reopen.listed l.shelf) l.invariant.stays l.nodes.items (listed_same (g.B.Reopen.listed c.args.shelf.now) c.args.nodes.now.items l.nodes.items l.invariant.leaves.same c.requires.listed)
 
 pub loop-action-preserved : goal.loop-action-preserved
 loop-action-preserved g c =
@@ -70,35 +83,106 @@ loop-action-preserved g c =
     let is : d ≡ get_or todo l.action-index d = c.action-item.is ∙ ap (λ (xs : List Act). get_or xs l.action-index d) c.items-action-items.ensures in
     let later = c.next_ask-later.ensures ∙ ap (λ (a : Act). l.next + asks_in a) is in
     record {
-      way = λ t o routes r.
+      way = λ t o routes r b v shows.
           let now = still_of t c.args.nodes.now.items l.nodes.items l.invariant.leaves.same o in
-          let one = subst (λ (a : Act). IsTold (acted a l.next (home_in t routes) (seats l.nodes.items)) l.events.items c.act.new.events.items (seats c.act.new.nodes.items)) is (c.in_ok-act.ensures.ok t now routes r) in
-          ap (λ n. behind c.act.new.events.items (acts (drop (l.action-index + 1) todo) n (home_in t routes) (seats c.act.new.nodes.items))) later
-          ∙ (acts_next (home_in t routes) l.events.items c.act.new.events.items todo l.action-index l.next d (seats l.nodes.items) (seats c.act.new.nodes.items) here one
-          ∙ l.invariant.way t o routes r);
+          let u = still_seen t c.args.nodes.now.items l.nodes.items l.invariant.leaves.owned o routes r b v in
+          let shown : Shows b d = subst (λ (a : Act). Shows b a) (sym is) (shows l.action-index d here) in
+          let one = subst (λ (a : Act). IsTold (acted a l.next (home_in t routes) (seats_by b l.nodes.items)) l.events.items c.act.new.events.items (seats_by b c.act.new.nodes.items)) is (c.in_ok-act.ensures.ok t now routes r b u shown) in
+          ap (λ n. behind c.act.new.events.items (acts (drop (l.action-index + 1) todo) n (home_in t routes) (seats_by b c.act.new.nodes.items))) later
+          ∙ (acts_next (home_in t routes) l.events.items c.act.new.events.items todo l.action-index l.next d (seats_by b l.nodes.items) (seats_by b c.act.new.nodes.items) here one
+          ∙ l.invariant.way t o routes r b v shows);
       asks = omega (arith, later, asks_next todo l.action-index d here, l.invariant.asks);
       leaves = leaves_then c.args.group.now.at c.args.nodes.now.items l.nodes.items c.act.new.nodes.items c.args.events.now.items l.events.items c.act.new.events.items l.invariant.leaves c.in_ok-act.ensures.leaves;
+      stays = λ n h. c.in_ok-act.ensures.stays n (l.invariant.stays n h);
+      faults = c.in_ok-act.ensures.shelf.quiet ∙ l.invariant.faults;
+      stops = c.in_ok-act.ensures.shelf.calm ∙ l.invariant.stops;
     }
 
 pub returns-clause-ok : goal.returns-clause-ok
-returns-clause-ok g c = λ t o routes r.
+returns-clause-ok g c = λ t o routes r b v shows.
     let l = c.loop-action in
-    acts_end (home_in t routes) l.events.items c.args.group.now c.args.number l.next (seats c.args.nodes.now.items) (seats l.nodes.items) l.action-index
-    (omega (arith, c.loop-action-test.false, ap length c.items-action-items.ensures)) (l.invariant.way t o routes r)
+    acts_end (home_in t routes) l.events.items c.args.group.now c.args.start.number l.next (seats_by b c.args.nodes.now.items) (seats_by b l.nodes.items) l.action-index
+    (omega (arith, c.loop-action-test.false, ap length c.items-action-items.ensures)) (l.invariant.way t o routes r b v shows)
 
 pub returns-clause-next : goal.returns-clause-next
 returns-clause-next g c =
     let l = c.loop-action in
     omega (arith, l.invariant.asks, asks_end c.args.group.now.acts l.action-index (omega (arith, c.loop-action-test.false, ap length c.items-action-items.ensures)))
 
-pub returns-then-len-room-clause-agents : goal.returns-then-len-room-clause-agents
-returns-then-len-room-clause-agents g c = same_agents c.args.nodes.now.items c.loop-action.nodes.items c.loop-action.invariant.leaves.same
+pub returns-in_err-tick-clause-agents : goal.returns-in_err-tick-clause-agents
+returns-in_err-tick-clause-agents g c = among_same c.args.nodes.now.items c.tick.new.nodes.items c.in_err-tick.ensures.agents
 
-pub returns-then-len-room-2-clause-agents : goal.returns-then-len-room-2-clause-agents
-returns-then-len-room-2-clause-agents g c = same_agents c.args.nodes.now.items c.loop-action.nodes.items c.loop-action.invariant.leaves.same
+pub returns-then-len-start-clause-agents : goal.returns-then-len-start-clause-agents
+returns-then-len-start-clause-agents g c = among_same c.args.nodes.now.items c.loop-action.nodes.items (same_agents c.args.nodes.now.items c.loop-action.nodes.items c.loop-action.invariant.leaves.same)
+
+pub returns-then-len-start-2-clause-agents : goal.returns-then-len-start-2-clause-agents
+returns-then-len-start-2-clause-agents g c = among_same c.args.nodes.now.items c.loop-action.nodes.items (same_agents c.args.nodes.now.items c.loop-action.nodes.items c.loop-action.invariant.leaves.same)
 
 pub returns-clause-agents : goal.returns-clause-agents
-returns-clause-agents g c = same_agents c.args.nodes.now.items c.loop-action.nodes.items c.loop-action.invariant.leaves.same
+returns-clause-agents g c = among_same c.args.nodes.now.items c.loop-action.nodes.items (same_agents c.args.nodes.now.items c.loop-action.nodes.items c.loop-action.invariant.leaves.same)
 
 pub returns-in_err-act-clause-agents : goal.returns-in_err-act-clause-agents
-returns-in_err-act-clause-agents g c = same_agents_twice c.args.nodes.now.items c.loop-action.nodes.items c.act.new.nodes.items (same_agents c.args.nodes.now.items c.loop-action.nodes.items c.loop-action.invariant.leaves.same) c.in_err-act.ensures.agents
+returns-in_err-act-clause-agents g c =
+    among_twice c.args.nodes.now.items c.loop-action.nodes.items c.act.new.nodes.items (among_same c.args.nodes.now.items c.loop-action.nodes.items (same_agents c.args.nodes.now.items c.loop-action.nodes.items c.loop-action.invariant.leaves.same)) c.in_err-act.ensures.agents
+
+---- Where an act has failed
+
+pub returns-in_err-act-clause-shelf : goal.returns-in_err-act-clause-shelf
+returns-in_err-act-clause-shelf g c =
+    let l = c.loop-action in
+    let p = err_from_is_err_and c.from_residual-in_err-act.result c.from_residual-in_err-act.ensures.1 in
+    shelf_failed _ _ _ _ _ p.0 p.1 l.invariant.faults l.invariant.stops c.in_err-act.ensures.shelf
+
+pub returns-in_err-act-clause-stays : goal.returns-in_err-act-clause-stays
+returns-in_err-act-clause-stays g c = λ n h. c.in_err-act.ensures.stays n (c.loop-action.invariant.stays n h)
+
+pub returns-in_err-act-clause-cause : goal.returns-in_err-act-clause-cause
+returns-in_err-act-clause-cause g c =
+    let l = c.loop-action in
+    let olds = c.args.nodes.now.items in
+    let mids = l.nodes.items in
+    let news = c.act.new.nodes.items in
+    let todo = c.args.group.now.acts in
+    let d = c.action-item.result in
+    let here : l.action-index < length todo = omega (arith, c.loop-action-test.true, ap length c.items-action-items.ensures) in
+    let is : d ≡ get_or todo l.action-index d = c.action-item.is ∙ ap (λ (xs : List Act). get_or xs l.action-index d) c.items-action-items.ensures in
+    let p = err_from_is_err_and c.from_residual-in_err-act.result c.from_residual-in_err-act.ensures.1 in
+    let before = counted (g.B.Reopen.faults c.args.shelf.now) (g.B.Reopen.stops c.args.shelf.now) in
+    let mid = counted (g.B.Reopen.faults l.shelf) (g.B.Reopen.stops l.shelf) in
+    let after = counted (g.B.Reopen.faults c.act.new.shelf) (g.B.Reopen.stops c.act.new.shelf) in
+    if_err c.from_residual-in_err-act.result (HasRunCause todo olds news before after) p.0 p.1
+    (subst (λ (e : RunFault). HasRunCause todo olds news before after e) (sym p.2)
+    (cause_before todo (d ∷ []) olds mids news before mid after c.in_err-act.field-0.0 l.invariant.leaves.same l.invariant.leaves.owned (shown_one todo l.action-index d here is) l.invariant.faults l.invariant.stops c.in_err-act.ensures.cause))
+
+pub returns-in_err-act-clause-long : goal.returns-in_err-act-clause-long
+returns-in_err-act-clause-long g c = λ t o routes r b v shows h.
+    let p = err_from_is_err_and c.from_residual-in_err-act.result c.from_residual-in_err-act.ensures.1 in
+    absurd (restart_fits c.in_err-act.field-0.0 c.in_err-act.ensures.mild (same_error c.from_residual-in_err-act.result p.0 c.in_err-act.field-0.0 _ p.1 p.2 h))
+
+pub returns-in_err-act-clause-mild : goal.returns-in_err-act-clause-mild
+returns-in_err-act-clause-mild g c = λ h.
+    let p = err_from_is_err_and c.from_residual-in_err-act.result c.from_residual-in_err-act.ensures.1 in
+    restart_writes c.in_err-act.field-0.0 c.in_err-act.ensures.mild (same_error c.from_residual-in_err-act.result p.0 c.in_err-act.field-0.0 _ p.1 p.2 h)
+
+---- Too many events
+
+pub returns-then-len-start-clause-long : goal.returns-then-len-start-clause-long
+returns-then-len-start-clause-long g c = λ t o routes r b v shows h.
+    let l = c.loop-action in
+    acts_longer (home_in t routes) l.events.items c.args.group.now c.args.start.number l.next (seats_by b c.args.nodes.now.items) (drop l.action-index c.args.group.now.acts) (seats_by b l.nodes.items) c.args.start.room (l.invariant.way t o routes r b v shows)
+    (omega (arith, c.if-len-start.true))
+
+pub returns-then-len-start-clause-shelf : goal.returns-then-len-start-clause-shelf
+returns-then-len-start-clause-shelf g c = shelf_still _ _ _ c.loop-action.invariant.faults c.loop-action.invariant.stops
+
+pub returns-then-len-start-2-clause-long : goal.returns-then-len-start-2-clause-long
+returns-then-len-start-2-clause-long g c = λ t o routes r b v shows h.
+    let l = c.loop-action in
+    acts_longer (home_in t routes) l.events.items c.args.group.now c.args.start.number l.next (seats_by b c.args.nodes.now.items) (drop l.action-index c.args.group.now.acts) (seats_by b l.nodes.items) c.args.start.room (l.invariant.way t o routes r b v shows)
+    (omega (arith, c.if-len-start-2.true))
+
+pub returns-then-len-start-2-clause-shelf : goal.returns-then-len-start-2-clause-shelf
+returns-then-len-start-2-clause-shelf g c = shelf_still _ _ _ c.loop-action.invariant.faults c.loop-action.invariant.stops
+
+pub returns-clause-shelf : goal.returns-clause-shelf
+returns-clause-shelf g c = shelf_still _ _ _ c.loop-action.invariant.faults c.loop-action.invariant.stops

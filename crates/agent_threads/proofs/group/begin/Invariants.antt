@@ -1,12 +1,16 @@
-use Rattle.std.proofs.Common.{◌≡◌, ◌+◌, drop}
+use Rattle.std.proofs.Common.{ℕ, true, List, ◌≡◌, ◌+◌, drop}
 use Rattle.nsi_play.specs.Play.{behind, acts, asks_among, begins}
-use Rattle.agent_threads.specs.Nets.{seats, AtHomes}
+use Rattle.agent_threads.specs.Nets.{seats_by}
+use Rattle.agent_threads.specs.Promise.{AtShown}
 use Rattle.agent_threads.specs.Leaving.{LeavesNet}
 use Rattle.agent_threads.proofs.group.begin.Given as goal
 
 abbrev pub invariant-loop-action : goal.invariant-loop-action
 invariant-loop-action g l = record {
-  way : AtHomes l.fn.nodes.items (λ homes. behind l.events.items (acts (drop l.action-index l.group.acts) l.next homes (seats l.nodes.items)) ≡ begins l.group l.number homes (seats l.fn.nodes.items));
-  asks : l.next + asks_among (drop l.action-index l.group.acts) ≡ l.number + asks_among l.group.acts;
+  way : AtShown l.fn.nodes.items l.group.acts (λ homes tells. behind l.events.items (acts (drop l.action-index l.group.acts) l.next homes (seats_by tells l.nodes.items)) ≡ begins l.group l.start.number homes (seats_by tells l.fn.nodes.items));
+  asks : l.next + asks_among (drop l.action-index l.group.acts) ≡ l.start.number + asks_among l.group.acts;
   leaves : LeavesNet l.group.at l.fn.nodes.items l.nodes.items l.fn.events.items l.events.items;
+  stays : (n : List ℕ) → g.B.Reopen.listed l.fn.shelf n ≡ true → g.B.Reopen.listed l.shelf n ≡ true;
+  faults : g.B.Reopen.faults l.shelf ≡ g.B.Reopen.faults l.fn.shelf;
+  stops : g.B.Reopen.stops l.shelf ≡ g.B.Reopen.stops l.fn.shelf;
 }

@@ -1,7 +1,7 @@
 use Rattle.std.proofs.Common.{◌≡◌, ◌≤◌, ◌+◌, ◌*◌, ◌-◌, ◌++◌, true, List, length, if◌then◌else◌}
 use Rattle.nsi_primitive.specs.declared.entry.Event.{Event}
 use Rattle.nsi_play.specs.Rounds.{all_quiet}
-use Rattle.agent_threads.specs.Nets.{seats, AtHomes}
+use Rattle.agent_threads.specs.Nets.{seats_by, AtHomes}
 use Rattle.agent_threads.specs.Coming.{IsSettledBy}
 use Rattle.agent_threads.specs.Leaving.{LeavesNet}
 use Rattle.agent_threads.proofs.group.settle.Given as goal
@@ -11,8 +11,8 @@ decreases-loop-quiet g l = 2 * (l.room - length l.events.items) + (if l.quiet th
 
 abbrev pub invariant-loop-quiet : goal.invariant-loop-quiet
 invariant-loop-quiet g l = record {
-  way : AtHomes l.fn.nodes.items (λ homes. (own : List Event) × (l.events.items ≡ l.fn.events.items ++ own) × IsSettledBy homes (seats l.fn.nodes.items) own (seats l.nodes.items)
-      × (l.quiet ≡ true → all_quiet homes (seats l.nodes.items) ≡ true));
+  way : AtHomes l.fn.nodes.items (λ homes tells. (own : List Event) × (l.events.items ≡ l.fn.events.items ++ own) × IsSettledBy homes (seats_by tells l.fn.nodes.items) own (seats_by tells l.nodes.items)
+      × (l.quiet ≡ true → all_quiet homes (seats_by tells l.nodes.items) ≡ true));
   leaves : LeavesNet 0 l.fn.nodes.items l.nodes.items l.fn.events.items l.events.items;
   within : length l.events.items ≤ l.room;
 }

@@ -1,13 +1,14 @@
-use Rattle.std.proofs.Common.{map}
+use Rattle.std.proofs.Common.{false, map, subst, sym}
 use Rattle.nsi_agent.specs.Homes.{home_in}
 use Rattle.nsi_play.specs.Play.{ticked_in}
 use Rattle.agent_threads.specs.Made.{tick_to}
-use Rattle.agent_threads.proofs.Same.{does_net, does_same, does_seats, does_usable, same_agents_twice}
+use Rattle.agent_threads.proofs.Same.{does_net, does_same, does_usable, same_agents_twice}
 use Rattle.agent_threads.proofs.Draining.{is_told}
-use Rattle.agent_threads.proofs.Entering.{tick_enters}
-use Rattle.agent_threads.proofs.Growing.{does_grow}
-use Rattle.agent_threads.specs.Nets.{seats, EachIs}
-use Rattle.agent_threads.specs.Journals.{Grows}
+use Rattle.agent_threads.proofs.Seen.{does_seen, tick_needs}
+use Rattle.agent_threads.proofs.Owning.{tick_owns, does_owned}
+use Rattle.nsi_play.specs.Rounds.{Net}
+use Rattle.quiet_rounds.specs.Bounded.{IsBounded}
+use Rattle.agent_threads.specs.Nets.{seats, seats_by, EachIs}
 use Rattle.agent_threads.specs.Bounds.{MovesOn}
 use Rattle.agent_threads.proofs.Moving.{tick_moves}
 use Rattle.agent_threads.proofs.Going.{anyhow, does_move}
@@ -18,9 +19,9 @@ pub drain-requires-clause-usable : goal.drain-requires-clause-usable
 drain-requires-clause-usable g c = does_usable (tick_to c.args.to) c.args.nodes.now.items c.tick_all.new.nodes.items c.in_ok-tick_all.ensures.done
 
 pub returns-clause-ok : goal.returns-clause-ok
-returns-clause-ok g c = λ t o routes r.
-    is_told (map (ticked_in c.args.to (home_in t routes)) (seats c.args.nodes.now.items)) c.tick_all.new.nodes.items c.drain.new.nodes.items c.args.events.now.items c.drain.new.events.items
-    (does_seats (tick_to c.args.to) c.args.nodes.now.items c.tick_all.new.nodes.items c.in_ok-tick_all.ensures.done t o routes r)
+returns-clause-ok g c = λ t o routes r b w.
+    is_told b (map (ticked_in c.args.to (home_in t routes)) (seats_by b c.args.nodes.now.items)) c.tick_all.new.nodes.items c.drain.new.nodes.items c.args.events.now.items c.drain.new.events.items
+    (does_seen (tick_to c.args.to) (tick_needs c.args.to) b c.args.nodes.now.items c.tick_all.new.nodes.items c.in_ok-tick_all.ensures.done t o routes r)
     c.in_ok-drain.ensures.made c.in_ok-drain.ensures.events
 
 pub returns-in_err-drain-clause-agents : goal.returns-in_err-drain-clause-agents
@@ -37,6 +38,9 @@ returns-clause-leaves g c =
     leaves_drained c.args.to olds mids c.drain.new.nodes.items c.args.events.now.items c.drain.new.events.items c.requires.net
     (does_net (tick_to c.args.to) c.args.nodes.now.items c.tick_all.new.nodes.items c.in_ok-tick_all.ensures.done c.requires.net)
     (does_same (tick_to c.args.to) c.args.nodes.now.items c.tick_all.new.nodes.items c.in_ok-tick_all.ensures.done)
-    (anyhow exist olds (EachIs Grows olds mids) c.requires.one (does_grow (tick_to c.args.to) olds mids (tick_enters c.args.to) c.in_ok-tick_all.ensures.done))
     (anyhow exist olds (EachIs (MovesOn c.args.to) olds mids) c.requires.one (does_move c.args.to (tick_to c.args.to) olds mids (tick_moves c.args.to) c.in_ok-tick_all.ensures.done))
+    (anyhow exist olds (IsBounded (seats olds) → IsBounded (seats mids)) c.requires.one
+    (λ t o routes r b w h. subst (λ (net : Net). IsBounded net) (sym (does_seen (tick_to c.args.to) (tick_needs c.args.to) false olds mids c.in_ok-tick_all.ensures.done t o routes r)) ((c.nets_are_bounded.ensures.steps (home_in t routes) (seats olds) h).ticks c.args.to)))
+    (does_owned (tick_to c.args.to) olds mids (tick_owns c.args.to) c.in_ok-tick_all.ensures.done)
+    c.nets_are_bounded.ensures.steps (home_in c.requires.one.network (exist c.requires.one.network).0)
     c.in_ok-drain.ensures.made c.requires.told c.in_ok-drain.ensures.events c.in_ok-drain.ensures.printable

@@ -79,7 +79,7 @@ returns-in-Some-clause-each g t c =
     let each : EachIs Stays ms c.meet_rest.new.rest = subst (λ (xs : List Kept). EachIs Stays xs c.meet_rest.new.rest) v c.meet_rest.ensures.each in
     subst (λ (xs : List Kept). EachIs Stays xs c.push_reserved.new.self.items) (sym c.in-Some.ensures.items)
     (subst (λ (ys : List Kept). EachIs Stays (ks ++ k ∷ []) ys) (sym (c.push_reserved.ensures.items ∙ ap (λ (xs : List Kept). xs ++ c.meet_rest.new.first ∷ []) whole))
-    (each_more ks c.meet_rest.new.rest k c.meet_rest.new.first (stays_twice ks ms c.meet_rest.new.rest c.meet_all.ensures.each each) c.meet_rest.ensures.stays))
+    (each_more Stays ks c.meet_rest.new.rest k c.meet_rest.new.first (stays_twice ks ms c.meet_rest.new.rest c.meet_all.ensures.each each) c.meet_rest.ensures.stays))
 
 pub returns-in-Some-clause-wired : goal.returns-in-Some-clause-wired
 returns-in-Some-clause-wired g t c =

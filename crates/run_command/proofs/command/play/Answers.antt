@@ -1,7 +1,7 @@
 use Rattle.std.proofs.Common.{Result, Err, ◌≡◌, ap}
 use Rattle.run_totals.specs.declared.totals.Totals.{Totals}
 use Rattle.agent_threads.specs.declared.fault.RunFault.{RunFault}
-use Rattle.run_command.proofs.Running.{settled_run, failing_run, fails_not_done}
+use Rattle.run_command.proofs.Running.{settled_run, failing_run, fails_not_done, unread_cause, disk_cause, of_agent}
 use Rattle.run_command.proofs.Wholes.{PlayLaws, plays_run, fronts_run}
 use Rattle.run_command.proofs.command.play.Goals as goal
 
@@ -19,7 +19,7 @@ returns-in-Ok-clause-played g c =
       over = c.settled.ensures.each;
     }
     in
-    settled_run c.args.topology.now c.args.options c.args.script.now _ (g.K.Sink.content c.run_world.new.out) _ _ _ _ _ _ (c.in-Ok.ensures.quiet (λ e. cc)) c.tell_totals.result
+    settled_run c.args.topology.now c.args.options (g.H.Shelf.holds c.args.shelf.now) c.args.script.now _ (g.K.Sink.content c.run_world.new.out) _ _ _ _ _ _ (c.in-Ok.ensures.quiet (λ e. cc)) c.tell_totals.result
     (plays_run laws c.args.options.limit c.args.topology.now c.args.script.now c.requires.limit c.facts.ensures c.laws.ensures c.requires.fits)
     c.in-Ok.totals c.in-Ok.ensures.done c.tell_totals.ensures c.in-Ok.ensures.calm
 
@@ -47,13 +47,14 @@ returns-in-Err-clause-played g c =
       over = c.settled.ensures.each;
     }
     in
-    failing_run c.args.topology.now c.args.options c.args.script.now _ (g.K.Sink.content c.run_world.new.out) _ _ _ _ _ _ c.fail.result
+    failing_run c.args.topology.now c.args.options (g.H.Shelf.holds c.args.shelf.now) c.args.script.now _ (g.K.Sink.content c.run_world.new.out) _ _ _ _ _ _ c.fail.result
     (fronts_run laws c.args.options.limit c.args.topology.now c.args.script.now c.requires.limit c.facts.ensures c.laws.ensures c.requires.fits)
     c.in-Err.fault
     (record {
       long = λ e. o.long (ap (λ f. Err f) e);
-      broken = λ agent e. (o.broken agent (ap (λ f. Err f) e)).1;
-      disk = λ agent e. o.disk agent (ap (λ f. Err f) e);
+      broken = o.whole;
+      unread = λ agent place e. unread_cause c.args.topology.now _ _ _ _ _ c.in-Err.fault agent place e o.cause;
+      disk = λ agent e. disk_cause c.args.topology.now _ _ _ _ _ c.in-Err.fault agent e o.cause;
       front = o.front;
       write = λ e. o.write (ap (λ f. Err f) e);
       quiet = λ n. o.quiet (λ e. n (same_fault c.in-Err.fault RunFault.WriteFault e));
@@ -62,3 +63,6 @@ returns-in-Err-clause-played g c =
 
 pub returns-in-Err-clause-journals : goal.returns-in-Err-clause-journals
 returns-in-Err-clause-journals g c = λ done. absurd (fails_not_done c.args.topology.now c.in-Err.fault c.fail.result _ _ _ _ c.fail.ensures done)
+
+pub fail-requires : goal.fail-requires
+fail-requires g c = of_agent c.args.topology.now _ _ _ _ _ c.in-Err.fault c.in-Err.ensures.cause

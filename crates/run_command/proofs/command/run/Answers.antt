@@ -8,14 +8,14 @@ pub returns-in-Ok-None-clause-unfinished : goal.returns-in-Ok-None-clause-unfini
 returns-in-Ok-None-clause-unfinished g c = λ _.
     inl (
       c.in-Ok-None.ensures.quiet,
-      long_begun c.args.options (g.S.Source.left c.args.input.now) (g.K.Sink.content c.args.out.now) (g.K.Sink.content c.close.new.out) (c.in-Ok-None.ensures.long (ap (λ o. Ok o) c.in-Ok-None.field-0-is)) c.close.ensures.front,
+      long_begun c.args.options (g.H.Shelf.holds c.args.shelf.now) (g.S.Source.left c.args.input.now) (g.K.Sink.content c.args.out.now) (g.K.Sink.content c.close.new.out) (c.in-Ok-None.ensures.long (ap (λ o. Ok o) c.in-Ok-None.field-0-is)) c.close.ensures.front,
     )
 
 pub returns-in-Err-NoMemory-clause-unfinished : goal.returns-in-Err-NoMemory-clause-unfinished
 returns-in-Err-NoMemory-clause-unfinished g c = λ _.
     inl (
       c.in-Err-NoMemory.ensures.memory (ap (λ e. Err e) c.in-Err-NoMemory.field-0-is),
-      nothing_begun c.nothing_throughout.ensures c.args.options (g.S.Source.left c.args.input.now) (g.K.Sink.content c.args.out.now),
+      nothing_begun c.nothing_throughout.ensures c.args.options (g.H.Shelf.holds c.args.shelf.now) (g.S.Source.left c.args.input.now) (g.K.Sink.content c.args.out.now),
     )
 
 pub returns-in-Ok-None-clause-journals : goal.returns-in-Ok-None-clause-journals

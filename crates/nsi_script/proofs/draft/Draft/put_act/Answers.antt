@@ -19,9 +19,9 @@ returns-clause-indexed c =
     }
 
 pub returns-clause-fits : goal.returns-clause-fits
-returns-clause-fits c = λ t of served f.
+returns-clause-fits c = λ t of f.
     let s = script_in c.args.self.now in
     let there = begun s.groups c.is_begun.result Time (c.is_begun.ensures ∙ ap (λ (gs : List Group). not (length gs == 0)) c.deref.ensures.value) c.in_ok-demand.ensures in
     let none : ◌≡◌ {A = ℕ} (cond (is_ask c.args.act) 1 0) 0 = ap (λ b. cond {A = ℕ} b 1 0) c.requires.is_no_ask in
     subst (λ (gs : List Group). Fits t (record s { groups = gs })) (sym c.in_ok-push_act.ensures)
-    (fits_act t s c.args.act f there of served (omega (arith, f.few_asks, none)))
+    (fits_act t s c.args.act f there of (omega (arith, f.few_asks, none)))

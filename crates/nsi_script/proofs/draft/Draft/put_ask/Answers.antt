@@ -27,4 +27,4 @@ returns-clause-fits c = λ t of f.
     let s = script_in c.args.self.now in
     let act = Act.Ask c.args.agent c.args.ask in
     subst (λ (gs : List Group). Fits t (record s { groups = gs })) (sym c.in_ok-push_act.ensures)
-    (fits_act t s act f c.in_ok-accept.ensures.begun of tt (omega (arith, c.in_ok-accept.ensures.few, c.requires.asks)))
+    (fits_act t s act f c.in_ok-accept.ensures.begun of (omega (arith, c.in_ok-accept.ensures.few, c.requires.asks)))

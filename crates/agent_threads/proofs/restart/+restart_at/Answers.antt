@@ -1,0 +1,91 @@
+use Rattle.std.proofs.Common.{◌≡◌, ◌<◌, ◌++◌, ◌∷◌, [], ◌∙◌, ℕ, List, Option, option_to_list, rules, inl, inr, refl, sym, ap, subst, arith, length}
+use Rattle.std.proofs.lemmas.Bool.Decides.{nat_tests}
+use Rattle.std.proofs.lemmas.Result.{on_ok_weaker, IfErr-weaker}
+use Rattle.nsi_script.specs.declared.script.Act.{Act}
+use Rattle.agent_node.specs.Kept.{Kept}
+use Rattle.agent_threads.specs.Nets.{seats, EachIs, AreUsable, AreApart, AreListed}
+use Rattle.agent_threads.specs.Made.{RestartsAt, counted, HasRestartCause, HasRunCause}
+use Rattle.agent_threads.proofs.Restarting.{last_restarted, front_restarted, among_either, among_more, few_either, restart_cause, front_cause, usable_front, usable_last, listed_front, listed_last}
+use Rattle.agent_threads.proofs.Causes.{shelf_still}
+use Rattle.agent_threads.proofs.Wires.{apart_front, apart_last}
+use Rattle.agent_threads.proofs.restart.+restart_at.Goals as goal
+
+pub restart_one-requires-clause-usable : goal.restart_one-requires-clause-usable
+restart_one-requires-clause-usable g t c = usable_last c.pop.new.self.items c.in-Some.last (subst AreUsable c.in-Some.ensures.items c.requires.usable)
+
+pub restart_one-requires-clause-listed : goal.restart_one-requires-clause-listed
+restart_one-requires-clause-listed g t c = listed_last (g.B.Reopen.listed c.args.shelf.now) c.pop.new.self.items c.in-Some.last (subst (AreListed (g.B.Reopen.listed c.args.shelf.now)) c.in-Some.ensures.items c.requires.listed)
+
+pub restart_at-done-requires : goal.restart_at-done-requires
+restart_at-done-requires g t c κs within =
+    let ks = c.pop.new.self.items in
+    let k = c.in-Some.last in (
+      omega (arith, c.in-Some.ensures.len),
+      (
+        within.0,
+        (
+          within.1,
+          (
+            usable_front ks k (subst AreUsable c.in-Some.ensures.items c.requires.usable),
+            (
+              apart_front ks k (subst (λ (xs : List Kept). AreApart (seats xs)) c.in-Some.ensures.items c.requires.apart),
+              listed_front (g.B.Reopen.listed c.args.shelf.now) ks k (subst (AreListed (g.B.Reopen.listed c.args.shelf.now)) c.in-Some.ensures.items c.requires.listed),
+            ),
+          ),
+        ),
+      ),
+    )
+
+pub returns-then-eq-clause-done : goal.returns-then-eq-clause-done
+returns-then-eq-clause-done g t c =
+    let ks = c.pop.new.self.items in
+    let k = c.in-Some.last in
+    let e = c.in-Some.ensures.items in
+    let absent = apart_last ks k (subst (λ (xs : List Kept). AreApart (seats xs)) e c.requires.apart) in
+    on_ok_weaker c.restart_one.result (last_restarted c.args.agent ks k c.args.nodes.now.items c.restart_one.new.nodes.items e (grind (arith, nat_tests, c.number.ensures, c.eq.ensures, c.if-eq.true)) absent c.requires.usable) c.restart_one.ensures.done
+
+pub returns-then-eq-clause-agents : goal.returns-then-eq-clause-agents
+returns-then-eq-clause-agents g t c = among_either c.restart_one.result c.pop.new.self.items c.in-Some.last c.args.nodes.now.items c.restart_one.new.nodes.items c.in-Some.ensures.items c.restart_one.ensures.done c.restart_one.ensures.failed
+
+pub returns-then-eq-clause-few : goal.returns-then-eq-clause-few
+returns-then-eq-clause-few g t c = few_either c.restart_one.result c.pop.new.self.items c.in-Some.last c.args.nodes.now.items c.restart_one.new.nodes.items c.in-Some.ensures.items c.restart_one.ensures.done c.restart_one.ensures.failed
+
+pub returns-then-eq-clause-cause : goal.returns-then-eq-clause-cause
+returns-then-eq-clause-cause g t c =
+    let olds = c.args.nodes.now.items in
+    let news = c.restart_one.new.nodes.items in
+    let k = c.in-Some.last in
+    let before = counted (g.B.Reopen.faults c.args.shelf.now) (g.B.Reopen.stops c.args.shelf.now) in
+    let after = counted (g.B.Reopen.faults c.restart_one.new.shelf) (g.B.Reopen.stops c.restart_one.new.shelf) in
+    IfErr-weaker c.restart_one.result (HasRestartCause k before after) (HasRunCause (Act.Restart c.args.agent ∷ []) olds news before after)
+    (λ e h. restart_cause c.args.agent c.pop.new.self.items k olds news before after e c.in-Some.ensures.items h) c.restart_one.ensures.cause
+
+pub returns-clause-done : goal.returns-clause-done
+returns-clause-done g t c =
+    let ks = c.pop.new.self.items in
+    let ms = c.restart_at-done.new.nodes.items in
+    on_ok_weaker c.restart_at-done.result
+    (front_restarted c.args.agent ks ms c.in-Some.last c.args.nodes.now.items c.push_reserved.new.self.items c.in-Some.ensures.items c.push_reserved.ensures.items (λ q. grind (arith, nat_tests, q, c.number.ensures, c.eq.ensures, c.if-eq.false)) c.requires.usable)
+    c.restart_at-done.ensures.done
+
+pub returns-clause-agents : goal.returns-clause-agents
+returns-clause-agents g t c = among_more c.pop.new.self.items c.restart_at-done.new.nodes.items c.in-Some.last c.args.nodes.now.items c.push_reserved.new.self.items c.in-Some.ensures.items c.push_reserved.ensures.items c.restart_at-done.ensures.agents
+
+pub returns-clause-cause : goal.returns-clause-cause
+returns-clause-cause g t c =
+    let olds = c.args.nodes.now.items in
+    let news = c.push_reserved.new.self.items in
+    let ks = c.pop.new.self.items in
+    let ms = c.restart_at-done.new.nodes.items in
+    let k = c.in-Some.last in
+    let acts = Act.Restart c.args.agent ∷ [] in
+    let before = counted (g.B.Reopen.faults c.args.shelf.now) (g.B.Reopen.stops c.args.shelf.now) in
+    let after = counted (g.B.Reopen.faults c.restart_at-done.new.shelf) (g.B.Reopen.stops c.restart_at-done.new.shelf) in
+    IfErr-weaker c.restart_at-done.result (HasRunCause acts ks ms before after) (HasRunCause acts olds news before after)
+    (λ e h. front_cause c.args.agent ks ms k olds news before after e c.in-Some.ensures.items c.push_reserved.ensures.items h) c.restart_at-done.ensures.cause
+
+pub returns-in_default-clause-done : goal.returns-in_default-clause-done
+returns-in_default-clause-done g t c =
+    let now : c.pop.new.self.items ≡ [] = search rules in
+    let was : c.args.nodes.now.items ≡ [] = c.pop.ensures.items ∙ (ap (λ (ks : List Kept). ks ++ option_to_list c.pop.result) now ∙ ap (λ (o : Option Kept). option_to_list o) c.in_default.is) in
+    subst (λ (ks : List Kept). EachIs (RestartsAt c.args.agent) ks c.pop.new.self.items) (sym was) (subst (λ (ks : List Kept). EachIs (RestartsAt c.args.agent) [] ks) (sym now) tt)
