@@ -1,0 +1,4 @@
+pub mod OneRequest
+pub mod Hearing
+pub mod Asking
+pub mod Playing

@@ -1,0 +1,3 @@
+mod Sitting
+mod Asked
+mod Weighing
