@@ -9,15 +9,16 @@ use Rattle.nsi_primitive.specs.declared.entry.Entry.{Entry}
 use Rattle.nsi_primitive.specs.declared.message.Message.{Message}
 use Rattle.stp_topology.specs.declared.network.Network.{Network}
 use Rattle.stp_topology.proofs.RankLemmas.{before as front_place}
-use Rattle.agent_state.specs.State.{AgentState, blank_agent}
+use Rattle.agent_state.specs.State.{blank_agent}
 use Rattle.nsi_agent.specs.Homes.{Home, home_in}
 use Rattle.nsi_agent.specs.Standing.{Standing}
 use Rattle.nsi_agent.specs.Steps.{after}
 use Rattle.nsi_agent.specs.Told.{Told, behind, goes_on, told}
 use Rattle.nsi_agent.proofs.Telling.{telling_is_in_parts}
-use Rattle.followed_agent.specs.Messages.{Keeps}
-use Rattle.followed_agent.specs.Kept.{AreNoted, At, AtSeen, IsKept, Seen, said_by, seen, taking, telling}
+use Rattle.followed_agent.specs.Messages.{IsIndexed}
+use Rattle.followed_agent.specs.Kept.{AreNoted, At, AtSeen, IsKept, said_by, seen, taking, telling}
 use Rattle.followed_agent.specs.declared.agent.Followed.{Followed}
+use Rattle.followed_agent.specs.declared.messages.Messages.{Messages}
 
 pub one_more : (h : Home) (es : List Entry) (e : Entry) → told h (es ++ e ∷ []) ≡ telling (after h (told h es).state e).state ((told h es).out ++ (after h (told h es).state e).out)
 unfolding goes_on
@@ -43,9 +44,10 @@ kept_entry x y e kept network number state out journal said synced got printable
       state routes are
       ∙ (ap (λ s. (after h s e).state) (kept.state routes are)
       ∙ sym (ap (λ (z : Told). z.state) (ap (told h) journal ∙ one_more h x.journal.items e))));
-  said = at_new (λ h. Keeps y.said (said_by h (seen y))) (λ routes are.
+  said = at_new (λ h. y.said.messages.items ≡ said_by h (seen y)) (λ routes are.
       let h = home_in x.agent.network routes x.agent.number in
-      subst (λ z. Keeps z (said_by h (seen y))) (sym said) (subst (λ es. Keeps x.said (told h es).out) (sym part) (kept.said routes are)));
+      ap (λ (z : Messages). z.messages.items) said ∙ (kept.said routes are ∙ ap (λ es. (told h es).out) (sym part)));
+  indexed = subst IsIndexed (sym said) kept.indexed;
   out = at_new (λ h. (told h y.journal.items).out ≡ said_by h (seen y) ++ y.unsaid.items) (λ routes are.
       let h = home_in x.agent.network routes x.agent.number in
       ap (λ (z : Told). z.out) (ap (told h) journal ∙ one_more h x.journal.items e)
@@ -71,16 +73,17 @@ kept_entry x y e kept network number state out journal said synced got printable
 ---- A sync
 
 pub kept_sync : (x y : Followed) → IsKept x → y.agent ≡ x.agent → y.journal ≡ x.journal → y.synced ≡ length x.journal.items → y.unsaid.items ≡ []
-    → ((ms : List Message) → Keeps x.said ms → Keeps y.said (ms ++ x.unsaid.items)) → AreNoted y.got (length x.journal.items) x.journal.items → IsKept y
-kept_sync x y kept agent journal synced unsaid said got = record {
+    → IsIndexed y.said → y.said.messages.items ≡ x.said.messages.items ++ x.unsaid.items → AreNoted y.got (length x.journal.items) x.journal.items → IsKept y
+kept_sync x y kept agent journal synced unsaid indexed said got = record {
   printable = subst (λ (es : Vec Entry). All IsPrintableEntry es.items) (sym journal) kept.printable;
   within = omega (arith, synced, ap (λ (es : Vec Entry). length es.items) journal);
   state = at_new (λ h. y.agent.state ≡ (told h y.journal.items).state) (λ routes are.
       let h = home_in x.agent.network routes x.agent.number in
       ap (λ (a : Standing). a.state) agent ∙ (kept.state routes are ∙ ap (λ (es : Vec Entry). (told h es.items).state) (sym journal)));
-  said = at_new (λ h. Keeps y.said (said_by h (seen y))) (λ routes are.
+  said = at_new (λ h. y.said.messages.items ≡ said_by h (seen y)) (λ routes are.
       let h = home_in x.agent.network routes x.agent.number in
-      subst (λ ms. Keeps y.said ms) (sym (kept.out routes are) ∙ ap (λ es. (told h es).out) (sym part)) (said (said_by h (seen x)) (kept.said routes are)));
+      said ∙ (ap (λ ms. ms ++ x.unsaid.items) (kept.said routes are) ∙ (sym (kept.out routes are) ∙ ap (λ es. (told h es).out) (sym part))));
+  indexed = indexed;
   out = at_new (λ h. (told h y.journal.items).out ≡ said_by h (seen y) ++ y.unsaid.items) (λ routes are.
       let h = home_in x.agent.network routes x.agent.number in
       ap (λ (es : Vec Entry). (told h es.items).out) journal
@@ -108,7 +111,7 @@ refolded t u a b agent new out before es fs p q is none same x = λ routes are.
 -- the first so many entries are taken anew
 pub kept_cut : (x y : Followed) (count : ℕ) (out : List Message) → IsKept x → x.synced ≤ count → count ≤ length x.journal.items → y.agent.network ≡ x.agent.network → y.agent.number ≡ x.agent.number
     → AtSeen (seen x) (λ h. telling y.agent.state out ≡ told h (take count x.journal.items)) → y.journal.items ≡ take count x.journal.items
-    → ((ms : List Message) → Keeps x.said ms → y.unsaid.items ≡ drop (length ms) out) → y.said ≡ x.said → y.synced ≡ x.synced → y.got ≡ x.got
+    → y.unsaid.items ≡ drop (length x.said.messages.items) out → y.said ≡ x.said → y.synced ≡ x.synced → y.got ≡ x.got
     → All IsPrintable y.unsaid.items → IsKept y
 kept_cut x y count out kept from to network number told_is journal unsaid said synced got printable = record {
   printable = subst (All IsPrintableEntry) (sym journal) (All-take IsPrintableEntry count x.journal.items kept.printable);
@@ -116,9 +119,10 @@ kept_cut x y count out kept from to network number told_is journal unsaid said s
   state = at_new (λ h. y.agent.state ≡ (told h y.journal.items).state) (λ routes are.
       let h = home_in x.agent.network routes x.agent.number in
       ap (λ (z : Told). z.state) (told_is routes are) ∙ ap (λ es. (told h es).state) (sym journal));
-  said = at_new (λ h. Keeps y.said (said_by h (seen y))) (λ routes are.
+  said = at_new (λ h. y.said.messages.items ≡ said_by h (seen y)) (λ routes are.
       let h = home_in x.agent.network routes x.agent.number in
-      subst (λ z. Keeps z (said_by h (seen y))) (sym said) (subst (λ es. Keeps x.said (told h es).out) (sym part) (kept.said routes are)));
+      ap (λ (z : Messages). z.messages.items) said ∙ (kept.said routes are ∙ ap (λ es. (told h es).out) (sym part)));
+  indexed = subst IsIndexed (sym said) kept.indexed;
   out = at_new (λ h. (told h y.journal.items).out ≡ said_by h (seen y) ++ y.unsaid.items) (λ routes are.
       let h = home_in x.agent.network routes x.agent.number in
       ap (λ es. (told h es).out) journal
@@ -149,8 +153,9 @@ kept_cut x y count out kept from to network number told_is journal unsaid said s
     rest : AtSeen (seen x) (λ h. y.unsaid.items ≡ more h)
     rest = λ routes are.
         let h = home_in x.agent.network routes x.agent.number in
-        unsaid (said_by h (seen x)) (kept.said routes are)
-        ∙ (ap (drop (length (said_by h (seen x)))) (ap (λ (z : Told). z.out) (told_is routes are) ∙ whole h) ∙ drop_at (said_by h (seen x)) (more h) (length (said_by h (seen x))) refl)
+        unsaid
+        ∙ (ap (λ ms. drop (length ms) out) (kept.said routes are)
+        ∙ (ap (drop (length (said_by h (seen x)))) (ap (λ (z : Told). z.out) (told_is routes are) ∙ whole h) ∙ drop_at (said_by h (seen x)) (more h) (length (said_by h (seen x))) refl))
 
     before : (p second : ℕ) (m : Message) → p < x.synced → slice_get (take count x.journal.items) p ≡ Some (taking second m) → slice_get x.journal.items p ≡ Some (taking second m)
     before p second m lt at =

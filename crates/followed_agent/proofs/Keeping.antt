@@ -1,20 +1,26 @@
--- Messages that are kept as they are written.
-use Rattle.std.proofs.Common.{ℕ, ◌+◌, ◌<◌, ◌≡◌, ◌↔◌, ◌⊎◌, inl, inr, ◌∙◌, Bool, true, false, List, [], ◌∷◌, ◌++◌, map, length, take, get_or, append_assoc, Option, Some, None, Ok, slice_get, option_map, refl, sym, ap, subst, arith}
-use Rattle.std.specs.Global.{Vec}
-use Rattle.std.specs.List.{All, Contains, list_any}
-use Rattle.std.proofs.lemmas.List.{map-append, length-map, take_more}
-use Rattle.std.proofs.lemmas.List.Elements.{All-append, All-cons, All-nil, All-contains}
-use Rattle.std.proofs.lemmas.Option.{slice_get-map, slice_get-get_or, slice_get_within}
-use Rattle.std.proofs.lemmas.Slice.Eq.{bytes_eq-Decides}
+-- Messages that are kept, and how one is found by its text.
+use Rattle.std.proofs.Common.{ℕ, ◌+◌, ◌<◌, ◌≤◌, ◌≡◌, ◌↔◌, ◌⊎◌, inl, inr, ◌∙◌, Bool, true, false, cond, List, ◌++◌, length, Option, Some, None, Ok, is_some, slice_get, refl, sym, ap, subst, arith}
+use Rattle.std.specs.List.{All, Contains}
+use Rattle.std.specs.Prelude.{IfNone, IfSome}
+use Rattle.std.proofs.lemmas.Bool.{cases_lt}
+use Rattle.std.proofs.lemmas.List.Elements.{All-append, All-contains}
+use Rattle.std.proofs.lemmas.Option.{slice_get-get_or, slice_get_within}
+use Rattle.nsi_primitive.specs.Messages.{identity}
+use Rattle.nsi_primitive.specs.Printable.{IsPrintable}
+use Rattle.nsi_primitive.specs.declared.message.Identity.{Identity}
 use Rattle.nsi_primitive.specs.declared.message.Message.{Message}
 use Rattle.nsi_primitive.specs.declared.message.Parcel.{Parcel}
 use Rattle.json_primitives.specs.Lines.{object_of}
 use Rattle.json_primitives.specs.Spelling.{spelling}
+use Rattle.message_retry.specs.Retry.{is_same_identity}
 use Rattle.id_index.specs.declared.IdPlace.{IdPlace}
-use Rattle.stp_topology.proofs.NameLemmas.{at_push}
-use Rattle.stp_topology.proofs.PairLemmas.{any_found, found_any}
-use Rattle.followed_agent.specs.Messages.{IsReadAgain, Keeps, is_at, is_text, items_of}
+use Rattle.stp_topology.proofs.RankLemmas.{before as front_place}
+use Rattle.followed_agent.specs.Messages.{AreFound, IsFoundIn, IsIndexed, IsNowhere, IsReadAgain, IsReadAgainAt, StandsAt, if_of, message_at}
 use Rattle.followed_agent.specs.declared.messages.Messages.{Messages}
+use Rattle.followed_agent.proofs.Same.{identity_itself, same_identity}
+
+one_some : {X : Type 0} {a b : X} → Some a ≡ Some b → a ≡ b
+one_some e = cc
 
 pub there : {X : Type 0} (xs : List X) (x : X) (its : Contains xs x) → slice_get xs its.0 ≡ Some x
 there xs x its = slice_get-get_or xs its.0 x its.1 ∙ ap Some its.2
@@ -23,81 +29,107 @@ pub is_there : {X : Type 0} (xs : List X) (i : ℕ) (x : X) → slice_get xs i �
 is_there xs i x h =
     let lt = slice_get_within xs i x h in
     (i, lt, one_some (sym (slice_get-get_or xs i x lt) ∙ h))
-  where
-    one_some : {Y : Type 0} {a b : Y} → Some a ≡ Some b → a ≡ b
-    one_some e = cc
 
-pub as_many : (x : Messages) (ms : List Message) → Keeps x ms → length x.texts.items ≡ length ms
-as_many x ms keeps = sym (length-map x.texts.items items_of) ∙ (ap length keeps.texts ∙ length-map ms spelling)
+---- Their places
+
+-- those that stood there are found among more
+pub found_more : (places : List IdPlace) (ms more : List Message) → AreFound places (length ms) ms → AreFound places (length ms) (ms ++ more)
+found_more places ms more found = λ p m lt at. found p m lt (sym (front_place ms more p lt) ∙ at)
 
 abbrev id_at : ℕ → ℕ → IdPlace
 id_at id place = record { id = id; place = place }
 
--- one more of a list that is gone over
-pub item_behind : (ms xs : List Message) (i : ℕ) (x : Message) → i < length xs → x ≡ get_or xs i x → (ms ++ take i xs) ++ x ∷ [] ≡ ms ++ take (i + 1) xs
-item_behind ms xs i x lt is = append_assoc ms (take i xs) (x ∷ []) ∙ ap (λ z. ms ++ z) (ap (λ z. take i xs ++ z ∷ []) is ∙ sym (take_more xs i x lt))
-
----- One more
-
-pub keeps_more : (x y : Messages) (m : Message) (text : Vec ℕ) (place : ℕ) → place ≡ length x.texts.items → y.texts.items ≡ x.texts.items ++ text ∷ [] → text.items ≡ spelling m → object_of text.items ≡ Ok (Parcel.Message m)
-    → ((e : IdPlace) → Contains y.places e ↔ ((e ≡ record { id = m.header.correlation; place = place }) ⊎ Contains x.places e))
-    → (ms : List Message) → Keeps x ms → Keeps y (ms ++ m ∷ [])
-keeps_more x y m text place many put spelled again places ms keeps = record {
-  texts =
-      ap (map items_of) put
-      ∙ (map-append items_of x.texts.items (text ∷ [])
-      ∙ (ap (λ z. z ++ text.items ∷ []) keeps.texts ∙ (ap (λ z. map spelling ms ++ z ∷ []) spelled ∙ sym (map-append spelling ms (m ∷ [])))));
-  read = All-append IsReadAgain ms (m ∷ []) keeps.read (All-cons IsReadAgain m [] (ap object_of (sym spelled) ∙ again) (All-nil IsReadAgain));
-  found = λ p n at. by p n (at_push ms m n p at);
-}
+-- one message more is found
+pub found_one : (old new : List IdPlace) (place : ℕ) (ms : List Message) (m : Message) → AreFound old place ms → slice_get ms place ≡ Some m
+    → ((x : IdPlace) → Contains new x ↔ ((x ≡ record { id = m.header.correlation; place = place }) ⊎ Contains old x)) → AreFound new (place + 1) ms
+found_one old new place ms m found here adds = λ p n lt at. by p n at (cases_lt p place) lt
   where
-    by : (p : ℕ) (n : Message) → (slice_get ms p ≡ Some n) ⊎ ((p ≡ length ms) × (m ≡ n)) → Contains y.places (record { id = n.header.correlation; place = p })
-    by p n (inl old) = (places (record { id = n.header.correlation; place = p })).1 (inr (keeps.found p n old))
-    by p n (inr new) =
-        (places (record { id = n.header.correlation; place = p })).1
-        (inl
-        (ap (λ k. id_at n.header.correlation k) (new.0 ∙ (sym (as_many x ms keeps) ∙ sym many))
-        ∙ ap (λ (z : Message). id_at z.header.correlation place) (sym new.1)))
+    by : (p : ℕ) (n : Message) → slice_get ms p ≡ Some n → (p < place) ⊎ (place ≤ p) → p < place + 1 → Contains new (record { id = n.header.correlation; place = p })
+    by p n at (inl less) lt = (adds (record { id = n.header.correlation; place = p })).1 (inr (found p n less at))
+    by p n at (inr past) lt =
+        let same : p ≡ place = omega (arith, lt, past) in
+        let its : n ≡ m = one_some (sym at ∙ (ap (slice_get ms) same ∙ here)) in
+        (adds (record { id = n.header.correlation; place = p })).1 (inl (ap (λ (z : Message). id_at z.header.correlation p) its ∙ ap (λ k. id_at m.header.correlation k) same))
 
----- Whether a message is one of them
+-- all are, and more
+pub indexed_more : (x y : Messages) (more : List Message) → IsIndexed x → All IsPrintable more → y.messages.items ≡ x.messages.items ++ more → AreFound y.places (length y.messages.items) y.messages.items → IsIndexed y
+indexed_more x y more is printable added found = record { printable = subst (All IsPrintable) (sym added) (All-append IsPrintable x.messages.items more is.printable printable); found = found }
 
-one_text : (x : Messages) (ms : List Message) (p : ℕ) → Keeps x ms → option_map items_of (slice_get x.texts.items p) ≡ option_map spelling (slice_get ms p)
-one_text x ms p keeps = sym (slice_get-map items_of x.texts.items p) ∙ (ap (λ z. slice_get z p) keeps.texts ∙ slice_get-map spelling ms p)
+---- The one of an identity and a text
 
-same_message : (m n : Message) (b : List ℕ) → object_of b ≡ Ok (Parcel.Message m) → spelling n ≡ b → IsReadAgain n → n ≡ m
-same_message m n b h e again =
+nowhere_among : (x : Messages) (i : Identity) (text places : List ℕ) → IsIndexed x → ((p : ℕ) → Contains x.places (record { id = i.correlation; place = p }) → Contains places p)
+    → All (λ p. StandsAt x.messages.items i text p → ⊥) places → IsNowhere x.messages.items i text None
+nowhere_among x i text places is listed none = λ m its same spelled.
+    let at = there x.messages.items m its in
+    let correlation : m.header.correlation ≡ i.correlation = ap (λ (z : Identity). z.correlation) same in
+    let here = listed its.0 (subst (λ c. Contains x.places (record { id = c; place = its.0 })) correlation (is.found its.0 m its.1 at)) in
+    All-contains (λ p. StandsAt x.messages.items i text p → ⊥) places its.0 none here (record { message = m; stands = at; same = same; spelled = spelled })
+
+-- the message at a place, where it is of the identity
+at_place : (ms : List Message) (i : Identity) (place : ℕ) (o : Option Message) (m : Message) → slice_get ms place ≡ o → if_of o i ≡ Some m → (slice_get ms place ≡ Some m) × (identity m ≡ i)
+at_place ms i place (Some n) m at h = by (is_same_identity i (identity n)) refl h
+  where
+    by : (b : Bool) → is_same_identity i (identity n) ≡ b → cond b (Some n) None ≡ Some m → (slice_get ms place ≡ Some m) × (identity m ≡ i)
+    by true is same =
+        let one : n ≡ m = cc in
+        (at ∙ ap Some one, ap identity (sym one) ∙ sym (same_identity i (identity n) is))
+    by false is same = absurd (cc)
+at_place ms i place None m at h = absurd (cc)
+
+of_it : (i : Identity) (m : Message) → identity m ≡ i → if_of (Some m) i ≡ Some m
+of_it i m same = ap (λ b. cond b (Some m) None) (ap (λ j. is_same_identity j (identity m)) (sym same) ∙ identity_itself (identity m))
+
+pub is_at_place : (ms read : List Message) (i : Identity) (text : List ℕ) (place : ℕ) (o : Option Message) (m : Message) (is : Bool) → read ≡ ms → o ≡ message_at read place i → o ≡ Some m → (is ≡ true) ↔ (spelling m ≡ text)
+    → (is ≡ true) ↔ StandsAt ms i text place
+is_at_place ms read i text place o m is same value some tells =
+    let its = at_place ms i place (slice_get ms place) m refl (ap (λ (xs : List Message). message_at xs place i) (sym same) ∙ (sym value ∙ some)) in (
+      λ e. record { message = m; stands = its.0; same = its.1; spelled = tells.0 e },
+      λ s. let one : m ≡ s.message = one_some (sym its.0 ∙ s.stands) in tells.1 (ap spelling one ∙ s.spelled),
+    )
+
+pub read_at_place : (ms read : List Message) (i : Identity) (place : ℕ) (o : Option Message) (m : Message) → read ≡ ms → o ≡ message_at read place i → o ≡ Some m → IsReadAgain m → IsReadAgainAt ms place
+read_at_place ms read i place o m same value some again = λ n at.
+    let its = at_place ms i place (slice_get ms place) m refl (ap (λ (xs : List Message). message_at xs place i) (sym same) ∙ (sym value ∙ some)) in
+    subst IsReadAgain (one_some (sym its.0 ∙ at)) again
+
+pub not_at_place : (ms read : List Message) (i : Identity) (text : List ℕ) (place : ℕ) (o : Option Message) → read ≡ ms → o ≡ message_at read place i → o ≡ None → (false ≡ true) ↔ StandsAt ms i text place
+not_at_place ms read i text place o same value none = (
+  λ e. absurd (cc),
+  λ s.
+      let both = sym none ∙ (value ∙ (ap (λ (xs : List Message). message_at xs place i) same ∙ (ap (λ z. if_of z i) s.stands ∙ of_it i s.message s.same))) in
+      absurd (cc),
+)
+
+-- it stands at none of the places at which it may stand
+pub nowhere : (x : Messages) (i : Identity) (text places noted : List ℕ) (o : Option ℕ) → IsIndexed x → places ≡ noted → ((p : ℕ) → Contains x.places (record { id = i.correlation; place = p }) → Contains noted p)
+    → IfNone o (All (λ p. StandsAt x.messages.items i text p → ⊥) places) → IsNowhere x.messages.items i text o
+nowhere x i text places noted (Some place) is same listed none = tt
+nowhere x i text places noted None is same listed none = λ m its equal spelled. nowhere_among x i text places is (λ p c. subst (λ ps. Contains ps p) (sym same) (listed p c)) none m its equal spelled
+
+-- the message at a place, by its copy
+pub found_in : (ms : List Message) (i : Identity) (text : List ℕ) (place : ℕ) (m copy : Message) → All IsPrintable ms → StandsAt ms i text place → IsReadAgainAt ms place → slice_get ms place ≡ Some m → copy ≡ m → IsFoundIn ms text copy
+found_in ms i text place m copy printable at again here same =
+    let one : m ≡ at.message = one_some (sym here ∙ at.stands) in
+    let its = is_there ms place m here in
+    subst (IsFoundIn ms text) (sym same) (record {
+      there = its;
+      printable = All-contains IsPrintable ms m printable its;
+      spelled = ap spelling one ∙ at.spelled;
+      again = subst (λ b. object_of b ≡ Ok (Parcel.Message m)) (ap spelling one ∙ at.spelled) (again m here);
+    })
+
+same_message : (m n : Message) (text : List ℕ) → object_of text ≡ Ok (Parcel.Message m) → spelling n ≡ text → IsReadAgain n → n ≡ m
+same_message m n text h e again =
     let both = sym again ∙ (ap object_of e ∙ h) in cc
 
-stands : (o : Option (Vec ℕ)) (n : Option Message) (m : Message) (b : List ℕ) → option_map items_of o ≡ option_map spelling n → object_of b ≡ Ok (Parcel.Message m)
-    → ((k : Message) → n ≡ Some k → IsReadAgain k) → is_text o b ≡ true → n ≡ Some m
-stands (Some text) (Some n) m b same h again is =
-    let text_is : text.items ≡ b = (bytes_eq-Decides text.items b).0 is in
-    let spelled : text.items ≡ spelling n = cc in
-    ap Some (same_message m n b h (sym spelled ∙ text_is) (again n refl))
-stands (Some text) None m b same h again is = absurd (cc)
-stands None n m b same h again is = absurd (cc)
-
-stood : (o : Option (Vec ℕ)) (m : Message) (b : List ℕ) → option_map items_of o ≡ Some (spelling m) → b ≡ spelling m → is_text o b ≡ true
-stood (Some text) m b same spelled =
-    let is : text.items ≡ b = cc in (bytes_eq-Decides text.items b).1 is
-stood None m b same spelled = absurd (cc)
-
-pub has_it : (x : Messages) (m : Message) (b : List ℕ) → b ≡ spelling m → object_of b ≡ Ok (Parcel.Message m) → (old places : List ℕ) → old ≡ []
-    → ((p : ℕ) → Contains places p ↔ (Contains old p ⊎ Contains x.places (record { id = m.header.correlation; place = p })))
-    → (ts : List (Vec ℕ)) (ps bs : List ℕ) → ts ≡ x.texts.items → ps ≡ places → bs ≡ b → (is : Bool) → is ≡ list_any (λ p. is_at ts p bs) ps → (ms : List Message) → Keeps x ms → (is ≡ true) ↔ Contains ms m
-has_it x m b spelled again old places none noted ts ps bs same_texts same_places same_text is told ms keeps = (one, other)
-  where
-    value : is ≡ list_any (λ p. is_at x.texts.items p b) places
-    value = told ∙ (ap (λ z. list_any (λ p. is_at z p bs) ps) same_texts ∙ (ap (λ z. list_any (λ p. is_at x.texts.items p bs) z) same_places ∙ ap (λ z. list_any (λ p. is_at x.texts.items p z) places) same_text))
-
-    one : is ≡ true → Contains ms m
-    one h =
-        let found = found_any (λ p. is_at x.texts.items p b) places (sym value ∙ h) in
-        is_there ms found.1 m
-        (stands (slice_get x.texts.items found.1) (slice_get ms found.1) m b (one_text x ms found.1 keeps) again (λ k at. All-contains IsReadAgain ms k keeps.read (is_there ms found.1 k at)) found.3)
-
-    other : Contains ms m → is ≡ true
-    other its =
-        let at = there ms m its in
-        let listed = (noted its.0).1 (inr (keeps.found its.0 m at)) in
-        value ∙ any_found (λ p. is_at x.texts.items p b) places listed.0 its.0 (there places its.0 listed) (stood (slice_get x.texts.items its.0) m b (one_text x ms its.0 keeps ∙ ap (option_map spelling) at) spelled)
+-- a message is one of them where one of its text is
+pub has_it : (ms : List Message) (i : Identity) (m : Message) (text : List ℕ) (place : Option ℕ) (is : Bool) → i ≡ identity m → text ≡ spelling m → object_of text ≡ Ok (Parcel.Message m)
+    → IfSome place (StandsAt ms i text) → IfSome place (IsReadAgainAt ms) → IsNowhere ms i text place → is ≡ is_some place → (is ≡ true) ↔ Contains ms m
+has_it ms i m text (Some place) is same spelled again at read none value =
+    let n : Message = at.message in
+    let one : n ≡ m = same_message m n text again at.spelled (read n at.stands) in
+    (λ e. is_there ms place m (at.stands ∙ ap Some one), λ its. value)
+has_it ms i m text None is same spelled again at read none value = (
+  λ e. absurd (cc),
+  λ its. absurd (none m its (sym same) (sym spelled)),
+)

@@ -1,4 +1,5 @@
 pub mod Taking
+pub mod Same
 pub mod Keeping
 pub mod Growing
 pub mod Passing

@@ -1,5 +1,5 @@
 -- Which messages entries take, one entry more, and none yet.
-use Rattle.std.proofs.Common.{ℕ, ◌+◌, ◌≤◌, ◌<◌, ◌≡◌, ◌↔◌, ◌⊎◌, inl, inr, ◌∙◌, List, [], length, Some, slice_get, get_or, refl, sym, ap, subst, arith}
+use Rattle.std.proofs.Common.{ℕ, ◌+◌, ◌≤◌, ◌<◌, ◌≡◌, ◌↔◌, ◌⊎◌, inl, inr, ◌∙◌, List, [], length, Some, slice_get, refl, sym, ap, subst, arith}
 use Rattle.std.specs.List.{All, Contains}
 use Rattle.std.proofs.lemmas.Bool.{cases_lt}
 use Rattle.std.proofs.lemmas.List.Elements.{All-nil}
@@ -11,7 +11,7 @@ use Rattle.id_index.specs.declared.IdPlace.{IdPlace}
 use Rattle.agent_state.specs.State.{blank_agent}
 use Rattle.nsi_agent.specs.Homes.{home_in}
 use Rattle.nsi_agent.specs.Told.{goes_on, told}
-use Rattle.followed_agent.specs.Messages.{Keeps}
+use Rattle.followed_agent.specs.Messages.{IsIndexed}
 use Rattle.followed_agent.specs.Kept.{AreNoted, IsKept, taking}
 use Rattle.followed_agent.specs.declared.agent.Followed.{Followed}
 
@@ -54,13 +54,14 @@ module _ (got : List IdPlace) (place : ℕ) (journal : List Entry) (noted : AreN
       by p second n there (inr same) = absurd (none n (taken_here p second n same there))
 
 -- an agent that has taken nothing yet
-pub kept_new : (x : Followed) → x.agent.state ≡ blank_agent → x.journal.items ≡ [] → x.synced ≡ 0 → Keeps x.said [] → x.unsaid.items ≡ [] → IsKept x
+pub kept_new : (x : Followed) → x.agent.state ≡ blank_agent → x.journal.items ≡ [] → x.synced ≡ 0 → x.said.messages.items ≡ [] → IsIndexed x.said → x.unsaid.items ≡ [] → IsKept x
 unfolding goes_on
-kept_new x state journal synced said unsaid = record {
+kept_new x state journal synced said indexed unsaid = record {
   printable = subst (All IsPrintableEntry) (sym journal) (All-nil IsPrintableEntry);
   within = omega (arith, synced, ap length journal);
   state = λ routes are. state ∙ ap (λ es. (told (home_in x.agent.network routes x.agent.number) es).state) (sym journal);
   said = λ routes are. rw (journal, synced) said;
+  indexed = indexed;
   out = λ routes are. rw (journal, synced, unsaid) refl;
   unsaid = subst (All IsPrintable) (sym unsaid) (All-nil IsPrintable);
   got = λ p second m lt at. absurd (omega (arith, lt, synced));

@@ -9,7 +9,7 @@ use Rattle.stp_topology.specs.Network.{kind_of}
 use Rattle.stp_topology.specs.declared.network.AgentKind.{AgentKind}
 use Rattle.stp_topology.specs.declared.network.Network.{Network}
 use Rattle.agent_state.specs.Entries.{is_on_time, most_entries}
-use Rattle.agent_state.specs.State.{AgentState, AgentStepped, stays}
+use Rattle.agent_state.specs.State.{AgentState, stays}
 use Rattle.provider_agent.specs.Steps.{is_for_provider}
 use Rattle.aggregator_agent.specs.Steps.{is_for_aggregator}
 use Rattle.nsi_agent.specs.Homes.{Home, Routes, home_in, role_in}

@@ -1,5 +1,5 @@
 -- What is kept of an agent, and what it tells.
-use Rattle.std.specs.Prelude.{◌≡◌, ◌≤◌, ◌<◌, ◌++◌, ◌↔◌, ℕ, Bool, true, if◌then◌else◌, List, length, take, Option, Some, None, slice_get}
+use Rattle.std.specs.Prelude.{◌≡◌, ◌≤◌, ◌<◌, ◌++◌, ℕ, Bool, false, List, length, take, Option, Some, None, slice_get}
 use Rattle.std.specs.List.{All, Contains}
 use Rattle.nsi_primitive.specs.Messages.{identity}
 use Rattle.nsi_primitive.specs.Printable.{IsPrintable, IsPrintableEntry}
@@ -13,7 +13,7 @@ use Rattle.id_index.specs.declared.IdPlace.{IdPlace}
 use Rattle.nsi_agent.specs.Homes.{Home, Routes, AreRoutes, home_in}
 use Rattle.agent_state.specs.State.{AgentState}
 use Rattle.nsi_agent.specs.Told.{Told, told}
-use Rattle.followed_agent.specs.Messages.{Keeps}
+use Rattle.followed_agent.specs.Messages.{IsIndexed}
 use Rattle.followed_agent.specs.declared.agent.Followed.{Followed}
 
 -- so it is of that agent of the topology, whichever legs are those of the least paths
@@ -62,24 +62,25 @@ pub record IsKept (x : Followed) : Type 0 where
   pub printable : All IsPrintableEntry x.journal.items
   pub within : x.synced ≤ length x.journal.items
   pub state : AtSeen (seen x) (λ h. x.agent.state ≡ (told h x.journal.items).state)
-  pub said : AtSeen (seen x) (λ h. Keeps x.said (said_by h (seen x)))
+  pub said : AtSeen (seen x) (λ h. x.said.messages.items ≡ said_by h (seen x))
+  pub indexed : IsIndexed x.said
   pub out : AtSeen (seen x) (λ h. (told h x.journal.items).out ≡ said_by h (seen x) ++ x.unsaid.items)
   pub unsaid : All IsPrintable x.unsaid.items
   pub got : AreNoted x.got x.synced x.journal.items
 
--- a message of the identity that the one has said and the other has taken by a synced entry
-abbrev pub HasPassed : Home → Seen → Seen → Identity → Type 0
-HasPassed h from to i = (m : Message) × (identity m ≡ i) × Contains (said_by h from) m × IsTakenIn m (synced_part to)
+-- a message of the identity was taken by a synced entry
+abbrev pub HasTaken : Seen → Identity → Type 0
+HasTaken s i = (m : Message) × (identity m ≡ i) × IsTakenIn m (synced_part s)
 
--- the message of the identity that an entry takes
-abbrev pub got_by : Input → Identity → Option Message
-got_by (Input.Got m) i = if is_same_identity i (identity m) then Some m else None
-got_by input i = None
+-- a message of the identity is taken
+abbrev pub takes : Input → Identity → Bool
+takes (Input.Got m) i = is_same_identity i (identity m)
+takes input i = false
 
-abbrev pub got_under : Entry → Identity → Option Message
-got_under e i = got_by e.input i
+abbrev pub takes_by : Option Entry → Identity → Bool
+takes_by (Some e) i = takes e.input i
+takes_by None i = false
 
--- it does so by the entry at that place
-abbrev pub PassedAt : Home → Seen → Seen → Identity → ℕ → Type 0
-PassedAt h from to i place =
-    (m : Message) × (second : ℕ) × (identity m ≡ i) × Contains (said_by h from) m × (place < to.synced) × (slice_get to.journal place ≡ Some (taking second m))
+-- the entry at that place takes one
+abbrev pub takes_at : List Entry → Identity → ℕ → Bool
+takes_at es i place = takes_by (slice_get es place) i

@@ -1,15 +1,16 @@
 //! An agent of a topology, followed from entry to entry.
 
-ghost use Rattle.std.specs.Prelude.{◌≡◌, ◌≤◌, ◌<◌, ◌++◌, ◌∷◌, ◌↔◌, [], length, take, true, false, IfOk, OnOk};
-ghost use Rattle.std.specs.List.{All, Contains};
+ghost use Rattle.std.specs.Prelude.{◌≡◌, ◌≤◌, ◌<◌, ◌++◌, ◌∷◌, ◌↔◌, [], length, take, true, IfOk, IfSome, OnOk};
+ghost use Rattle.std.specs.List.{Contains};
 ghost use Rattle.nsi_primitive.specs.Printable.{IsPrintable, IsPrintableEntry};
 ghost use Rattle.nsi_agent.specs.Steps.{after};
 ghost use Rattle.nsi_agent.specs.Told.{told};
-ghost use Rattle.followed_agent.specs.Kept.{AtSeen, HasPassed, IsKept, PassedAt, said_by, seen};
+ghost use Rattle.followed_agent.specs.Kept.{AtSeen, HasTaken, IsKept, said_by, seen};
+ghost use Rattle.followed_agent.specs.Messages.{IsFoundIn};
 
 use crate::folding::{fold, leave_out, put, take_one};
 use crate::messages::Messages;
-use crate::receipts::{got_under, note_all};
+use crate::receipts::{note_all, takes_at_one};
 use id_index::IdIndex;
 use nsi_agent::Agent;
 use nsi_base::{AgentNo, Second};
@@ -84,15 +85,14 @@ impl<'t> Followed<'t> {
     }
 
     /// All of its journal is synced, and what it causes is said.
-    pub fn sync(&mut self, alloc: Global) -> Result<(), AllocError>
+    pub fn sync(&mut self) -> Result<(), AllocError>
         requires kept { IsKept self.old }
         ensures kept { OnOk result (IsKept self.new) }
         ensures seen { let count = length self.old.journal.items in
             OnOk result (seen self.new ≡ record (seen self.old) { synced = count }) }
     {
         note_all(&mut self.got, self.synced, &self.journal)?;
-        self.said.add_all(alloc, &self.unsaid)?;
-        self.unsaid.clear();
+        self.said.add_all(&mut self.unsaid)?;
         self.synced = self.journal.len();
         Ok(())
     }
@@ -116,7 +116,7 @@ impl<'t> Followed<'t> {
         if count < self.journal.len() {
             self.begin_again(alloc, topology, count)?;
         }
-        self.sync(alloc)
+        self.sync()
     }
 
     /// Takes the first so many entries anew.
@@ -154,70 +154,28 @@ impl<'t> Followed<'t> {
         self.said.has(alloc, message)
     }
 
-    /// Whether it has taken by a synced entry a message of the identity which the other one has said.
-    pub fn has_taken(
+    /// The message of that identity which it has said and which is spelled so, where it finds one.
+    pub fn said_as(
         &self,
         alloc: Global,
-        sender: &Followed<'_>,
         identity: &Identity,
-    ) -> Result<bool, AllocError>
+        text: &[u8],
+    ) -> Result<Option<Message>, AllocError>
         requires kept { IsKept self.now }
-        requires sender { IsKept sender.now }
-        ensures { AtSeen (seen sender.now) (λ h. IfOk result
-            (λ is. (is ≡ true) ↔ HasPassed h (seen sender.now) (seen self.now) identity.now)) }
+        ensures { AtSeen (seen self.now) (λ h. IfOk result (λ found. IfSome found
+            (IsFoundIn (said_by h (seen self.now)) text.now))) }
+    {
+        self.said.find(alloc, identity, text)
+    }
+
+    /// Whether it has taken a message of the identity by a synced entry.
+    pub fn has_taken(&self, alloc: Global, identity: &Identity) -> Result<bool, AllocError>
+        requires kept { IsKept self.now }
+        ensures { IfOk result (λ is. (is ≡ true) ↔ HasTaken (seen self.now) identity.now) }
     {
         let mut places = Vec::new(alloc);
         self.got.note_places(identity.correlation, &mut places)?;
-        let is_there = self.takes_at_one(alloc, &places, sender, identity)?;
-        Ok(is_there)
-    }
-
-    /// Whether it has taken such a message at one of these places of its journal.
-    fn takes_at_one(
-        &self,
-        alloc: Global,
-        places: &[usize],
-        sender: &Followed<'_>,
-        identity: &Identity,
-    ) -> Result<bool, AllocError>
-        requires kept { IsKept self.now }
-        requires sender { IsKept sender.now }
-        ensures yes { AtSeen (seen sender.now) (λ h. IfOk result (λ is.
-            is ≡ true → HasPassed h (seen sender.now) (seen self.now) identity.now)) }
-        ensures no { AtSeen (seen sender.now) (λ h. IfOk result (λ is. is ≡ false → All
-            (λ p. PassedAt h (seen sender.now) (seen self.now) identity.now p → ⊥) places.now)) }
-    {
-        for place in places {
-            if self.takes_at(alloc, *place, sender, identity)? {
-                return Ok(true);
-            }
-        }
-        Ok(false)
-    }
-
-    /// Whether it has taken such a message at that place of its journal.
-    fn takes_at(
-        &self,
-        alloc: Global,
-        place: usize,
-        sender: &Followed<'_>,
-        identity: &Identity,
-    ) -> Result<bool, AllocError>
-        requires kept { IsKept self.now }
-        requires sender { IsKept sender.now }
-        ensures { AtSeen (seen sender.now) (λ h. IfOk result
-            (λ is. (is ≡ true) ↔ PassedAt h (seen sender.now) (seen self.now) identity.now place)) }
-    {
-        if place >= self.synced {
-            return Ok(false);
-        }
         let journal: &[Entry] = &self.journal;
-        match got_under(&journal[place], identity) {
-            Some(message) => {
-                let is_said = sender.has_said(alloc, message)?;
-                Ok(is_said)
-            }
-            None => Ok(false),
-        }
+        Ok(takes_at_one(&journal[..self.synced], &places, identity))
     }
 }

@@ -1,12 +1,12 @@
 //! Which messages an agent took.
 
-ghost use Rattle.std.specs.Prelude.{◌≡◌, ◌<◌, ◌+◌, length, option_map, OnOk, IfSome};
-ghost use Rattle.nsi_primitive.specs.Printable.{IsPrintable, IsPrintableEntry};
-ghost use Rattle.followed_agent.specs.Kept.{AreNoted, got_under};
+ghost use Rattle.std.specs.Prelude.{◌≡◌, ◌<◌, ◌+◌, length, OnOk};
+ghost use Rattle.std.specs.List.{list_any};
+ghost use Rattle.followed_agent.specs.Kept.{AreNoted, takes, takes_at};
 
 use id_index::IdIndex;
 use message_retry::is_of;
-use nsi_primitive::{Entry, Identity, Input, Message};
+use nsi_primitive::{Entry, Identity, Input};
 use std::alloc::AllocError;
 
 /// Notes the messages that the entries from a place on take.
@@ -32,14 +32,31 @@ fn note(got: &mut IdIndex, place: usize, journal: &[Entry]) -> Result<(), AllocE
     Ok(())
 }
 
-/// The message of that identity that an entry takes.
-pub fn got_under<'a>(entry: &'a Entry, identity: &Identity) -> Option<&'a Message>
-    requires printable { IsPrintableEntry entry.now }
-    ensures value { option_map (λ m. m.now) result ≡ got_under entry.now identity.now }
-    ensures printable { IfSome result (λ m. IsPrintable m.now) }
+/// Whether the entry at one of these places takes a message of the identity.
+pub fn takes_at_one(journal: &[Entry], places: &[usize], identity: &Identity) -> bool
+    ensures { result ≡ list_any (takes_at journal.now identity.now) places.now }
 {
-    match &entry.input {
-        Input::Got(message) if is_of(message, identity) => Some(message),
-        _ => None,
+    places
+        .iter()
+        .any(|place| takes_at(journal, *place, identity))
+}
+
+/// Whether the entry at that place takes a message of the identity.
+fn takes_at(journal: &[Entry], place: usize, identity: &Identity) -> bool
+    ensures { result ≡ takes_at journal.now identity.now place }
+{
+    match journal.get(place) {
+        Some(entry) => takes(&entry.input, identity),
+        None => false,
+    }
+}
+
+/// Whether a message of the identity is taken.
+fn takes(input: &Input, identity: &Identity) -> bool
+    ensures { result ≡ takes input.now identity.now }
+{
+    match input {
+        Input::Got(message) => is_of(message, identity),
+        _ => false,
     }
 }

@@ -1,27 +1,24 @@
 -- Whether an agent may take an entry, by what is asked of the agents that are followed.
-use Rattle.std.proofs.Common.{ℕ, ◌+◌, ◌≤◌, ◌<◌, ◌≡◌, ◌↔◌, ◌⊎◌, inl, inr, ◌∙◌, Bool, true, false, List, [], ◌∷◌, ◌++◌, length, Some, slice_get, sym, ap, subst, arith}
-use Rattle.std.specs.List.{Contains}
+use Rattle.std.proofs.Common.{ℕ, ◌+◌, ◌<◌, ◌≡◌, ◌↔◌, ◌⊎◌, inl, inr, ◌∙◌, Bool, true, List, [], ◌∷◌, ◌++◌, length, Some, slice_get, sym, ap, subst, arith}
 use Rattle.std.proofs.lemmas.Bool.{cases_order}
 use Rattle.std.proofs.lemmas.List.{get_or_append_left, get_or_push}
 use Rattle.nsi_primitive.specs.declared.entry.Entry.{Entry}
 use Rattle.nsi_primitive.specs.declared.entry.Input.{Input}
-use Rattle.nsi_primitive.specs.declared.message.Message.{Message}
 use Rattle.nsi_primitive.specs.declared.state.Machine.{Machine}
 use Rattle.stp_topology.specs.Network.{kind_of}
-use Rattle.stp_topology.specs.Sound.{IsSound}
 use Rattle.stp_topology.specs.declared.network.AgentKind.{AgentKind}
 use Rattle.stp_topology.specs.declared.network.Network.{Network}
 use Rattle.trace_reader.specs.Pasts.{seconds_of}
 use Rattle.agent_state.specs.Entries.{most_entries}
 use Rattle.nsi_agent.specs.Homes.{Routes, AreRoutes, home_in, role_in}
 use Rattle.nsi_agent.specs.Told.{told}
-use Rattle.followed_agent.specs.Kept.{AtSeen, said_by, seen}
+use Rattle.followed_agent.specs.Kept.{AtSeen, seen}
 use Rattle.followed_agent.specs.declared.agent.Followed.{Followed}
-use Rattle.nsi_world.specs.Worlds.{Homes, IsSent, World, said}
+use Rattle.nsi_world.specs.Worlds.{Homes, World}
 use Rattle.nsi_world.specs.Runs.{IsInTime, MayCome, is_provider, is_requester}
 use Rattle.trace_verify.specs.Standing.{MayTake}
 use Rattle.trace_verify.specs.Traces.{seconds_in}
-use Rattle.trace_verify.proofs.Coming.{IsPlaced, at_home, says, sent_by, sent_by_none}
+use Rattle.trace_verify.proofs.Coming.{IsPlaced, at_home}
 
 pub at_number : (xs : List Followed) (a place : ℕ) (f : Followed) → slice_get xs place ≡ Some f → place ≡ a → slice_get xs a ≡ Some f
 at_number xs a place f stands same = subst (λ k. slice_get xs k ≡ Some f) same stands
@@ -76,33 +73,3 @@ in_time_and_room homes w a now e f is found journal room clock tells right comes
   },
   λ may. comes.1 may.comes,
 )
-
----- Who said a message
-
--- an agent at its place has said it
-pub found_said : (t : Network) (routes : Routes) (w : World) (a : ℕ) (f : Followed) (m : Message) (is : Bool) → IsSound t → AreRoutes t routes → a < length t.agents → IsPlaced t w a f
-    → AtSeen (seen f) (λ h. (is ≡ true) ↔ Contains (said_by h (seen f)) m) → is ≡ true → IsSent (home_in t routes) w m
-found_said t routes w a f m is sound are within placed tells its =
-    sent_by t routes w a m sound within ((says t routes w a f m is placed (at_home t w a f (λ h. (is ≡ true) ↔ Contains (said_by h (seen f)) m) placed tells routes are)).0 its)
-
--- it has not
-pub found_unsaid : (t : Network) (routes : Routes) (w : World) (a : ℕ) (f : Followed) (m : Message) (is : Bool) → AreRoutes t routes → IsPlaced t w a f → AtSeen (seen f) (λ h. (is ≡ true) ↔ Contains (said_by h (seen f)) m) → is ≡ false
-    → Contains (said (home_in t routes) w a) m → ⊥
-found_unsaid t routes w a f m is are placed tells other said =
-    let its : is ≡ true = (says t routes w a f m is placed (at_home t w a f (λ h. (is ≡ true) ↔ Contains (said_by h (seen f)) m) placed tells routes are)).1 said in
-    absurd (cc)
-
-pub when_sent : (homes : Homes) (w : World) (m : Message) (is : Bool) → is ≡ true → IsSent homes w m → (is ≡ true) ↔ IsSent homes w m
-when_sent homes w m is its sent = (λ e. sent, λ s. its)
-
--- none of the first agents has, nor one more
-pub none_more : (P : ℕ → Type 0) (n : ℕ) → ((a : ℕ) → a < n → P a → ⊥) → (P n → ⊥) → (a : ℕ) → a < n + 1 → P a → ⊥
-none_more P n none here a lt p = by (cases_order a n) p
-  where
-    by : (a ≡ n) ⊎ ((a < n) ⊎ (n < a)) → P a → ⊥
-    by (inl same) q = here (subst P same q)
-    by (inr (inl less)) q = none a less q
-    by (inr (inr more)) q = omega (arith, more, lt)
-
-pub none_said : (t : Network) (routes : Routes) (w : World) (m : Message) (n : ℕ) → length t.agents ≤ n → ((a : ℕ) → a < n → Contains (said (home_in t routes) w a) m → ⊥) → (false ≡ true) ↔ IsSent (home_in t routes) w m
-none_said t routes w m n all none = (λ e. absurd (cc), λ sent. absurd (sent_by_none t routes w m (λ a lt. none a (omega (arith, lt, all))) sent))

@@ -1,25 +1,21 @@
 -- What may come to an agent, by the agents that are followed.
-use Rattle.std.proofs.Common.{ℕ, zero, suc, ◌+◌, ◌≤◌, ◌<◌, ◌≡◌, ◌↔◌, ◌⊎◌, inl, inr, ◌∙◌, Bool, true, false, cond, List, [], ◌∷◌, length, take, get_or, bytes_eq, Some, None, slice_get, refl, sym, ap, subst, arith}
+use Rattle.std.proofs.Common.{ℕ, suc, ◌+◌, ◌<◌, ◌≡◌, ◌↔◌, ◌∙◌, Bool, true, false, cond, List, [], ◌∷◌, length, take, get_or, bytes_eq, Some, slice_get, refl, sym, ap, subst, arith}
 use Rattle.std.specs.List.{Contains, position_from}
-use Rattle.std.proofs.lemmas.Bool.{cases_lt}
 use Rattle.std.proofs.lemmas.Option.{slice_get-get_or}
 use Rattle.std.proofs.lemmas.Slice.Eq.{bytes_eq-Decides}
 use Rattle.nsi_primitive.specs.Messages.{addressee, identity}
-use Rattle.nsi_primitive.specs.declared.entry.Entry.{Entry}
 use Rattle.nsi_primitive.specs.declared.entry.Input.{Input}
-use Rattle.nsi_primitive.specs.declared.message.Identity.{Identity}
 use Rattle.nsi_primitive.specs.declared.message.Message.{Message}
 use Rattle.stp_topology.specs.Network.{agent_of, name_of}
 use Rattle.stp_topology.specs.Sound.{IsSound}
 use Rattle.stp_topology.specs.declared.network.Network.{Network}
 use Rattle.nsi_agent.specs.Homes.{Home, Routes, home_in}
 use Rattle.nsi_agent.specs.Told.{told}
-use Rattle.followed_agent.specs.Kept.{At, AtSeen, HasPassed, said_by, seen, taking}
+use Rattle.followed_agent.specs.Kept.{At, AtSeen, said_by, seen}
 use Rattle.followed_agent.specs.declared.agent.Followed.{Followed}
-use Rattle.nsi_world.specs.Worlds.{IsAgent, IsGot, IsSent, IsTo, World, said, synced_part}
+use Rattle.nsi_world.specs.Worlds.{IsAgent, IsSent, IsTo, World, said, synced_part}
 use Rattle.nsi_world.specs.Runs.{MayCome}
 use Rattle.nsi_world.proofs.Names.{home_name}
-use Rattle.run_text.proofs.Places.{agent_within}
 use Rattle.trace_verify.specs.Standing.{IsFollower, Shows}
 use Rattle.trace_verify.specs.declared.follower.Follower.{Follower}
 
@@ -48,7 +44,7 @@ pub known : (t : Network) (routes : Routes) (a : ℕ) → IsSound t → a < leng
 unfolding home_in
 known t routes a sound within = sound.agents a (name_of t a) (slice_get-get_or t.agents a [] within)
 
-both_ways : {A B C : Type 0} → A ↔ B → (B → C) → (C → B) → A ↔ C
+pub both_ways : {A B C : Type 0} → A ↔ B → (B → C) → (C → B) → A ↔ C
 both_ways e f g = (λ a. f (e.0 a), λ c. e.1 (g c))
 
 ---- Messages that were said
@@ -60,10 +56,6 @@ says t routes w a f m is placed e = subst (λ ms. (is ≡ true) ↔ Contains ms 
 
 pub sent_by : (t : Network) (routes : Routes) (w : World) (a : ℕ) (m : Message) → IsSound t → a < length t.agents → Contains (said (home_in t routes) w a) m → IsSent (home_in t routes) w m
 sent_by t routes w a m sound within its = (a, (known t routes a sound within, its))
-
--- nobody has, where none of all has
-pub sent_by_none : (t : Network) (routes : Routes) (w : World) (m : Message) → ((a : ℕ) → a < length t.agents → Contains (said (home_in t routes) w a) m → ⊥) → IsSent (home_in t routes) w m → ⊥
-sent_by_none t routes w m none sent = none sent.0 (agent_within t routes sent.0 sent.1.0) sent.1.1
 
 ---- Messages to an agent
 
@@ -82,73 +74,6 @@ pub to_this : (t : Network) (routes : Routes) (w : World) (a : ℕ) (m : Message
 to_this t routes w a m to name is found to_is name_is_so value its sent =
     let addressed : IsTo (home_in t routes) a m = sym to_is ∙ ((bytes_eq-Decides to name).0 (sym value ∙ its) ∙ (name_is_so ∙ sym (home_name t routes a))) in
     both_ways sent (λ s. (s, addressed)) (λ may. may.0)
-
----- Acknowledgements
-
-take_none : (n : ℕ) → take {A = Entry} n [] ≡ []
-take_none zero = refl
-take_none (suc n) = refl
-
-one_some : {X : Type 0} {p q : X} → Some p ≡ Some q → p ≡ q
-one_some e = cc
-
--- an agent that has taken something is one of the topology
-taken_within : (t : Network) (x : Follower) (w : World) (b : ℕ) (m : Message) → IsFollower t x → Shows x w → IsGot m (synced_part w b) → b < length t.agents
-taken_within t x w b m is shows got = by (cases_lt b (length t.agents))
-  where
-    by : (b < length t.agents) ⊎ (length t.agents ≤ b) → b < length t.agents
-    by (inl lt) = lt
-    by (inr past) =
-        let none : synced_part w b ≡ [] = ap (take (w.synced b)) (shows.others b (omega (arith, past, is.many))) ∙ take_none (w.synced b) in
-        let its = subst (λ es. Contains es (taking got.second m)) none got.there in
-        absurd (omega (arith, its.1))
-
-pub heard_of_nobody : (t : Network) (routes : Routes) (x : Follower) (w : World) (a : ℕ) (i : Identity) (to : List ℕ) → IsSound t → IsFollower t x → Shows x w → to ≡ addressee i → agent_of t to ≡ None
-    → (false ≡ true) ↔ MayCome (home_in t routes) w a (Input.Acked i)
-heard_of_nobody t routes x w a i to sound is shows to_is none = (
-  λ e. absurd (cc),
-  λ may.
-      let m = may.0 in
-      let b = may.1 in
-      let taken = may.3 in
-      let within = taken_within t x w b m is shows taken.got in
-      let name : name_of t b ≡ to = sym (home_name t routes b) ∙ (sym taken.addressed ∙ (ap addressee may.2 ∙ sym to_is)) in
-      let found = ap (agent_of t) (sym name) ∙ sound.agents b (name_of t b) (slice_get-get_or t.agents b [] within) in
-      absurd (cc),
-)
-
-pub heard_of : (t : Network) (routes : Routes) (x : Follower) (w : World) (a b : ℕ) (f g : Followed) (i : Identity) (to : List ℕ) (is : Bool) → IsSound t → IsFollower t x → Shows x w → IsPlaced t w a f → IsPlaced t w b g → a < length t.agents
-    → to ≡ addressee i → agent_of t to ≡ Some b → name_of t b ≡ to → (is ≡ true) ↔ HasPassed (home_in t routes a) (seen f) (seen g) i → (is ≡ true) ↔ MayCome (home_in t routes) w a (Input.Acked i)
-heard_of t routes x w a b f g i to is sound follower shows own other within to_is found named passed = both_ways passed one two
-  where
-    one : HasPassed (home_in t routes a) (seen f) (seen g) i → MayCome (home_in t routes) w a (Input.Acked i)
-    one p =
-        let m = p.0 in (
-          m,
-          b,
-          p.1,
-          record {
-            said = (known t routes a sound within, subst (λ ms. Contains ms m) (said_same t routes w a f own) p.2);
-            addressed = ap addressee p.1 ∙ (sym to_is ∙ (sym named ∙ sym (home_name t routes b)));
-            got = record { second = p.3.0; there = subst (λ es. Contains es (taking p.3.0 m)) (part_same t w b g other) p.3.1 };
-          },
-        )
-
-    two : MayCome (home_in t routes) w a (Input.Acked i) → HasPassed (home_in t routes a) (seen f) (seen g) i
-    two may =
-        let m = may.0 in
-        let c = may.1 in
-        let taken = may.3 in
-        let there_within = taken_within t x w c m follower shows taken.got in
-        let name : name_of t c ≡ to = sym (home_name t routes c) ∙ (sym taken.addressed ∙ (ap addressee may.2 ∙ sym to_is)) in
-        let at_c : agent_of t to ≡ Some c = ap (agent_of t) (sym name) ∙ sound.agents c (name_of t c) (slice_get-get_or t.agents c [] there_within) in
-        let same : c ≡ b = one_some (sym at_c ∙ found) in
-        let there = subst (λ k. Contains (synced_part w k) (taking taken.got.second m)) same taken.got.there in (
-          m,
-          may.2,
-          subst (λ ms. Contains ms m) (sym (said_same t routes w a f own)) taken.said.1,
-          (taken.got.second, subst (λ es. Contains es (taking taken.got.second m)) (sym (part_same t w b g other)) there),
-        )
 
 ---- Names
 

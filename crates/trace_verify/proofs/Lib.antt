@@ -5,3 +5,6 @@ pub mod Placing
 pub mod Coming
 pub mod Offering
 pub mod Allowing
+pub mod Naming
+pub mod Hearing
+pub mod Delivering

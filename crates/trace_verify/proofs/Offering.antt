@@ -1,17 +1,20 @@
 -- What a line is, of which an event was read.
-use Rattle.std.proofs.Common.{ℕ, ◌+◌, ◌<◌, ◌≡◌, ◌↔◌, ◌∙◌, Bool, true, false, cond, List, length, sym, ap, subst}
+use Rattle.std.proofs.Common.{ℕ, ◌+◌, ◌<◌, ◌≡◌, ◌↔◌, ◌∙◌, Bool, true, false, cond, List, length, refl, sym, ap, subst}
 use Rattle.nsi_primitive.specs.declared.entry.Event.{Event}
+use Rattle.nsi_primitive.specs.declared.message.Parcel.{Parcel}
 use Rattle.stp_topology.specs.Sound.{IsSound}
 use Rattle.stp_topology.specs.declared.network.Network.{Network}
 use Rattle.trace_reader.specs.Moments.{IsEventOf}
 use Rattle.nsi_agent.specs.Homes.{Routes, home_in}
 use Rattle.nsi_world.specs.Worlds.{Homes}
 use Rattle.nsi_world.specs.Runs.{asks_of}
-use Rattle.trace_verify.specs.Traces.{HasAsk, most_asks, world_of}
+use Rattle.trace_verify.specs.Parcels.{taken_now, takes}
+use Rattle.trace_verify.specs.Traces.{HasAsk, most_asks, seconds_in, world_of}
 use Rattle.trace_verify.specs.Standing.{HasHappened, Shows}
-use Rattle.trace_verify.specs.Steps.{HasGoneOn, IsLineAlone}
+use Rattle.trace_verify.specs.Steps.{HasGoneOn, IsLineAlone, IsStep, step_of}
 use Rattle.trace_verify.specs.Verdicts.{IsNotAllowed}
 use Rattle.trace_verify.specs.declared.follower.Follower.{Follower}
+use Rattle.trace_verify.specs.declared.parcels.Delivery.{Delivery}
 use Rattle.trace_verify.proofs.Coming.{known}
 use Rattle.trace_verify.proofs.Extending.{count_more, world_more}
 
@@ -40,6 +43,24 @@ not_allowed t homes es line e y asks asking is alone happened refused asked room
   within = λ beyond. room (asked.1 beyond.0) (count ∙ beyond.1);
   refused = λ allowed. let allows = happened.tells.1 allowed.1 in absurd (cc);
 }
+
+---- A delivery
+
+-- no ask comes by it
+asks_none : (second : ℕ) (p : Parcel) → HasAsk (takes second p) → ⊥
+asks_none second (Parcel.Message m) h = h
+asks_none second (Parcel.Ack i) h = h
+
+-- what its line is, where it has happened or may not
+pub delivered : (t : Network) (routes : Routes) (es : List Event) (line : List ℕ) (d : Delivery) (y : Follower) (asks : ℕ) (is : Bool) → IsSound t
+    → IsLineAlone t (home_in t routes) es line (record { agent = d.agent; what = taken_now (home_in t routes) (world_of es) d.agent d.parcel })
+    → HasHappened (home_in t routes) (world_of es) d.agent (taken_now (home_in t routes) (world_of es) d.agent d.parcel) y is → asks ≡ length (asks_of es) → IsStep t (home_in t routes) es line y (step_of asks is)
+delivered t routes es line d y asks true sound alone happened count =
+    let none = asks_none (seconds_in (home_in t routes) (world_of es) d.agent) d.parcel in
+    gone_on t routes es line (record { agent = d.agent; what = taken_now (home_in t routes) (world_of es) d.agent d.parcel }) y asks asks false true sound alone happened refl (λ e. absurd (cc), λ h. absurd (none h)) (λ e. absurd (cc)) count refl
+delivered t routes es line d y asks false sound alone happened count =
+    let none = asks_none (seconds_in (home_in t routes) (world_of es) d.agent) d.parcel in
+    not_allowed t (home_in t routes) es line (record { agent = d.agent; what = taken_now (home_in t routes) (world_of es) d.agent d.parcel }) y asks false false alone happened refl (λ e. absurd (cc), λ h. absurd (none h)) (λ e. absurd (cc)) count
 
 ---- The moment
 

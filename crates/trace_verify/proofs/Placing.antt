@@ -35,6 +35,7 @@ follower_set t x y a f is within set kept network number = record {
   kept = subst (All IsKept) (sym set) (All-set IsKept x.agents.items a f kept is.kept);
   network = λ b g stands. by_network b g (was b g stands);
   number = λ b g stands. by_number b g (was b g stands);
+  names = is.names;
 }
   where
     first : slice_get x.agents.items a ≡ Some (get_or x.agents.items a f)

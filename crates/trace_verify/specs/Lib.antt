@@ -3,3 +3,4 @@ pub mod Traces
 pub mod Verdicts
 pub mod Standing
 pub mod Steps
+pub mod Parcels

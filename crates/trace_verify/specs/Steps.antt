@@ -1,10 +1,11 @@
 -- What one line is found to be, and what is known of the lines before.
-use Rattle.std.specs.Prelude.{◌≡◌, ◌≢◌, ◌≤◌, ◌⊎◌, ◌+◌, ℕ, true, List, [], ◌∷◌, ◌++◌, length}
+use Rattle.std.specs.Prelude.{◌≡◌, ◌≢◌, ◌≤◌, ◌⊎◌, ◌+◌, ℕ, Bool, true, false, List, [], ◌∷◌, ◌++◌, length}
 use Rattle.nsi_primitive.specs.Ranges.{IsRangedEvent}
 use Rattle.nsi_primitive.specs.declared.entry.Event.{Event}
 use Rattle.stp_topology.specs.declared.network.Network.{Network}
 use Rattle.nsi_agent.specs.Homes.{Routes, AreRoutes, home_in}
 use Rattle.nsi_world.specs.Worlds.{Homes}
+use Rattle.nsi_world.specs.Heard.{IsFair}
 use Rattle.nsi_world.specs.Runs.{asks_of}
 use Rattle.trace_verify.specs.Lines.{is_closing, settled_line}
 use Rattle.trace_verify.specs.Traces.{GoesOnBy, IsLineOf, world_of}
@@ -19,6 +20,11 @@ use Rattle.trace_verify.specs.declared.verdict.Why.{Why}
 pub record IsLineAlone (t : Network) (homes : Homes) (es : List Event) (line : List ℕ) (event : Event) : Type 0 where
   pub line_of : IsLineOf t homes es line event
   pub alone : (e : Event) → IsRangedEvent e → IsLineOf t homes es line e → e ≡ event
+
+-- what the line of an event is, which may happen or not, behind which so many asks came
+abbrev pub step_of : ℕ → Bool → Step
+step_of asks true = Step.Event asks
+step_of asks false = Step.Not Why.NotAllowed
 
 -- no more asks came than that
 abbrev pub HasFew : ℕ → Step → Type 0
@@ -41,9 +47,11 @@ IsStep t homes es line new (Step.Not Why.Form) = HasNoForm t homes es line
 IsStep t homes es line new (Step.Not Why.NotAllowed) = IsNotAllowed t homes es line
 IsStep t homes es line new (Step.Not Why.End) = ⊥
 
--- so it is by any legs that are those of the least paths, behind any events in the world of which they stand so
+-- so it is by any legs that are those of the least paths, behind any events in the world of which they stand so and what was heard was sent
 abbrev pub Behind : Network → Follower → ℕ → (Homes → List Event → Type 0) → Type 0
-Behind t x asks P = (routes : Routes) → AreRoutes t routes → (es : List Event) → Shows x (world_of es) → asks ≡ length (asks_of es) → P (home_in t routes) es
+Behind t x asks P =
+    (routes : Routes) → AreRoutes t routes → (es : List Event) → Shows x (world_of es) → IsFair (home_in t routes) (world_of es) → asks ≡ length (asks_of es)
+    → P (home_in t routes) es
 
 -- the first lines are the text of so many events, the agents stand as these leave them, and there are these asks among them
 pub record IsSoFar (t : Network) (homes : Homes) (lines behind : List (List ℕ)) (x : Follower) (asks events : ℕ) : Type 0 where

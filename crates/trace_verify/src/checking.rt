@@ -13,6 +13,7 @@ use crate::follower::Follower;
 use crate::lines::{cut_at_feed, is_settled};
 use crate::step::{Step, follow};
 use crate::verdict::{Verdict, VerifyFault, Why};
+use nsi_world::laws::sent;
 use std::alloc::{AllocError, Global};
 use stp_topology::Topology;
 
@@ -55,6 +56,7 @@ fn verify_by<'t>(
         let homes = home_in topology.now routes in
         Finds topology.now homes first_line limit (trace_lines text.now) result }
 {
+    sent();
     let mut rest = text;
     let mut line = first_line;
     let mut asks: u32 = 0;

@@ -1,24 +1,30 @@
 //! All agents of a topology, followed from event to event.
 
-ghost use Rattle.std.specs.Prelude.{◌≡◌, ◌≤◌, ◌<◌, ◌↔◌, ℕ, length, true, IfOk, OnOk, Some, slice_get};
+ghost use Rattle.std.specs.Prelude.{◌≡◌, ◌≤◌, ◌<◌, ◌↔◌, ℕ, length, true, IfOk, IfSome, OnOk, Some, slice_get};
 ghost use Rattle.std.specs.List.{All};
 ghost use Rattle.nsi_primitive.specs.Printable.{IsPrintable, IsPrintableEntry, IsPrintableHappening, IsPrintableInput, is_ask};
 ghost use Rattle.nsi_primitive.specs.declared.entry.Happening.{Happening as WhatHappens};
 ghost use Rattle.nsi_primitive.specs.declared.entry.Input.{Input as AnInput};
+ghost use Rattle.nsi_primitive.specs.declared.message.Parcel.{Parcel as Taken};
 ghost use Rattle.stp_topology.specs.declared.network.Network.{Network};
 ghost use Rattle.trace_reader.specs.Pasts.{seconds_of};
 ghost use Rattle.nsi_agent.specs.Homes.{Routes, role_in};
 ghost use Rattle.followed_agent.specs.Kept.{IsKept};
 ghost use Rattle.nsi_world.specs.Worlds.{IsSent, empty};
 ghost use Rattle.nsi_world.specs.Runs.{IsInTime, MayCome, is_provider, is_requester};
+ghost use Rattle.trace_verify.specs.Parcels.{HasRoomFor, IsParcelIn, taken_now};
 ghost use Rattle.trace_verify.specs.Standing.{HasHappened, IsFollower, MayTake, Shows, Throughout};
 ghost use Rattle.trace_verify.specs.Traces.{seconds_in};
 
+use crate::guesses::identity_in;
 use followed_agent::Followed;
+use least_routes::laws::routes_exist;
+use nsi_agent::laws::every_message;
 use nsi_base::{AgentNo, Second};
 use nsi_primitive::{AskAnswer, Entry, Event, Happening, Identity, Input, Message};
 use std::alloc::{AllocError, Global};
 use stp_topology::{AgentKind, Topology};
+use trace_reader::laws::names_are_told;
 
 /// The agents by their numbers. After want of memory, and behind an event that isn't allowed, they are of no more use.
 #[derive(Drop)]
@@ -43,6 +49,7 @@ impl<'t> Follower<'t> {
         ensures follower { IfOk result (IsFollower topology.now) }
         ensures shows { IfOk result (λ x. Shows x empty) }
     {
+        names_are_told(topology);
         let mut agents = Vec::new(alloc);
         for place in 0..topology.agents() {
             agents.push(Followed::new(alloc, topology, agent_at(place))?)?;
@@ -73,6 +80,15 @@ impl<'t> Follower<'t> {
             seconds.push(self.agent(place).now())?;
         }
         Ok(seconds)
+    }
+
+    /// The second of the agent's clock.
+    pub fn second(&self, topology: &Topology, agent: AgentNo) -> Second
+        requires follower { IsFollower topology.now self.now }
+        requires within { agent < length topology.now.agents }
+        ensures { Throughout topology.now self.now (λ homes w. result ≡ seconds_in homes w agent) }
+    {
+        self.agent(agent.get() as usize).now()
     }
 
     /// Whether the event may happen; then it has happened.
@@ -117,7 +133,7 @@ impl<'t> Follower<'t> {
         if self.agent(place).journal.len() as u64 != count {
             return Ok(false);
         }
-        self.agents[place].sync(alloc)?;
+        self.agents[place].sync()?;
         Ok(true)
     }
 
@@ -178,6 +194,47 @@ impl<'t> Follower<'t> {
                 Err(error)
             }
         }
+    }
+
+    /// Whether the agent may get the message, which some agent has said; then it has got it.
+    pub fn take_got(
+        &mut self,
+        alloc: Global,
+        topology: &Topology,
+        agent: AgentNo,
+        message: Message,
+    ) -> Result<bool, AllocError>
+        requires follower { IsFollower topology.now self.old }
+        requires within { agent < length topology.now.agents }
+        requires printable { IsPrintable message }
+        requires sent { Throughout topology.now self.old (λ homes w. IsSent homes w message) }
+        ensures follower { OnOk result (IsFollower topology.now self.new) }
+        ensures happened { Throughout topology.now self.old (λ homes w. IfOk result
+            (HasHappened homes w agent (taken_now homes w agent (Taken.Message message)) self.new)) }
+    {
+        let has_room = self.has_room_for(topology, agent, &message);
+        let entry = Entry {
+            second: self.second(topology, agent),
+            input: Input::Got(message),
+        };
+        if has_room {
+            let given = self.agents[agent.get() as usize].enter(alloc, topology, entry)?;
+            Ok(is_same_answer(given, None))
+        } else {
+            let_go(entry);
+            Ok(false)
+        }
+    }
+
+    /// Whether there is room for one entry more at the agent, and the message is for it.
+    fn has_room_for(&self, topology: &Topology, agent: AgentNo, message: &Message) -> bool
+        requires follower { IsFollower topology.now self.now }
+        requires within { agent < length topology.now.agents }
+        ensures { Throughout topology.now self.now (λ homes w.
+            (result ≡ true) ↔ HasRoomFor homes w agent message.now) }
+    {
+        self.agent(agent.get() as usize).journal.len() < 4_194_304
+            && message.addressee().is(topology.name(agent))
     }
 
     /// Whether there is room for the entry, it is in time, and may come to the agent.
@@ -249,7 +306,7 @@ impl<'t> Follower<'t> {
         Ok(is_sent)
     }
 
-    /// Whether some agent has said the message: mostly that one in whose name it is.
+    /// Whether some agent has said the message: only that one may, in whose name it is.
     fn is_sent(
         &self,
         alloc: Global,
@@ -261,26 +318,8 @@ impl<'t> Follower<'t> {
         ensures { Throughout topology.now self.now (λ homes w. IfOk result
             (λ is. (is ≡ true) ↔ IsSent homes w message.now)) }
     {
-        if self.is_said_by_sender(alloc, topology, message)? {
-            return Ok(true);
-        }
-        let is_said = self.is_said_by_any(alloc, topology, message)?;
-        Ok(is_said)
-    }
-
-    /// Whether the agent in whose name the message is has said it.
-    fn is_said_by_sender(
-        &self,
-        alloc: Global,
-        topology: &Topology,
-        message: &Message,
-    ) -> Result<bool, AllocError>
-        requires follower { IsFollower topology.now self.now }
-        requires printable { IsPrintable message.now }
-        ensures { Throughout topology.now self.now (λ homes w. IfOk result
-            (λ is. is ≡ true → IsSent homes w message.now)) }
-    {
         topology.facts();
+        every_message();
         let Some(sender) = topology.agent_of(message.sender().bytes()) else {
             return Ok(false);
         };
@@ -288,28 +327,35 @@ impl<'t> Follower<'t> {
         Ok(is_said)
     }
 
-    /// Whether one of all agents has said the message.
-    fn is_said_by_any(
+    /// The message that a text spells, if it is found that some agent has said it.
+    pub fn said_as(
         &self,
         alloc: Global,
         topology: &Topology,
-        message: &Message,
-    ) -> Result<bool, AllocError>
+        text: &[u8],
+    ) -> Result<Option<Message>, AllocError>
         requires follower { IsFollower topology.now self.now }
-        requires printable { IsPrintable message.now }
-        ensures { Throughout topology.now self.now (λ homes w. IfOk result
-            (λ is. (is ≡ true) ↔ IsSent homes w message.now)) }
+        ensures spelled { IfOk result (λ found. IfSome found
+            (λ m. IsParcelIn text.now (Taken.Message m))) }
+        ensures sent { Throughout topology.now self.now (λ homes w. IfOk result
+            (λ found. IfSome found (IsSent homes w))) }
     {
         topology.facts();
-        for place in 0..self.agents.len() {
-            if self.agent(place).has_said(alloc, message)? {
-                return Ok(true);
-            }
-        }
-        Ok(false)
+        routes_exist();
+        let Some(identity) = identity_in(alloc, text, b"kind")? else {
+            return Ok(None);
+        };
+        let Some(sender) = topology.agent_of(identity.sender().bytes()) else {
+            return Ok(None);
+        };
+        let found = self
+            .agent(sender.get() as usize)
+            .said_as(alloc, &identity, text)?;
+        Ok(found)
     }
 
-    /// Whether the agent said a message of the identity which its addressee has taken by a synced entry.
+    /// Whether the agent said a message of the identity which its addressee has taken by a synced entry. What that one
+    /// has taken in the agent's name, the agent has said.
     fn may_hear(
         &self,
         alloc: Global,
@@ -323,12 +369,16 @@ impl<'t> Follower<'t> {
             (λ is. (is ≡ true) ↔ MayCome homes w agent (AnInput.Acked identity.now))) }
     {
         topology.facts();
+        every_message();
+        if !identity.sender().is(topology.name(agent)) {
+            return Ok(false);
+        }
         let Some(addressee) = topology.agent_of(identity.addressee().bytes()) else {
             return Ok(false);
         };
-        let sender = self.agent(agent.get() as usize);
-        let other = self.agent(addressee.get() as usize);
-        let has_taken = other.has_taken(alloc, sender, identity)?;
+        let has_taken = self
+            .agent(addressee.get() as usize)
+            .has_taken(alloc, identity)?;
         Ok(has_taken)
     }
 }

@@ -3,7 +3,9 @@
 
 mod checking;
 mod follower;
+mod guesses;
 mod lines;
+mod parcels;
 mod step;
 mod verdict;
 

@@ -1,4 +1,4 @@
-use Rattle.std.proofs.Common.{◌<◌, arith}
+use Rattle.std.proofs.Common.{arith}
 use Rattle.followed_agent.proofs.receipts.note_all.Goals as goal
 
 pub returns : goal.returns

@@ -16,4 +16,4 @@ returns-clause-kept c =
     (ap (λ (a : Standing). a.number) c.put.ensures ∙ (agent.number ∙ c.number-number.ensures))
     (refolded x.agent.network c.args.topology.now x.agent.number c.number-number.result c.in_ok-agent.agent c.put.new.place out c.clear.new.self.items c.deref.result.now _ c.requires.network c.number-number.ensures c.put.ensures
     c.clear.ensures.items (c.deref.ensures.value ∙ c.truncate.ensures.items) agent.told)
-    c.truncate.ensures.items (λ ms keeps. left ∙ ap (λ n. drop n out) (c.len.ensures ms keeps)) refl refl refl (subst (All IsPrintable) (sym left) (All-drop IsPrintable c.len.result out agent.printable))
+    c.truncate.ensures.items (left ∙ ap (λ n. drop n out) c.len.ensures) refl refl refl (subst (All IsPrintable) (sym left) (All-drop IsPrintable c.len.result out agent.printable))

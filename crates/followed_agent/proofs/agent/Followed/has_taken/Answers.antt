@@ -1,13 +1,10 @@
-use Rattle.std.proofs.Common.{inr, sym, subst}
+use Rattle.std.proofs.Common.{inr, sym, ap, subst, take}
 use Rattle.std.specs.List.{Contains}
-use Rattle.nsi_agent.specs.Homes.{home_in}
-use Rattle.followed_agent.specs.Kept.{seen}
-use Rattle.followed_agent.proofs.Passing.{is_or_not}
+use Rattle.followed_agent.proofs.Passing.{taken_at_one}
 use Rattle.followed_agent.proofs.agent.Followed.has_taken.Goals as goal
 
 pub returns : goal.returns
-returns c = λ routes are.
+returns c =
     let x = c.args.self.now in
-    let from = c.args.sender.now in
-    is_or_not (home_in from.agent.network routes from.agent.number) (seen from) (seen x) c.args.identity.now c.deref.result.now x.got c.in_ok-is_there.is_there c.requires.kept.within c.requires.kept.got
-    (λ p its. subst (λ ps. Contains ps p) (sym c.deref.ensures.value) ((c.in_ok-note_places.ensures p).1 (inr its))) (c.in_ok-is_there.ensures.yes routes are) (c.in_ok-is_there.ensures.no routes are)
+    taken_at_one x.journal.items _ x.synced c.args.identity.now c.deref.result.now x.got c.takes_at_one.result c.requires.kept.within (ap (take x.synced) c.deref-journal.ensures.value) c.requires.kept.got
+    (λ p its. subst (λ ps. Contains ps p) (sym c.deref.ensures.value) ((c.in_ok-note_places.ensures p).1 (inr its))) c.takes_at_one.ensures

@@ -1,8 +1,11 @@
-use Rattle.std.proofs.Common.{rules}
+use Rattle.std.proofs.Common.{◌∙◌, ap}
+use Rattle.json_primitives.specs.Lines.{object_of}
 use Rattle.followed_agent.proofs.Keeping.{has_it}
 use Rattle.followed_agent.proofs.messages.Messages.has.Goals as goal
 
 pub returns : goal.returns
 returns c =
-    has_it c.args.self.now c.args.message.now c.in_ok-text.text.items c.in_ok-text.ensures.spelled c.in_ok-text.ensures.again c.new-places.result.items c.note_places.new.places.items c.new-places.ensures.items
-    c.in_ok-note_places.ensures c.deref.result.now c.deref-2.result.now c.deref-3.result.now c.deref.ensures.value c.deref-2.ensures.value c.deref-3.ensures.value c.is_at_one.result c.is_at_one.ensures
+    let text = c.in_ok-text.ensures in
+    let place = c.in_ok-place.ensures in
+    has_it c.args.self.now.messages.items c.in_ok-identity.identity c.args.message.now c.deref.result.now c.in_ok-place.place c.is_some.result c.in_ok-identity.ensures (c.deref.ensures.value ∙ text.spelled)
+    (ap object_of c.deref.ensures.value ∙ text.again) place.found place.again place.nowhere c.is_some.ensures

@@ -15,8 +15,8 @@ loop-place-preserved c =
     let f = c.agent.result.now in
     record {
       many = omega (arith, ap length c.in_ok-push.ensures.items, length-append l.seconds.items (c.now.result ∷ []), l.invariant.many);
-      value = λ routes are w shows.
+      value = λ routes are w shows fair.
           subst (λ xs. (a : ℕ) → a < l.place + 1 → seconds_of xs a ≡ seconds_in (home_in t routes) w a) (sym c.in_ok-push.ensures.items)
-          (second_more l.seconds.items l.place c.now.result (seconds_in (home_in t routes) w) l.invariant.many (l.invariant.value routes are w shows)
+          (second_more l.seconds.items l.place c.now.result (seconds_in (home_in t routes) w) l.invariant.many (l.invariant.value routes are w shows fair)
           (clock_of t routes w l.place f c.now.result are (placed t x w l.place f c.requires.follower shows c.agent.ensures.stands) c.now.ensures));
     }

@@ -14,7 +14,7 @@ returns-clause-follower c =
     (record { put = put_at x.agents.items c.args.agent c.get-place.result c.sync.new.self c.get-place.ensures.value; is = c.in_ok-sync.ensures.seen; kept = c.in_ok-sync.ensures.kept; network = refl; number = refl })
 
 pub returns-clause-happened : goal.returns-clause-happened
-returns-clause-happened c = λ routes are w shows.
+returns-clause-happened c = λ routes are w shows fair.
     let t = c.args.topology.now in
     let x = c.args.self.now in
     let f = c.index_mut.result.now in
