@@ -1,10 +1,11 @@
 -- A journal that is read again, and the agent that is made anew from it.
 use Rattle.std.specs.Prelude.{◌≡◌, ◌<◌, ℕ, List, [], Option, Some, None, Result, IfSome}
 use Rattle.nsi_primitive.specs.declared.entry.Entry.{Entry}
-use Rattle.nsi_disk.specs.Disk.{History, Meter, MayLeave}
+use Rattle.nsi_disk.specs.Disk.{History, MayLeave}
 use Rattle.nsi_disk.specs.ShelfCounts.{Raised}
 use Rattle.nsi_disk.specs.declared.shelf.ShelfError.{ShelfError}
 use Rattle.journal_entry.specs.Journal.{Kept as Journaled}
+pub use Rattle.journal_entry.specs.Journal.{HasSameCounts}
 use Rattle.disk_journal.specs.declared.opening.StartCause.{StartCause}
 use Rattle.agent_node.specs.declared.reopen.ReopenFault.{ReopenFault}
 use Rattle.agent_node.specs.Kept.{Kept, IsSameAgent}
@@ -20,11 +21,6 @@ MayRead reading result history = IfSome history (λ h. (c : List ℕ) × MayLeav
 -- where it is told what a journal kept, it keeps these entries, and none waits
 abbrev pub KeepsRead : List Entry → Option Journaled → Option Journaled → Type 0
 KeepsRead es old new = IfSome old (λ k. new ≡ Some (record { synced = es; waiting = [] }))
-
--- no call of the disk failed, and none stopped it
-pub record HasSameCounts (old new : Meter) : Type 0 where
-  pub faults : new.faults ≡ old.faults
-  pub stops : new.stops ≡ old.stops
 
 ---- Why it isn't read
 

@@ -99,7 +99,8 @@ impl OpenQueries {
     ) -> Result<Option<Told>, AllocError>
         requires { is_asked part ≡ false }
         ensures { let records = records_of (bonds connections.now) in
-            let heard = λ (agent : Sequence ℕ). tells_first agent records correlation part (values_of self.now) in
+            let heard = λ (agent : Sequence ℕ).
+            tells_first agent records correlation part (values_of self.now) in
             IfOk result (IsTold records self.now heard) }
     {
         let _count = self.queries.len();

@@ -1,13 +1,15 @@
 -- What a crash leaves of a journal that may be used.
 use Rattle.std.specs.Prelude.{is_some, nat_lt}
-use Rattle.std.proofs.Common.{◌≡◌, ℕ, false, List, [], Option, Some, None, Ok, IfSome, refl, arith}
-use Rattle.nsi_disk.specs.Disk.{History, Meter, MayLeave}
+use Rattle.std.proofs.Common.{◌≡◌, ℕ, false, List, [], Option, Some, None, Ok, IfSome, refl, ap, ◌∙◌, arith}
+use Rattle.nsi_primitive.specs.declared.entry.Entry.{Entry}
+use Rattle.nsi_disk.specs.Disk.{History, Meter, MayLeave, seen}
 use Rattle.journal_entry.specs.Payloads.{batch_of}
-use Rattle.journal_entry.specs.Journals.{recovers}
-use Rattle.journal_entry.proofs.Recovered.{recovered}
-use Rattle.disk_journal.specs.Batches.{payloads}
+use Rattle.journal_entry.specs.Journals.{recovers, read_all}
+use Rattle.journal_entry.specs.Journal.{ReadsKept}
+use Rattle.journal_entry.proofs.Recovered.{recovered, payloads_recovered}
+use Rattle.disk_journal.specs.Batches.{payloads, ok_or_none}
 use Rattle.disk_journal.specs.Files.{begins-means}
-use Rattle.disk_journal.specs.Keeping.{kept_of, entries, IsReady, IsCounted}
+use Rattle.disk_journal.specs.Keeping.{kept_of, listed, entries, IsReady, IsCounted}
 
 pub leaves_synced : (gate next longest count more : ℕ) (o : Option History) (meter : Meter) → IsReady o meter gate next longest → IsCounted o gate next count more
     → IfSome (kept_of gate next o) (λ k. IfSome o (λ h. (c : List ℕ) → MayLeave h c → recovers batch_of c ≡ Ok k.synced))
@@ -22,3 +24,9 @@ tells gate next (Some h) = refl
 pub none_waits : (gate next : ℕ) (o : Option History) → nat_lt gate next ≡ false → IfSome (kept_of gate next o) (λ k. k.waiting ≡ [])
 none_waits gate next None none = tt
 none_waits gate next (Some h) none = rw none
+
+pub reads_kept : (gate next : ℕ) (o : Option History) (es : List Entry) → ReadsKept (recovers batch_of) es o (kept_of gate next o)
+reads_kept gate next None es = tt
+reads_kept gate next (Some h) es = λ e.
+    let p = payloads_recovered batch_of (seen h) es e in
+    ap (λ r. listed (read_all batch_of (ok_or_none r))) p.1 ∙ ap listed p.2

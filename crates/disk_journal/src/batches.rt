@@ -1,6 +1,7 @@
 //! A file of batches: a gate, the length of the payload and the payload; behind the last one a closed gate.
 
 ghost use Rattle.std.specs.Prelude.{◌≡◌, ◌≤◌, ◌<◌, ◌^◌, ◌+◌, false, List, ℕ, Option, None, length, IfSome, IfOk, OnOk, OnErr, IsErrOf};
+ghost use Rattle.journal_entry.specs.Journal.{HasSameCounts};
 ghost use Rattle.disk_journal.specs.Batches.{Settled, Waits, Grew, Held, Told, Means, MeansOneOf, Crashes, HasSyncRoom, HasCauses, payloads, waiting, framed};
 
 use nsi_disk::{Disk, DiskError};
@@ -32,6 +33,8 @@ impl<D: Disk> BatchFile<D> {
         ensures places { IsErrOf result DiskError.NoMemory →
             (self.new.next ≡ self.old.next) × (self.new.longest ≡ self.old.longest) }
         ensures runs { IsErrOf result DiskError.NoMemory → (D.meter self.new.disk).stopped ≡ false }
+        ensures counts { IsErrOf result DiskError.NoMemory →
+            HasSameCounts (D.meter self.old.disk) (D.meter self.new.disk) }
         ensures gate { self.new.gate ≡ self.old.gate }
         ensures next { OnOk result (self.old.gate < self.new.next) }
         ensures held { OnOk result

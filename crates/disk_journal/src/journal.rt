@@ -143,7 +143,7 @@ impl<D: Disk> DiskJournal<D> {
 impl<D: Disk> Journal for DiskJournal<D> {
     ghost use Rattle.std.specs.Prelude.{nat_lt};
     ghost use Rattle.disk_journal.specs.Keeping.{kept_of, IsReady, IsCounted};
-    ghost use Rattle.disk_journal.specs.Leaving.{leaves_synced as leaves, tells as told, none_waits as none};
+    ghost use Rattle.disk_journal.specs.Leaving.{leaves_synced as leaves, tells as told, none_waits as none, reads_kept as is_kept};
 
     ghost history = { λ j. D.history j.batches.disk };
 
@@ -167,6 +167,10 @@ impl<D: Disk> Journal for DiskJournal<D> {
 
     ghost none_waits = { λ j waits. none j.batches.gate j.batches.next
         (D.history j.batches.disk) waits };
+
+    ghost reads_image = { λ j. D.reads_image j.batches.disk };
+
+    ghost reads_kept = { λ j es. is_kept j.batches.gate j.batches.next (D.history j.batches.disk) es };
 
     fn append(&mut self, alloc: Global, entries: &[Entry]) -> Result<(), JournalFault> {
         let payload = write_payload(alloc, entries)?;

@@ -70,7 +70,8 @@ impl IdIndex {
 
 /// Puts the places of some entries behind others.
 fn note_all(entries: Range<'_, IdPlace>, places: &mut Vec<usize>) -> Result<(), AllocError>
-    ensures { OnOk result (places.new.items ≡ places.old.items ++ map (λ e. e.place) entries.entry) }
+    ensures { OnOk result
+        (places.new.items ≡ places.old.items ++ map (λ e. e.place) entries.entry) }
 {
     for entry in entries {
         places.push(entry.place)?;

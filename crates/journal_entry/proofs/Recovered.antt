@@ -72,3 +72,50 @@ one_more read [] p es more h r =
 one_more read (q ∷ qs) p es more h r =
     let c = cons_parts read q qs es h in
     ap (λ o. joined read o (read_all read (qs ++ p ∷ []))) c.2 ∙ (ap (joined read (Some c.0)) (one_more read qs p c.1 more c.3 r) ∙ ap (λ x. Some x) (sym (append_assoc c.0 c.1 more) ∙ ap (λ t. t ++ more) c.4))
+
+---- The other way: what reads as entries
+
+followed_read : {E : Type 0} (read : List ℕ → Option (List E)) (place : ℕ) (o : Option (List E)) (later : Result (List E) ℕ) (es : List E) → followed_by read place o later ≡ Ok es
+    → (first : List E) × (more : List E) × (o ≡ Some first) × (later ≡ Ok more) × (first ++ more ≡ es)
+followed_read read place None later es e = absurd cc
+followed_read read place (Some first) (Err k) es e = absurd cc
+followed_read read place (Some first) (Ok more) es e = (first, more, refl, refl, cc)
+
+pub payloads_of_entries : {E : Type 0} (read : List ℕ → Option (List E)) (fuel place : ℕ) (bytes : List ℕ) (es : List E) → entries_from read fuel place bytes ≡ Ok es
+    → (ps : List (List ℕ)) × (entries_from whole fuel place bytes ≡ Ok ps) × ReadAll read ps es
+payloads_of_entries read zero place bytes es h = absurd cc
+payloads_of_entries read (suc fuel) place [] es h = absurd cc
+payloads_of_entries {E = E} read (suc fuel) place (gate ∷ rest) es h =
+    by_tests (eqb gate 1) (ltb (length rest) 8) (leb (length (drop 8 rest)) (from_be_bytes w64 (take 8 rest)))
+    (take (from_be_bytes w64 (take 8 rest)) (drop 8 rest))
+    (entries_from whole fuel (place + 9 + from_be_bytes w64 (take 8 rest)) (drop (from_be_bytes w64 (take 8 rest)) (drop 8 rest)))
+    (entries_from read fuel (place + 9 + from_be_bytes w64 (take 8 rest)) (drop (from_be_bytes w64 (take 8 rest)) (drop 8 rest)))
+    (λ later e. payloads_of_entries read fuel (place + 9 + from_be_bytes w64 (take 8 rest)) (drop (from_be_bytes w64 (take 8 rest)) (drop 8 rest)) later e) h
+  where
+    by_tests : (a b c : Bool) (p : List ℕ) (payloads : Result (List (List ℕ)) ℕ) (entries : Result (List E) ℕ)
+        → ((later : List E) → entries ≡ Ok later → (more : List (List ℕ)) × (payloads ≡ Ok more) × ReadAll read more later)
+        → cond a (cond b (Err place) (cond c (Err place) (followed_by read place (read p) entries))) (Ok []) ≡ Ok es
+        → (ps : List (List ℕ)) × (cond a (cond b (Err place) (cond c (Err place) (followed_by whole place (whole p) payloads))) (Ok []) ≡ Ok ps) × ReadAll read ps es
+    by_tests false b c p payloads entries next e =
+        let none : [] ≡ es = cc in
+        ([], refl, ap (λ (x : List E). Some x) none)
+    by_tests true true c p payloads entries next e = absurd cc
+    by_tests true false true p payloads entries next e = absurd cc
+    by_tests true false false p payloads entries next e =
+        let q = followed_read read place (read p) entries es e in
+        let n = next q.1 q.3 in (
+          p ∷ n.0,
+          ap (followed_by whole place (whole p)) n.1,
+          ap (λ o. joined read o (read_all read n.0)) q.2 ∙ (ap (joined read (Some q.0)) n.2 ∙ ap (λ (x : List E). Some x) q.4),
+        )
+
+pub payloads_recovered : {E : Type 0} (read : List ℕ → Option (List E)) (file : List ℕ) (es : List E) → recovers read file ≡ Ok es
+    → (ps : List (List ℕ)) × (recovers whole file ≡ Ok ps) × ReadAll read ps es
+payloads_recovered {E = E} read file es h = by_test (ltb (length file) 9) h
+  where
+    by_test : (t : Bool) → cond t (Ok []) (entries_from read (length file) 0 file) ≡ Ok es
+        → (ps : List (List ℕ)) × (cond t (Ok []) (entries_from whole (length file) 0 file) ≡ Ok ps) × ReadAll read ps es
+    by_test true e =
+        let none : [] ≡ es = cc in
+        ([], refl, ap (λ (x : List E). Some x) none)
+    by_test false e = payloads_of_entries read (length file) 0 file es e

@@ -1,7 +1,7 @@
 -- What a journal keeps, and why its calls fail.
 use Rattle.std.specs.Prelude.{◌≡◌, ◌⊎◌, ◌≤◌, ◌<◌, ℕ, List, [], ◌++◌, Option, Some, Result, Ok, IfSome, OnOk, IsErrOf}
 use Rattle.nsi_primitive.specs.declared.entry.Entry.{Entry}
-use Rattle.nsi_disk.specs.Disk.{History, Meter, MayLeave, LeavesOnly}
+use Rattle.nsi_disk.specs.Disk.{History, Meter, MayLeave, LeavesOnly, seen}
 use Rattle.nsi_disk.specs.declared.disk.DiskError.{DiskError}
 use Rattle.nsi_disk.specs.declared.disk.DiskError.TheVariants as disk
 use Rattle.journal_entry.specs.declared.journal.JournalFault.{JournalFault}
@@ -26,6 +26,11 @@ pub record HasJournalCause {T : Type 0} (old new : Meter) (result : Result T Jou
   pub fault : IsErrOf result DiskFault → old.faults < new.faults
   pub stopped : IsErrOf result Stopped → old.stops < new.stops
 
+-- no call of the disk failed, and none stopped it
+pub record HasSameCounts (old new : Meter) : Type 0 where
+  pub faults : new.faults ≡ old.faults
+  pub stops : new.stops ≡ old.stops
+
 -- these entries wait, and as many are synced as before
 abbrev pub Waits : List Entry → Option Kept → Option Kept → Type 0
 Waits entries old new = IfSome old (λ k. new ≡ Some (record k { waiting = entries }))
@@ -37,6 +42,14 @@ Adds entries old new = IfSome old (λ k. new ≡ Some (record { synced = k.synce
 -- those that waited are synced
 abbrev pub AddsWaiting : Option Kept → Option Kept → Type 0
 AddsWaiting old new = IfSome old (λ k. new ≡ Some (record { synced = k.synced ++ k.waiting; waiting = [] }))
+
+-- what was synced before a call, or that with these entries behind it
+abbrev pub KeepsOneOf : List Entry → Option Kept → Option Kept → Type 0
+KeepsOneOf entries old new = IfSome old (λ k. IfSome new (λ n. (n.synced ≡ k.synced) ⊎ (n.synced ≡ k.synced ++ entries)))
+
+-- what a disk reads is one of its images
+abbrev pub ReadsImage : Option History → Type 0
+ReadsImage history = IfSome history (λ h. MayLeave h (seen h))
 
 module _ (reading : List ℕ → Result (List Entry) ℕ) where
   -- bytes read as the one list, or as it with the other behind it
@@ -62,3 +75,7 @@ module _ (reading : List ℕ → Result (List Entry) ℕ) where
   -- or that with these entries behind it
   abbrev pub MayLeaveWith : List Entry → Option Kept → Option History → Type 0
   MayLeaveWith entries kept now = IfSome kept (λ k. IfSome now (λ h. (c : List ℕ) → MayLeave h c → ReadsOneOf k.synced entries c))
+
+  -- where a disk reads as these entries, they are kept
+  abbrev pub ReadsKept : List Entry → Option History → Option Kept → Type 0
+  ReadsKept es history kept = IfSome history (λ h. reading (seen h) ≡ Ok es → IfSome kept (λ k. k.synced ≡ es))

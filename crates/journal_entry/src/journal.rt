@@ -4,7 +4,7 @@ ghost use Rattle.std.specs.Prelude.{◌≡◌, ◌<◌, List, ℕ, Option, Resul
 ghost use Rattle.nsi_primitive.specs.Printable.{IsPrintableEntry};
 ghost use Rattle.nsi_primitive.specs.declared.entry.Entry.{Entry as AnEntry};
 ghost use Rattle.nsi_disk.specs.Disk.{History, Meter};
-ghost use Rattle.journal_entry.specs.Journal.{Kept, HasJournalCause, Waits, Adds, AddsWaiting, LeavesSynced, LeavesWaiting, LeavesWith, MayLeaveSynced, MayLeaveWith};
+ghost use Rattle.journal_entry.specs.Journal.{Kept, HasJournalCause, HasSameCounts, Waits, Adds, AddsWaiting, LeavesSynced, LeavesWaiting, LeavesWith, MayLeaveSynced, MayLeaveWith, ReadsImage, ReadsKept, KeepsOneOf};
 
 use nsi_disk::DiskError;
 use nsi_primitive::Entry;
@@ -83,6 +83,7 @@ pub trait Journal {
         ensures cause { HasJournalCause (meter self.old) (meter self.new) result }
         ensures same_disk { IsErrOf result NoRoom → history self.new ≡ history self.old }
         ensures same { IsErrOf result NoRoom → kept self.new ≡ kept self.old }
+        ensures same_counts { IsErrOf result NoRoom → HasSameCounts (meter self.old) (meter self.new) }
         ensures usable { IsErrOf result NoRoom → (waits self.new ≡ false) × is_ready self.new }
         ensures untold { history self.old ≡ None → history self.new ≡ None };
 
@@ -120,6 +121,12 @@ pub trait Journal {
 
     /// Where no batch waits, none is kept as waiting.
     ghost none_waits: { (j : Self) → waits j ≡ false → IfSome (kept j) (λ k. k.waiting ≡ []) };
+
+    /// What its disk reads is one of the disk's images.
+    ghost reads_image: { (j : Self) → ReadsImage (history j) };
+
+    /// Where its disk reads as entries, it keeps these as synced, after a fault too.
+    ghost reads_kept: { (j : Self) (es : List AnEntry) → ReadsKept reading es (history j) (kept j) };
 }
 
 /// Keeps these entries: they are appended and synced. After an error but `NoMemory` the journal is only good for giving
@@ -139,10 +146,13 @@ pub fn keep<J: Journal>(
     ensures any_moment { LeavesWith J.reading entries.now (J.kept journal.old)
         (J.history journal.old) (J.history journal.new) }
     ensures left { MayLeaveWith J.reading entries.now (J.kept journal.old) (J.history journal.new) }
+    ensures front { KeepsOneOf entries.now (J.kept journal.old) (J.kept journal.new) }
     ensures cause { HasJournalCause (J.meter journal.old) (J.meter journal.new) result }
     ensures same_disk { IsErrOf result JournalFault.NoMemory →
         J.history journal.new ≡ J.history journal.old }
     ensures same { IsErrOf result JournalFault.NoMemory → J.kept journal.new ≡ J.kept journal.old }
+    ensures same_counts { IsErrOf result JournalFault.NoMemory →
+        HasSameCounts (J.meter journal.old) (J.meter journal.new) }
     ensures usable { IsErrOf result JournalFault.NoMemory →
         (J.waits journal.new ≡ false) × J.is_ready journal.new }
     ensures untold { J.history journal.old ≡ None → J.history journal.new ≡ None }
