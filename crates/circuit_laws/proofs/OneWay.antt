@@ -4,6 +4,7 @@ use Rattle.nsi_base.specs.Lines.{lines_to, feed_at}
 use Rattle.nsi_base.specs.Digits.{value_from, number_of}
 use Rattle.nsi_base.specs.Words.{words_of}
 use Rattle.stp_topology.specs.declared.network.AgentKind.{AgentKind}
+use Rattle.stp_topology.specs.declared.network.PointCapacity.TheVariants.{Shared}
 use Rattle.stp_topology.specs.declared.network.Network.{Network}
 use Rattle.stp_topology.specs.Laws.{IsWellFormed}
 use Rattle.stp_topology.specs.Lines.{known_agent, with_agent, add_provider, add_aggregator, add_requester, with_stp, add_stp, with_sdp, add_sdp, leads_down, stands_over, with_child, add_child, line_of}
@@ -28,7 +29,7 @@ topology =
       kinds = AgentKind.Provider 60 ∷ AgentKind.Provider 60 ∷ AgentKind.Aggregator ∷ AgentKind.Requester 2 ∷ [];
       stps = codes "w:lab" ∷ codes "w:east" ∷ codes "e:west" ∷ codes "e:store" ∷ [];
       owners = 0 ∷ 0 ∷ 1 ∷ 1 ∷ [];
-      capacities = 1000 ∷ 1000 ∷ 1000 ∷ 1000 ∷ [];
+      capacities = Shared 1000 ∷ Shared 1000 ∷ Shared 1000 ∷ Shared 1000 ∷ [];
       partners = None ∷ Some 2 ∷ Some 1 ∷ None ∷ [];
       children = (2, 0) ∷ (2, 1) ∷ [];
     }

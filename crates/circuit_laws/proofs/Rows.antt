@@ -29,6 +29,7 @@ use Rattle.connection_record.specs.Moves.{event_of, is_live, is_working, worked 
 use Rattle.connection_record.specs.Refusal.{has_row, is_in_place, unnamed_refusal, modification_refusal, refusal}
 use Rattle.connection_record.specs.Speaking.{tally, number_of, is_asking, is_noting, is_answering, owed_reserve, owed_provision, owed_life, owed}
 use Rattle.stp_topology.specs.declared.network.AgentKind.{AgentKind}
+use Rattle.stp_topology.specs.declared.network.PointCapacity.TheVariants.{Shared}
 use Rattle.stp_topology.specs.declared.network.Network.{Network}
 use Rattle.provider_agent.specs.Others.{lacking}
 use Rattle.provider_agent.specs.Setting.{capacities_among}
@@ -58,7 +59,7 @@ t1 =
       kinds = AgentKind.Provider 60 ∷ AgentKind.Requester 0 ∷ [];
       stps = codes "A" ∷ codes "B" ∷ [];
       owners = 0 ∷ 0 ∷ [];
-      capacities = 1000 ∷ 1000 ∷ [];
+      capacities = Shared 1000 ∷ Shared 1000 ∷ [];
       partners = None ∷ None ∷ [];
       children = [];
     }

@@ -3,6 +3,7 @@ use Rattle.std.proofs.Common.{◌≡◌, [], ◌∷◌, Some, None, refl}
 use Rattle.std.specs.Prelude.{codes}
 use Rattle.stp_topology.specs.declared.network.Network.{Network}
 use Rattle.stp_topology.specs.declared.network.AgentKind.{AgentKind}
+use Rattle.stp_topology.specs.declared.network.PointCapacity.TheVariants.{Shared}
 use Rattle.stp_topology.specs.Network.{sdps_of}
 use Rattle.nsi_base.specs.Words.{words_of}
 use Rattle.nsi_program.specs.declared.asked.Ask.{Ask}
@@ -17,7 +18,7 @@ joined =
       kinds = AgentKind.Provider 60 ∷ AgentKind.Provider 60 ∷ AgentKind.Aggregator ∷ AgentKind.Requester 2 ∷ [];
       stps = codes "A" ∷ codes "B" ∷ codes "C" ∷ codes "D" ∷ [];
       owners = 0 ∷ 0 ∷ 1 ∷ 1 ∷ [];
-      capacities = 1000 ∷ 1000 ∷ 1000 ∷ 1000 ∷ [];
+      capacities = Shared 1000 ∷ Shared 1000 ∷ Shared 1000 ∷ Shared 1000 ∷ [];
       partners = None ∷ Some 2 ∷ Some 1 ∷ None ∷ [];
       children = (2, 0) ∷ (2, 1) ∷ [];
     }

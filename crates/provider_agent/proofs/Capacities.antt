@@ -55,7 +55,7 @@ three_flows : (t : Network) (n : ℕ) (b : Bool) (flow : Flow)
     (first_some (if b && is_same_flow Flow.In flow then capacity_of t n Flow.In else None) (if b && is_same_flow Flow.Out flow then capacity_of t n Flow.Out else None))
     ≡ (if b then capacity_of t n flow else None)
 three_flows t n true Flow.Both = first_of_none (capacity_of t n Flow.Both)
-three_flows t n true Flow.In = refl
+three_flows t n true Flow.In = first_of_none (capacity_of t n Flow.In)
 three_flows t n true Flow.Out = refl
 three_flows t n false flow = refl
 

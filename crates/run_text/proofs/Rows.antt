@@ -11,6 +11,7 @@ use Rattle.nsi_primitive.specs.declared.entry.Happening.{Happening}
 use Rattle.nsi_primitive.specs.declared.entry.Input.{Input}
 use Rattle.stp_topology.specs.Network.{agent_of, name_of}
 use Rattle.stp_topology.specs.declared.network.AgentKind.{AgentKind}
+use Rattle.stp_topology.specs.declared.network.PointCapacity.TheVariants.{Shared}
 use Rattle.stp_topology.specs.declared.network.Network.{Network}
 use Rattle.ask_text.specs.Asks.{verb_of as ask_verb}
 use Rattle.trace_text.specs.Lines.{answer_text, line_of, text_of}
@@ -29,7 +30,7 @@ t1 =
       kinds = AgentKind.Provider 60 ∷ AgentKind.Requester 0 ∷ [];
       stps = codes "A" ∷ codes "B" ∷ [];
       owners = 0 ∷ 0 ∷ [];
-      capacities = 1000 ∷ 1000 ∷ [];
+      capacities = Shared 1000 ∷ Shared 1000 ∷ [];
       partners = None ∷ None ∷ [];
       children = [];
     }

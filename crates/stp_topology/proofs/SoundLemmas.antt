@@ -7,6 +7,7 @@ use Rattle.std.proofs.lemmas.Option.{slice_get_within, slice_get-get_or}
 use Rattle.stp_topology.specs.declared.fault.TopologyFault.{TopologyFault}
 use Rattle.stp_topology.specs.declared.fault.TopologyFault.TheVariants.{Unknown, Twice, Cycle, TooDeep, Limit}
 use Rattle.stp_topology.specs.declared.network.AgentKind.TheVariants.{Provider, Aggregator, Requester}
+use Rattle.stp_topology.specs.declared.network.PointCapacity.{PointCapacity}
 use Rattle.stp_topology.specs.declared.declare.Sort.{Sort}
 use Rattle.stp_topology.specs.declared.declare.Sort.TheVariants as sorts
 use Rattle.stp_topology.proofs.RankLemmas.{before, deep_same}
@@ -114,7 +115,7 @@ agent_sound t new name kind i asks h =
     let same : agent_after t name kind ≡ new = cc in
     subst IsSound same (agent_made t name kind i asks (is_absent (agent_of t name) a.0) few)
 
-abbrev stp_after : Network → List ℕ → ℕ → ℕ → Network
+abbrev stp_after : Network → List ℕ → ℕ → PointCapacity → Network
 stp_after t name owner capacity = record t { stps = t.stps ++ name ∷ []; owners = t.owners ++ owner ∷ []; capacities = t.capacities ++ capacity ∷ []; partners = t.partners ++ None ∷ [] }
 
 -- points that are joined have their owners still
@@ -125,7 +126,7 @@ apart_still t owner s p i h e =
     let at_p = before t.owners (owner ∷ []) p (omega (arith, there, slice_get_within t.partners p (Some s) (i.joined s p h))) in
     i.apart s p h (sym at_s ∙ (e ∙ at_p))
 
-stp_made : (t : Network) (name : List ℕ) (owner capacity : ℕ) → IsSound t → IsProvider t owner → stp_of t name ≡ None → length t.stps + 1 ≤ 4096 → IsSound (stp_after t name owner capacity)
+stp_made : (t : Network) (name : List ℕ) (owner : ℕ) (capacity : PointCapacity) → IsSound t → IsProvider t owner → stp_of t name ≡ None → length t.stps + 1 ≤ 4096 → IsSound (stp_after t name owner capacity)
 stp_made t name owner capacity i own new few = record {
   fit = record {
     few_agents = i.fit.few_agents;
@@ -148,7 +149,7 @@ stp_made t name owner capacity i own new few = record {
   once = i.once;
 }
 
-pub stp_sound : (t new : Network) (name : List ℕ) (owner capacity : ℕ) → IsSound t → IsProvider t owner → with_stp t name owner capacity ≡ Ok new → IsSound new
+pub stp_sound : (t new : Network) (name : List ℕ) (owner : ℕ) (capacity : PointCapacity) → IsSound t → IsProvider t owner → with_stp t name owner capacity ≡ Ok new → IsSound new
 unfolding with_stp
 stp_sound t new name owner capacity i own h =
     let a = passes (is_some (stp_of t name)) Twice _ new h in

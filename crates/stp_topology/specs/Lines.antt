@@ -6,6 +6,8 @@ use Rattle.nsi_base.specs.Range.{least_hold, greatest_hold, least_mbps, greatest
 use Rattle.stp_topology.specs.declared.fault.TopologyFault.{TopologyFault}
 use Rattle.stp_topology.specs.declared.fault.TopologyFault.TheVariants.{Word, Unknown, Twice, Cycle, TooDeep, Limit}
 use Rattle.stp_topology.specs.declared.network.AgentKind.TheVariants.{Provider, Aggregator, Requester}
+use Rattle.stp_topology.specs.declared.network.PointCapacity.{PointCapacity}
+use Rattle.stp_topology.specs.declared.network.PointCapacity.TheVariants.{Shared, Each}
 use Rattle.stp_topology.specs.declared.declare.Sort.{Sort}
 use Rattle.stp_topology.specs.declared.declare.Sort.TheVariants as sorts
 use Rattle.stp_topology.specs.Faults.{◌>>=◌, value_or}
@@ -55,7 +57,7 @@ add_requester t name agent = do
   with_agent t n (Requester a)
 
 -- one point more
-unfoldable pub with_stp : Network → List ℕ → ℕ → ℕ → Result Network TopologyFault
+unfoldable pub with_stp : Network → List ℕ → ℕ → PointCapacity → Result Network TopologyFault
 with_stp t name owner capacity =
     if is_some (stp_of t name) then Err Twice
     else if nat_le 4096 (length t.stps) then Err Limit
@@ -68,7 +70,17 @@ add_stp t provider name capacity = do
   n ← name_form name
   c ← number_form least_mbps greatest_mbps capacity
   a ← known_agent t sorts.OneProvider p
-  with_stp t n a c
+  with_stp t n a (Shared c)
+
+-- `stp PROVIDER NAME IN OUT`
+unfoldable pub add_directed_stp : Network → List ℕ → List ℕ → List ℕ → List ℕ → Result Network TopologyFault
+add_directed_stp t provider name inward outward = do
+  p ← name_form provider
+  n ← name_form name
+  i ← number_form least_mbps greatest_mbps inward
+  o ← number_form least_mbps greatest_mbps outward
+  a ← known_agent t sorts.OneProvider p
+  with_stp t n a (Each i o)
 
 -- whether a point has a partner
 abbrev pub is_joined : Option (Option ℕ) → Bool
@@ -148,6 +160,7 @@ line_of t words =
     else if is_form words 3 (codes "agent") && bytes_eq (word words 2) (codes "aggregator") then add_aggregator t (word words 1)
     else if is_form words 4 (codes "agent") && bytes_eq (word words 2) (codes "requester") then add_requester t (word words 1) (word words 3)
     else if is_form words 4 (codes "stp") then add_stp t (word words 1) (word words 2) (word words 3)
+    else if is_form words 5 (codes "stp") then add_directed_stp t (word words 1) (word words 2) (word words 3) (word words 4)
     else if is_form words 3 (codes "sdp") then add_sdp t (word words 1) (word words 2)
     else if is_form words 3 (codes "child") then add_child t (word words 1) (word words 2)
     else Err Word

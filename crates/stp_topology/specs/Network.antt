@@ -2,7 +2,9 @@
 pub use Rattle.stp_topology.specs.declared.network.Network.{Network}
 pub use Rattle.stp_topology.specs.declared.network.AgentKind.{AgentKind}
 use Rattle.stp_topology.specs.declared.network.AgentKind.TheVariants.{Provider}
-use Rattle.std.specs.Prelude.{ℕ, ◌/◌, List, [], Bool, true, false, Option, None, is_some, slice_get, get_or, count_by}
+use Rattle.stp_topology.specs.declared.network.PointCapacity.{PointCapacity}
+use Rattle.stp_topology.specs.declared.network.PointCapacity.TheVariants.{Shared, Each}
+use Rattle.std.specs.Prelude.{ℕ, ◌/◌, List, [], Bool, true, false, Option, Some, None, is_some, option_and_then, slice_get, get_or, count_by}
 use Rattle.std.specs.List.{position_from}
 use Rattle.nsi_base.specs.declared.flow.Flow.{Flow}
 use Rattle.nsi_base.specs.declared.flow.Flow.TheVariants as flows
@@ -37,10 +39,16 @@ kind_of t a = slice_get t.kinds a
 abbrev pub owner_of : Network → ℕ → ℕ
 owner_of t s = get_or t.owners s 0
 
--- the capacity of a point: one for both directions, and none for either alone
+-- how much a point carries of a flow: one for both directions together, or one for each alone
+abbrev pub carried : Flow → PointCapacity → Option ℕ
+carried flows.Both (Shared mbps) = Some mbps
+carried flows.In (Each inward outward) = Some inward
+carried flows.Out (Each inward outward) = Some outward
+carried flow capacity = None
+
+-- the capacity of a point for a flow, where it has the flow
 abbrev pub capacity_of : Network → ℕ → Flow → Option ℕ
-capacity_of t s flows.Both = slice_get t.capacities s
-capacity_of t s flow = None
+capacity_of t s flow = option_and_then (carried flow) (slice_get t.capacities s)
 
 -- the point that a point is joined with
 abbrev pub partner_of : Network → ℕ → Option ℕ

@@ -4,17 +4,17 @@ ghost use Rattle.std.specs.Prelude.{◌≡◌, ◌<◌, ◌≤◌, List, length,
 ghost use Rattle.nsi_base.specs.Bytes.{is_name};
 ghost use Rattle.stp_topology.specs.Faults.{Gives, Leaves, value_or};
 ghost use Rattle.stp_topology.specs.Network.{stp_of, nothing};
-ghost use Rattle.stp_topology.specs.Lines.{is_of, known_agent, with_agent, add_provider, add_aggregator, add_requester, with_stp, add_stp, is_joined, are_same, with_sdp, add_sdp, with_child, add_child, is_form, line_of};
+ghost use Rattle.stp_topology.specs.Lines.{is_of, known_agent, with_agent, add_provider, add_aggregator, add_requester, with_stp, add_stp, add_directed_stp, is_joined, are_same, with_sdp, add_sdp, with_child, add_child, is_form, line_of};
 ghost use Rattle.stp_topology.specs.declared.fault.TopologyFault.TheVariants.{Unknown};
 
 use crate::child_lines::{has_pair, is_too_deep, leads_down};
 use crate::children::ChildLines;
 use crate::fault::{LineRefusal, TopologyFault};
 use crate::names::Names;
-use crate::network::{AgentKind, Network};
+use crate::network::{AgentKind, Network, PointCapacity};
 use crate::partners::Partners;
 use crate::words::{capacity, hold, name};
-use nsi_base::{AgentNo, List, Mbps, StpNo};
+use nsi_base::{AgentNo, List, StpNo};
 use std::alloc::Global;
 
 /// Of which sort an agent has to be.
@@ -158,7 +158,7 @@ impl Network {
         alloc: Global,
         name: &[u8],
         owner: AgentNo,
-        capacity: Mbps,
+        capacity: PointCapacity,
     ) -> Result<(), LineRefusal>
         requires { IsTrue (is_name name.now) }
         ensures { Leaves result self.new (with_stp self.old name.now owner capacity) }
@@ -197,9 +197,30 @@ impl Network {
     {
         let provider = name(provider)?;
         let own = name(word)?;
-        let capacity = capacity(mbps)?;
+        let mbps = capacity(mbps)?;
         let owner = self.known_agent(Sort::OneProvider, provider)?;
-        self.put_stp(alloc, own, owner, capacity)
+        self.put_stp(alloc, own, owner, PointCapacity::Shared { mbps })
+    }
+
+    #[tactic(auto, unfolding(crate::specs::Lines::add_directed_stp))]
+    fn add_directed_stp(
+        &mut self,
+        alloc: Global,
+        provider: &[u8],
+        word: &[u8],
+        inward: &[u8],
+        outward: &[u8],
+    ) -> Result<(), LineRefusal>
+        requires { length self.old.agents ≤ 64 }
+        ensures { Leaves result self.new
+            (add_directed_stp self.old provider.now word.now inward.now outward.now) }
+    {
+        let provider = name(provider)?;
+        let own = name(word)?;
+        let inward = capacity(inward)?;
+        let outward = capacity(outward)?;
+        let owner = self.known_agent(Sort::OneProvider, provider)?;
+        self.put_stp(alloc, own, owner, PointCapacity::Each { inward, outward })
     }
 
     #[tactic(auto, unfolding(crate::specs::Lines::with_sdp))]
@@ -279,6 +300,8 @@ impl Network {
             self.add_requester(alloc, words[1], words[3])
         } else if is_form(words, 4, b"stp") {
             self.add_stp(alloc, words[1], words[2], words[3])
+        } else if is_form(words, 5, b"stp") {
+            self.add_directed_stp(alloc, words[1], words[2], words[3], words[4])
         } else if is_form(words, 3, b"sdp") {
             self.add_sdp(words[1], words[2])
         } else if is_form(words, 3, b"child") {

@@ -18,7 +18,7 @@ pub use children::ChildLines;
 pub use fault::{LineRefusal, TopologyFault, TopologyRefusal};
 pub use laws::every_topology;
 pub use names::Names;
-pub use network::{AgentKind, Network};
+pub use network::{AgentKind, Network, PointCapacity};
 pub use partners::Partners;
 pub use text::read_topology;
 pub use topology::{Taken, Topology};

@@ -163,15 +163,12 @@ impl Topology {
         self.network.owners.items()[s.get() as usize]
     }
 
-    /// The capacity of an STP. It has one for both directions of traffic together, and none for either alone.
+    /// The capacity of an STP for a flow, where it has the flow: both directions of traffic together, or each of them alone.
     pub fn capacity(&self, s: StpNo, flow: Flow) -> Option<Mbps>
         requires { s < length self.now.stps }
         ensures { result ≡ capacity_of self.now s flow }
     {
-        match flow {
-            Flow::Both => Some(self.network.capacities.items()[s.get() as usize]),
-            _ => None,
-        }
+        self.network.capacities.items()[s.get() as usize].of(flow)
     }
 
     /// The STP that an STP is joined with by an SDP.
