@@ -136,9 +136,16 @@ def covers(criteria, second):
     return criteria["startTime"] <= second < criteria["endTime"]
 
 
-def demand(record, point, second):
+def books(record, point, flow):
+    """Traffic goes in at the source and out at the destination, and the other way too where it goes both ways."""
+    ends, both_ways = (point == record["source"], point == record["dest"]), record["directionality"] != "Unidirectional"
+    first = {"Both": True, "In": ends[0], "Out": ends[1]}[flow]
+    return any(ends) and (first or both_ways)
+
+
+def demand(record, point, flow, second):
     """The larger of what a record has committed and what it holds there."""
-    if point not in (record["source"], record["dest"]) or record["Lifecycle"] == "Terminated":
+    if not books(record, point, flow) or record["Lifecycle"] == "Terminated":
         return 0
     counted = record["committed"][-1:]
     if record["Reserve"] in ("ReserveHeld", "ReserveCommitting"):
@@ -425,7 +432,7 @@ class Provider(Server):
     side = "Provider"
 
     def __init__(self, number, name, hold, points):
-        """The points are the capacities of its own, by name."""
+        """The points are the capacities of its own, by name: each a dictionary by the flows that it has."""
         super().__init__(number, name)
         self.hold = hold
         self.points = points
@@ -486,16 +493,22 @@ class Provider(Server):
         record["deadline"] = self.now + self.hold
 
     def first_lack(self, record):
-        """The first second, and there the source before the destination, at which it doesn't fit."""
+        """The first second, and there the source before the destination, and in before out, at which it doesn't fit."""
         pending = record["pending"]
         others = [other for other in self.records if other is not record]
         for second in self.rises(others, pending):
-            for point in (record["source"], record["dest"]):
-                load = sum(demand(other, point, second) for other in others)
-                if load + pending["capacity"] > self.points[point]:
-                    keys = {"capacity": self.points[point], "load": load, "second": second, "stp": point}
+            for point, flow in self.booked(record):
+                load, most = sum(demand(other, point, flow, second) for other in others), self.points[point][flow]
+                if load + pending["capacity"] > most:
+                    direction = {} if flow == "Both" else {"direction": flow.lower()}
+                    keys = {"capacity": most, "load": load, "second": second, "stp": point, **direction}
                     return {"errorId": "BANDWIDTH", **keys}
         return None
+
+    def booked(self, record):
+        """What a record books, in the order in which lacks are looked for."""
+        ends = record["source"], record["dest"]
+        return [(point, flow) for point in ends for flow in self.points[point] if books(record, point, flow)]
 
     def rises(self, others, asked):
         """The seconds of a schedule at which a load can rise: its first, and where another's begins."""

@@ -57,7 +57,7 @@ def words_of(line):
 
 class Topology:
     def __init__(self):
-        # Dictionaries with kind, and hold, provider or children; and with owner, capacity and partner.
+        # Dictionaries with kind, and hold, provider or children; and with owner, capacity by flow, and partner.
         self.agents = {}
         self.points = {}
 
@@ -92,7 +92,7 @@ class Topology:
 
     def take(self, line):
         words = words_of(line)
-        forms = {"agent": (4, 3), "stp": (4,), "sdp": (3,), "child": (3,)}
+        forms = {"agent": (4, 3), "stp": (4, 5), "sdp": (3,), "child": (3,)}
         demand_form(words[0] in forms and len(words) in forms[words[0]])
         getattr(self, words[0])(*words[1:])
 
@@ -114,9 +114,11 @@ class Topology:
             raise Fault("Limit")
         self.agents[agent] = what
 
-    def stp(self, provider, point, capacity):
-        what = {"owner": name(provider), "capacity": number(capacity, 1, GREATEST_CAPACITY), "partner": None}
-        name(point)
+    def stp(self, provider, point, *capacities):
+        name(provider), name(point)
+        flows = ("Both",) if len(capacities) == 1 else ("In", "Out")
+        most = {flow: number(capacity, 1, GREATEST_CAPACITY) for flow, capacity in zip(flows, capacities)}
+        what = {"owner": provider, "capacity": most, "partner": None}
         if self.kind(provider) != "provider":
             raise Fault("Unknown")
         if point in self.points:
