@@ -27,7 +27,7 @@ unfolding lines_to feed_at value_from number_of words_of known_agent with_agent 
 five_lines = refl
 
 -- a capacity for each direction of one point, and one for both of another
-directed_lines : topology_of (codes "agent p1 provider 60\nagent r1 requester p1\nstp p1 A 1000 400\nstp p1 B 1000\n---") ≡ Ok (record two_points { capacities = Each 1000 400 ∷ Shared 1000 ∷ [] }, 75)
+directed_lines : topology_of (codes "agent p1 provider 60\nagent r1 requester p1\nstp p1 A 1000 400\nstp p1 B 1000\n---") ≡ Ok (record two_points { capacities = Each 1000 400 ∷ Shared 1000 ∷ [] }, 78)
 unfolding lines_to feed_at value_from number_of words_of known_agent with_agent add_provider add_aggregator add_requester with_stp add_stp add_directed_stp with_sdp add_sdp leads_down stands_over with_child add_child line_of of_line read_lines behind_lines
 directed_lines = refl
 
