@@ -1,5 +1,5 @@
 -- Agents whose links are bounded stay so, whatever is played with them.
-use Rattle.std.proofs.Common.{map, ℕ, ◌+◌, ◌<◌, ◌≡◌, ◌⊎◌, inl, inr, ap₂, true, false, List, [], ◌∷◌, ◌++◌, refl, sym, ap, ◌∙◌, subst, arith, length, length-append}
+use Rattle.std.proofs.Common.{map, ℕ, ◌<◌, ◌≡◌, ◌⊎◌, inl, inr, ap₂, false, List, [], ◌∷◌, ◌++◌, refl, sym, ap, ◌∙◌, subst, arith, length, length-append}
 use Rattle.nsi_primitive.specs.declared.entry.Event.{Event}
 use Rattle.nsi_play.specs.Rounds.{Net, Homes, round, events_of, all_quiet}
 use Rattle.stp_topology.specs.declared.network.Network.{Network}

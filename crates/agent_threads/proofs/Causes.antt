@@ -1,5 +1,5 @@
 -- Why rounds and runs have failed.
-use Rattle.std.proofs.Common.{ℕ, ◌≡◌, ◌∙◌, Bool, true, List, [], ◌∷◌, inl, inr, refl, sym, ap₂, subst, arith, Result, Ok, Err, IfErr, OnOk}
+use Rattle.std.proofs.Common.{ℕ, ◌≡◌, ◌∙◌, Bool, true, List, [], ◌∷◌, inl, inr, refl, sym, ap₂, subst, arith, Result, Ok, Err, IfErr}
 use Rattle.stp_topology.specs.declared.network.Network.{Network}
 use Rattle.stp_topology.specs.Network.{name_of}
 use Rattle.agent_node.specs.Kept.{Kept, IsSameAgent}
@@ -137,10 +137,6 @@ shelf_still b c (Err x) e f = record { faults = omega (arith, e); stops = omega 
 -- a call has failed, before which its counts were the same
 pub shelf_failed : {S T : Type 0} (b c d : ShelfCounts) (r : Result S RunFault) (q : Result T RunFault) (y : RunFault) → q ≡ Err y → c.faults ≡ b.faults → c.stops ≡ b.stops → KeepsShelf c d r → KeepsShelf b d q
 shelf_failed {S} {T} b c d r q y is e f k = subst (λ (z : Result T RunFault). KeepsShelf b d z) (sym is) (record { faults = let h = k.faults in omega (arith, e, h); stops = let h = k.stops in omega (arith, f, h); quiet = tt; calm = tt })
-
--- a call that hasn't failed leaves them the same
-pub shelf_quiet : {S : Type 0} (c d : ShelfCounts) (r : Result S RunFault) (x : S) → r ≡ Ok x → KeepsShelf c d r → (d.faults ≡ c.faults) × (d.stops ≡ c.stops)
-shelf_quiet {S} c d r x is k = (subst (λ (z : Result S RunFault). OnOk z (d.faults ≡ c.faults)) is k.quiet, subst (λ (z : Result S RunFault). OnOk z (d.stops ≡ c.stops)) is k.calm)
 
 ---- Names
 

@@ -1,11 +1,9 @@
 -- Agents that go on from their journals.
-use Rattle.std.proofs.Common.{ℕ, ◌+◌, ◌≤◌, ◌≡◌, ◌&&◌, nat_le, Bool, true, false, List, [], ◌∷◌, ◌++◌, ◌⊎◌, Option, Some, None, inl, inr, refl, sym, ap, ◌∙◌, subst, arith, length, length-append}
+use Rattle.std.proofs.Common.{ℕ, ◌+◌, ◌≤◌, ◌≡◌, ◌&&◌, nat_le, Bool, true, false, List, [], ◌∷◌, ◌++◌, ◌⊎◌, Option, None, inl, inr, refl, sym, ap, ◌∙◌, subst, arith, length, length-append}
 use Rattle.std.specs.Prelude.{IfSome, Result, Ok, Err, OnOk, OnErr}
 use Rattle.std.proofs.lemmas.Bool.Decides.{nat_tests}
 use Rattle.std.proofs.lemmas.Bool.{cases_eq}
 use Rattle.nsi_primitive.specs.declared.entry.Entry.{Entry}
-use Rattle.nsi_disk.specs.declared.shelf.ShelfError.{ShelfError}
-use Rattle.disk_journal.specs.declared.opening.StartCause.{StartCause}
 use Rattle.journal_entry.specs.Journal.{Kept as Journaled}
 use Rattle.agent_state.specs.State.{AgentState, AgentStepped, blank_agent}
 use Rattle.stp_topology.specs.declared.network.Network.{Network}
@@ -17,17 +15,16 @@ use Rattle.nsi_agent.specs.Steps.{after, may_take_as}
 use Rattle.nsi_agent.specs.Told.{Told, told, goes_on}
 use Rattle.nsi_agent.proofs.Staying.{entries_are_taken, others_are_left_out}
 use Rattle.nsi_agent.proofs.Telling.{telling_is_in_parts, clocks_rise}
-use Rattle.agent_node.specs.declared.reopen.ReopenFault.{ReopenFault}
 use Rattle.agent_node.specs.Seat.{Seat}
 use Rattle.agent_node.specs.Restarts.{reads, restart_event}
-use Rattle.agent_node.specs.Reopening.{HasReopenCause, IsReread}
+use Rattle.agent_node.specs.Reopening.{IsReread}
 use Rattle.agent_node.specs.Kept.{Kept, IsSameAgent}
 use Rattle.agent_threads.specs.declared.fault.RunFault.{RunFault}
 use Rattle.agent_threads.specs.Nets.{seats, numbers, EachIs, AreOf, AtHomes, AreSame, AreUsable, AreNet, IsOwned, AreOwned, IsAbsent, IsOneOf, AreAmong, AreListed}
 use Rattle.agent_threads.specs.Bounds.{MovesOn}
 use Rattle.agent_threads.specs.Promise.{Shows}
 use Rattle.std.proofs.lemmas.List.Elements.{All-head}
-use Rattle.agent_threads.specs.Made.{Does, DoesAct, IsRestarted, RestartsAt, part_in, PutsBack, LosesOne, reopen_fault, ShelfCounts, counted, HasFailed, AreUntold, IsUntold, HasRestartCause, HasRunCause}
+use Rattle.agent_threads.specs.Made.{Does, DoesAct, IsRestarted, RestartsAt, part_in, PutsBack, LosesOne, ShelfCounts, HasFailed, AreUntold, IsUntold, HasRestartCause, HasRunCause}
 use Rattle.agent_threads.proofs.Same.{KeepsLinks, does_links, does_usable, links_same, links_net}
 use Rattle.agent_threads.proofs.Moving.{moves_self, part_moves}
 use Rattle.agent_threads.proofs.Going.{does_move}
@@ -105,15 +102,6 @@ is_restarted exist x y q within =
         clock = λ second a b. let n = both.1 in omega (arith, n, b);
       };
     }
-
--- why its journal wasn't read again
-pub reopen_cause : (k : Kept) (f g s r : ℕ) (e : ReopenFault) → HasReopenCause f g s r (λ place. k.kept ≡ None) e → HasRestartCause k (counted f s) (counted g r) (reopen_fault k.seat.number e)
-reopen_cause k f g s r (ReopenFault.GivenBack StartCause.DiskFault) c = (refl, inl c)
-reopen_cause k f g s r (ReopenFault.GivenBack StartCause.Stopped) c = (refl, inr c)
-reopen_cause k f g s r (ReopenFault.GivenBack (StartCause.NotAJournal place)) c = (refl, λ routes are own. let e : Some own.0 ≡ None = sym own.1 ∙ c in cc)
-reopen_cause k f g s r (ReopenFault.GivenBack StartCause.NoMemory) c = tt
-reopen_cause k f g s r (ReopenFault.Lost ShelfError.Failed) c = (refl, inl c)
-reopen_cause k f g s r (ReopenFault.Lost ShelfError.NoMemory) c = tt
 
 ---- A list with one more behind it
 

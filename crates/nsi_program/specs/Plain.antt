@@ -1,5 +1,5 @@
 -- How a command that takes no lock ends: all that is promised of it, of what is outside before and after.
-use Rattle.std.specs.Prelude.{◌≡◌, ◌<◌, ◌⊎◌, ℕ, List, Option, Some, IfSome, codes, true}
+use Rattle.std.specs.Prelude.{◌≡◌, ◌<◌, ◌⊎◌, ℕ, List, Option, Some, IfSome, true}
 use Rattle.fault_lines.specs.Counts.{Counts, HasDiskFault}
 use Rattle.nsi_disk.specs.ShelfCounts.{Raised}
 use Rattle.command_words.specs.declared.command.Command.{Command}

@@ -1,17 +1,14 @@
-use Rattle.std.proofs.Common.{sym, subst, ap, ◌∙◌}
-use Rattle.std.proofs.lemmas.Result.{err_from_is_err_and}
 use Rattle.nsi_agent.specs.Homes.{home_in}
 use Rattle.nsi_play.specs.Play.{acted}
 use Rattle.quiet_rounds.specs.Bounded.{IsBounded}
 use Rattle.agent_threads.specs.Nets.{seats, seats_by, EachIs}
 use Rattle.agent_threads.specs.Bounds.{AreOfOne, MovesOn}
-use Rattle.agent_threads.proofs.Same.{same_agents, same_agents_twice}
 use Rattle.agent_threads.proofs.Draining.{is_told, act_seen}
 use Rattle.agent_threads.proofs.Owning.{act_owned}
 use Rattle.agent_threads.proofs.Bounding.{act_bounded}
 use Rattle.agent_threads.proofs.Restarting.{act_usable, act_net, act_same, act_moves}
 use Rattle.agent_threads.proofs.Going.{anyhow}
-use Rattle.agent_threads.proofs.Causes.{among_same, among_twice, shelf_failed, shelf_still, shelf_quiet}
+use Rattle.agent_threads.proofs.Causes.{among_same, among_twice}
 use Rattle.agent_threads.proofs.Leaves.{leaves_drained}
 use Rattle.agent_threads.proofs.group.act.Goals as goal
 

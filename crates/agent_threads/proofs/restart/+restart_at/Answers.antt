@@ -1,4 +1,4 @@
-use Rattle.std.proofs.Common.{◌≡◌, ◌<◌, ◌++◌, ◌∷◌, [], ◌∙◌, ℕ, List, Option, option_to_list, rules, inl, inr, refl, sym, ap, subst, arith, length}
+use Rattle.std.proofs.Common.{◌≡◌, ◌++◌, ◌∷◌, [], ◌∙◌, List, Option, option_to_list, rules, sym, ap, subst, arith}
 use Rattle.std.proofs.lemmas.Bool.Decides.{nat_tests}
 use Rattle.std.proofs.lemmas.Result.{on_ok_weaker, IfErr-weaker}
 use Rattle.nsi_script.specs.declared.script.Act.{Act}
@@ -6,7 +6,6 @@ use Rattle.agent_node.specs.Kept.{Kept}
 use Rattle.agent_threads.specs.Nets.{seats, EachIs, AreUsable, AreApart, AreListed}
 use Rattle.agent_threads.specs.Made.{RestartsAt, counted, HasRestartCause, HasRunCause}
 use Rattle.agent_threads.proofs.Restarting.{last_restarted, front_restarted, among_either, among_more, few_either, restart_cause, front_cause, usable_front, usable_last, listed_front, listed_last}
-use Rattle.agent_threads.proofs.Causes.{shelf_still}
 use Rattle.agent_threads.proofs.Wires.{apart_front, apart_last}
 use Rattle.agent_threads.proofs.restart.+restart_at.Goals as goal
 

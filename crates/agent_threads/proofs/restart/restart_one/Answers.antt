@@ -1,6 +1,5 @@
-use Rattle.std.proofs.Common.{◌≡◌, ◌∙◌, ◌&&◌, nat_le, ℕ, true, false, inl, inr, refl, sym, ap₂}
-use Rattle.agent_threads.proofs.Restarting.{untold_more, is_restarted, reopen_cause}
-use Rattle.agent_threads.proofs.Causes.{shelf_still}
+use Rattle.std.proofs.Common.{◌≡◌, ◌∙◌, ◌&&◌, nat_le, ℕ, true, false, sym, ap₂}
+use Rattle.agent_threads.proofs.Restarting.{untold_more, is_restarted}
 use Rattle.agent_threads.proofs.restart.restart_one.Goals as goal
 
 pub returns-then-is_own-clause-done : goal.returns-then-is_own-clause-done

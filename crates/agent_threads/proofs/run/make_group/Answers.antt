@@ -1,4 +1,4 @@
-use Rattle.std.proofs.Common.{◌≡◌, ◌+◌, ◌-◌, ◌++◌, ◌∙◌, sym, ap, subst, arith, length, List, Ok, Err, refl}
+use Rattle.std.proofs.Common.{◌≡◌, ◌+◌, ◌-◌, ◌++◌, ◌∙◌, sym, ap, subst, arith, length, List, Err, refl}
 use Rattle.std.proofs.lemmas.Result.{err_from_is_err_and}
 use Rattle.nsi_primitive.specs.declared.entry.Event.{Event}
 use Rattle.nsi_agent.specs.Homes.{home_in}
@@ -9,7 +9,7 @@ use Rattle.agent_threads.specs.declared.fault.RunFault.{RunFault}
 use Rattle.agent_threads.specs.Nets.{seats_by}
 use Rattle.agent_threads.specs.Coming.{IsSettledBy, IsGroupOver}
 use Rattle.agent_threads.specs.Bounds.{AreOfOne}
-use Rattle.agent_threads.proofs.Same.{still_of, same_agents}
+use Rattle.agent_threads.proofs.Same.{still_of}
 use Rattle.agent_threads.proofs.Owning.{still_seen}
 use Rattle.agent_threads.proofs.Coming.{group_over, group_passes, begins_passes}
 use Rattle.agent_threads.proofs.Causes.{same_error, if_err, shelf_failed, was_long, round_cause, round_writes, among_same, among_twice, shelf_still}

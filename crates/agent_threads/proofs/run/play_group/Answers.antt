@@ -1,8 +1,7 @@
-use Rattle.std.proofs.Common.{refl, List, Err, ◌≡◌, ◌∙◌, sym, ap, subst, arith, length}
+use Rattle.std.proofs.Common.{refl, List, Err, sym, ap, subst, arith, length}
 use Rattle.std.specs.List.{All}
 use Rattle.nsi_primitive.specs.declared.entry.Event.{Event}
 use Rattle.trace_text.specs.Lines.{HasLine}
-use Rattle.agent_threads.specs.declared.fault.RoundFault.{RoundFault}
 use Rattle.agent_threads.specs.declared.fault.RunFault.{RunFault}
 use Rattle.std.proofs.lemmas.Result.{err_from_is_err_and}
 use Rattle.agent_threads.specs.Made.{counted, HasRunCause}
