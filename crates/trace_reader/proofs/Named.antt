@@ -13,11 +13,13 @@ use Rattle.stp_topology.specs.declared.fault.TopologyFault.TheVariants.{Word, Un
 use Rattle.stp_topology.specs.declared.declare.Sort.TheVariants as sorts
 use Rattle.stp_topology.specs.declared.network.AgentKind.{AgentKind}
 use Rattle.stp_topology.specs.declared.network.AgentKind.TheVariants.{Provider, Aggregator, Requester}
+use Rattle.stp_topology.specs.declared.network.PointCapacity.{PointCapacity}
+use Rattle.stp_topology.specs.declared.network.PointCapacity.TheVariants.{Shared, Each}
 use Rattle.stp_topology.specs.declared.topology.Taken.{Taken}
 use Rattle.stp_topology.specs.declared.topology.Taken.TheVariants.{More, Whole}
 use Rattle.stp_topology.specs.Faults.{◌>>=◌, value_or}
 use Rattle.stp_topology.specs.Laws.{IsWellFormed}
-use Rattle.stp_topology.specs.Lines.{known_agent, with_agent, add_provider, add_aggregator, add_requester, with_stp, add_stp, with_sdp, add_sdp, with_child, add_child, word, is_form, line_of}
+use Rattle.stp_topology.specs.Lines.{known_agent, with_agent, add_provider, add_aggregator, add_requester, with_stp, add_stp, add_directed_stp, with_sdp, add_sdp, with_child, add_child, word, is_form, line_of}
 use Rattle.stp_topology.specs.Network.{nothing, stp_of}
 use Rattle.stp_topology.specs.declared.network.Network.{Network}
 use Rattle.stp_topology.specs.Text.{is_skipped, of_line, onward, read_lines, placed, place_behind, topology_of}
@@ -79,13 +81,26 @@ requester_named t name agent h =
     then_named (name_form agent) (λ p. known_agent t sorts.Either p >>= λ i. with_agent t n (Requester i)) (λ p _.
     then_named (known_agent t sorts.Either p) (λ i. with_agent t n (Requester i)) (λ i _. agent_named t n (Requester i) h (formed name n e))))
 
+point_named : (t : Network) (name : List ℕ) (owner : ℕ) (capacity : PointCapacity) → AreNames t.agents → IsNamed (with_stp t name owner capacity)
+unfolding with_stp
+point_named t name owner capacity h = search (either_named, h)
+
 points_named : (t : Network) (provider name capacity : List ℕ) → AreNames t.agents → IsNamed (add_stp t provider name capacity)
-unfolding add_stp with_stp
+unfolding add_stp
 points_named t provider name capacity h =
-    then_named (name_form provider) (λ p. name_form name >>= λ n. number_form least_mbps greatest_mbps capacity >>= λ c. known_agent t sorts.OneProvider p >>= λ i. with_stp t n i c) (λ p _.
-    then_named (name_form name) (λ n. number_form least_mbps greatest_mbps capacity >>= λ c. known_agent t sorts.OneProvider p >>= λ i. with_stp t n i c) (λ n _.
-    then_named (number_form least_mbps greatest_mbps capacity) (λ c. known_agent t sorts.OneProvider p >>= λ i. with_stp t n i c) (λ c _.
-    then_named (known_agent t sorts.OneProvider p) (λ i. with_stp t n i c) (λ i _. search (either_named, h)))))
+    then_named (name_form provider) (λ p. name_form name >>= λ n. number_form least_mbps greatest_mbps capacity >>= λ c. known_agent t sorts.OneProvider p >>= λ i. with_stp t n i (Shared c)) (λ p _.
+    then_named (name_form name) (λ n. number_form least_mbps greatest_mbps capacity >>= λ c. known_agent t sorts.OneProvider p >>= λ i. with_stp t n i (Shared c)) (λ n _.
+    then_named (number_form least_mbps greatest_mbps capacity) (λ c. known_agent t sorts.OneProvider p >>= λ i. with_stp t n i (Shared c)) (λ c _.
+    then_named (known_agent t sorts.OneProvider p) (λ i. with_stp t n i (Shared c)) (λ i _. point_named t n i (Shared c) h))))
+
+directed_named : (t : Network) (provider name inward outward : List ℕ) → AreNames t.agents → IsNamed (add_directed_stp t provider name inward outward)
+unfolding add_directed_stp
+directed_named t provider name inward outward h =
+    then_named (name_form provider) (λ p. name_form name >>= λ n. number_form least_mbps greatest_mbps inward >>= λ x. number_form least_mbps greatest_mbps outward >>= λ y. known_agent t sorts.OneProvider p >>= λ i. with_stp t n i (Each x y)) (λ p _.
+    then_named (name_form name) (λ n. number_form least_mbps greatest_mbps inward >>= λ x. number_form least_mbps greatest_mbps outward >>= λ y. known_agent t sorts.OneProvider p >>= λ i. with_stp t n i (Each x y)) (λ n _.
+    then_named (number_form least_mbps greatest_mbps inward) (λ x. number_form least_mbps greatest_mbps outward >>= λ y. known_agent t sorts.OneProvider p >>= λ i. with_stp t n i (Each x y)) (λ x _.
+    then_named (number_form least_mbps greatest_mbps outward) (λ y. known_agent t sorts.OneProvider p >>= λ i. with_stp t n i (Each x y)) (λ y _.
+    then_named (known_agent t sorts.OneProvider p) (λ i. with_stp t n i (Each x y)) (λ i _. point_named t n i (Each x y) h)))))
 
 pairs_named : (t : Network) (first second : List ℕ) → AreNames t.agents → IsNamed (add_sdp t first second)
 unfolding add_sdp with_sdp
@@ -110,8 +125,9 @@ line_named t words h =
     (either_named (is_form words 3 (codes "agent") && bytes_eq (word words 2) (codes "aggregator")) _ _ (aggregator_named t (word words 1) h)
     (either_named (is_form words 4 (codes "agent") && bytes_eq (word words 2) (codes "requester")) _ _ (requester_named t (word words 1) (word words 3) h)
     (either_named (is_form words 4 (codes "stp")) _ _ (points_named t (word words 1) (word words 2) (word words 3) h)
+    (either_named (is_form words 5 (codes "stp")) _ _ (directed_named t (word words 1) (word words 2) (word words 3) (word words 4) h)
     (either_named (is_form words 3 (codes "sdp")) _ _ (pairs_named t (word words 1) (word words 2) h)
-    (either_named (is_form words 3 (codes "child")) _ (Err Word) (children_named t (word words 1) (word words 2) h) tt)))))
+    (either_named (is_form words 3 (codes "child")) _ (Err Word) (children_named t (word words 1) (word words 2) h) tt))))))
 
 ---- Texts
 
