@@ -1,0 +1,2 @@
+pub mod Calm
+mod Rows

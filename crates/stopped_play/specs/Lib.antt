@@ -1,0 +1,4 @@
+pub mod Tapes
+pub mod Rounds
+pub mod Play
+pub mod Laws
