@@ -6,3 +6,4 @@ pub mod Asks
 pub mod Reading
 pub mod Leaving
 mod Rows
+pub mod Coming
