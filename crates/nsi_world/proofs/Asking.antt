@@ -67,7 +67,7 @@ unfolding takes
 take_no_ask h from (Parcel.Message m) s = if_no_ask (is_new h s.state m) h (Input.Got m) s refl
 take_no_ask h from (Parcel.Ack i) s = if_no_ask (waits i s.state) h (Input.Acked i) s refl
 
-takes_no_ask : (h : Home) (xs : List (ℕ × Parcel)) (s : Seat) → asks_of (takes_all h xs s).events ≡ asks_of s.events
+pub takes_no_ask : (h : Home) (xs : List (ℕ × Parcel)) (s : Seat) → asks_of (takes_all h xs s).events ≡ asks_of s.events
 unfolding takes_all
 takes_no_ask h [] s = refl
 takes_no_ask h (x ∷ xs) s = takes_no_ask h xs (takes h x.0 x.1 s) ∙ take_no_ask h x.0 x.1 s
@@ -76,7 +76,7 @@ work_no_ask : (o : Option (ℕ × Machine)) (h : Home) (rest : Seat → Seat) (s
 work_no_ask None h rest s more = refl
 work_no_ask (Some x) h rest s more = more (enters_now h (Input.Work x.0 x.1) s) ∙ entered_no_ask h (now_at s (Input.Work x.0 x.1)) s refl
 
-works_no_ask : (n : ℕ) (h : Home) (s : Seat) → asks_of (works_off n h s).events ≡ asks_of s.events
+pub works_no_ask : (n : ℕ) (h : Home) (s : Seat) → asks_of (works_off n h s).events ≡ asks_of s.events
 unfolding works_off
 works_no_ask zero h s = refl
 works_no_ask (suc n) h s = work_no_ask (work_of h.role s.state) h (works_off n h) s (λ u. works_no_ask n h u)
@@ -86,7 +86,7 @@ unfolding syncs_if
 syncs_no_ask true h s = refl
 syncs_no_ask false h s = asks_more s.events (sync_event s.number (s.synced + length s.fresh)) refl
 
-turned_no_ask : (homes : Homes) (s : Seat) → asks_of (turned_in homes s).events ≡ asks_of s.events
+pub turned_no_ask : (homes : Homes) (s : Seat) → asks_of (turned_in homes s).events ≡ asks_of s.events
 unfolding turn_with
 turned_no_ask homes s =
     let h : Home = homes s.number in
@@ -94,7 +94,7 @@ turned_no_ask homes s =
     let c : Seat = worked h b in
     syncs_no_ask (length c.fresh == 0) h c ∙ (works_no_ask (works_left h.role b.state) h b ∙ takes_no_ask h (lying s.doors) (cleared s))
 
-ticked_no_ask : (homes : Homes) (second : ℕ) (s : Seat) → asks_of (ticked_in second homes s).events ≡ asks_of s.events
+pub ticked_no_ask : (homes : Homes) (second : ℕ) (s : Seat) → asks_of (ticked_in second homes s).events ≡ asks_of s.events
 unfolding ticked
 ticked_no_ask homes second s = entered_no_ask (homes s.number) (tick_at second) s refl
 
@@ -103,7 +103,7 @@ ticked_no_ask homes second s = entered_no_ask (homes s.number) (tick_at second) 
 first_quiet : (s : Seat) (f : Seat → Seat) → asks_of (f s).events ≡ asks_of s.events → IsTold s → asks_of (f s).events ≡ []
 first_quiet s f same told = same ∙ (ap asks_of told ∙ asks_none)
 
-net_no_ask : (f : Seat → Seat) → ((s : Seat) → asks_of (f s).events ≡ asks_of s.events) → (net : Net) → All IsTold net → asks_of (events_of (map f net)) ≡ []
+pub net_no_ask : (f : Seat → Seat) → ((s : Seat) → asks_of (f s).events ≡ asks_of s.events) → (net : Net) → All IsTold net → asks_of (events_of (map f net)) ≡ []
 net_no_ask f same [] told = asks_none
 net_no_ask f same (s ∷ ss) told =
     asks_append (f s).events (events_of (map f ss))
@@ -176,7 +176,7 @@ forced_no_ask homes a n count s = elim (cases_eq s.number a) [
   | inr m ↦ ap (λ (u : Seat). asks_of u.events) (changed_there a (forced (homes a) n) s m)
 ]
 
-restarts_no_ask : (times n count : ℕ) → asks_of (restart_events times n count) ≡ []
+pub restarts_no_ask : (times n count : ℕ) → asks_of (restart_events times n count) ≡ []
 restarts_no_ask zero n count = asks_none
 restarts_no_ask (suc times) n count = asks_more_first (restart_event n count) (restart_events times n count) refl ∙ restarts_no_ask times n count
 
@@ -186,7 +186,7 @@ reads_no_ask h tries es s =
     asks_append s.events (restart_event s.number (length es) ∷ restart_events tries s.number (length es))
     ∙ (ap (λ xs. asks_of s.events ++ xs) (asks_more_first (restart_event s.number (length es)) (restart_events tries s.number (length es)) refl ∙ restarts_no_ask tries s.number (length es)) ∙ append-nil (asks_of s.events))
 
-past_no_ask : (o : Option (List Entry)) (h : Home) (tries : ℕ) (s : Seat) → asks_of (reads_past o h tries s).events ≡ asks_of s.events
+pub past_no_ask : (o : Option (List Entry)) (h : Home) (tries : ℕ) (s : Seat) → asks_of (reads_past o h tries s).events ≡ asks_of s.events
 past_no_ask None h tries s = refl
 past_no_ask (Some es) h tries s = reads_no_ask h tries es s
 
@@ -204,7 +204,7 @@ pub numbered_none : (count : ℕ) → numbered count [] ≡ []
 unfolding numbered
 numbered_none count = refl
 
-act_asks : (homes : Homes) (act : Act) (count : ℕ) (net : Net) → IsHere (numbers net) act → AreDistinct (numbers net) → All IsTold net → asks_of (events_of (acted act count homes net)) ≡ numbered count (wish_of act)
+pub act_asks : (homes : Homes) (act : Act) (count : ℕ) (net : Net) → IsHere (numbers net) act → AreDistinct (numbers net) → All IsTold net → asks_of (events_of (acted act count homes net)) ≡ numbered count (wish_of act)
 act_asks homes (Act.Ask a ask) count net c d told = ask_once homes a count ask net c d told ∙ sym (numbered_one count (a, ask))
 act_asks homes (Act.Force a n) count net c d told = net_no_ask (does (Act.Force a n) count homes) (forced_no_ask homes a n count) net told ∙ sym (numbered_none count)
 act_asks homes (Act.Restart a) count net c d told = net_no_ask (does (Act.Restart a) count homes) (restarted_no_ask homes a count) net told ∙ sym (numbered_none count)
@@ -215,7 +215,7 @@ number_entered : (h : Home) (e : Entry) (s : Seat) → (enters h e s).number ≡
 unfolding enters
 number_entered h e s = refl
 
-number_changed : (a : ℕ) (f : Seat → Seat) (s : Seat) → (f s).number ≡ s.number → (changes a f s).number ≡ s.number
+pub number_changed : (a : ℕ) (f : Seat → Seat) (s : Seat) → (f s).number ≡ s.number → (changes a f s).number ≡ s.number
 number_changed a f s same = by (s.number == a)
   where
     by : (b : Bool) → (cond b (f s) s).number ≡ s.number
@@ -226,20 +226,20 @@ number_reads : (h : Home) (tries : ℕ) (es : List Entry) (s : Seat) → (reads 
 unfolding reads
 number_reads h tries es s = refl
 
-number_past : (o : Option (List Entry)) (h : Home) (tries : ℕ) (s : Seat) → (reads_past o h tries s).number ≡ s.number
+pub number_past : (o : Option (List Entry)) (h : Home) (tries : ℕ) (s : Seat) → (reads_past o h tries s).number ≡ s.number
 number_past None h tries s = refl
 number_past (Some es) h tries s = number_reads h tries es s
 
-number_does : (act : Act) (count : ℕ) (homes : Homes) (s : Seat) → (does act count homes s).number ≡ s.number
+pub number_does : (act : Act) (count : ℕ) (homes : Homes) (s : Seat) → (does act count homes s).number ≡ s.number
 number_does (Act.Ask a ask) count homes s = number_changed a (asked (homes a) count ask) s (number_entered (homes a) (now_at s (Input.Ask count ask)) s)
 number_does (Act.Force a n) count homes s = number_changed a (forced (homes a) n) s (number_entered (homes a) (now_at s (Input.Force n)) s)
 number_does (Act.Restart a) count homes s = number_changed a (restarted (homes a)) s (number_past s.past (homes a) 0 s)
 
-number_ticked : (second : ℕ) (homes : Homes) (s : Seat) → (ticked_in second homes s).number ≡ s.number
+pub number_ticked : (second : ℕ) (homes : Homes) (s : Seat) → (ticked_in second homes s).number ≡ s.number
 unfolding ticked
 number_ticked second homes s = number_entered (homes s.number) (tick_at second) s
 
-numbers_map : (f : Seat → Seat) → ((s : Seat) → (f s).number ≡ s.number) → (net : Net) → numbers (map f net) ≡ numbers net
+pub numbers_map : (f : Seat → Seat) → ((s : Seat) → (f s).number ≡ s.number) → (net : Net) → numbers (map f net) ≡ numbers net
 numbers_map f same [] = refl
 numbers_map f same (s ∷ ss) = ap (λ n. n ∷ numbers (map f ss)) (same s) ∙ ap (λ ns. s.number ∷ ns) (numbers_map f same ss)
 
@@ -248,16 +248,16 @@ unfolding numbered
 numbered_append n [] ys = ap (λ k. numbered k ys) (omega arith)
 numbered_append n (x ∷ xs) ys = ap (λ zs. record { number = n; agent = x.0; ask = x.1 } ∷ zs) (numbered_append (n + 1) xs ys ∙ ap (λ k. numbered (n + 1) xs ++ numbered k ys) (omega arith))
 
-wish_count : (act : Act) → asks_of_act act ≡ length (wish_of act)
+pub wish_count : (act : Act) → asks_of_act act ≡ length (wish_of act)
 wish_count (Act.Ask a ask) = refl
 wish_count (Act.Force a n) = refl
 wish_count (Act.Restart a) = refl
 
-among_none : wishes_among [] ≡ []
+pub among_none : wishes_among [] ≡ []
 unfolding wishes_among
 among_none = refl
 
-among_cons : (a : Act) (rest : List Act) → wishes_among (a ∷ rest) ≡ wish_of a ++ wishes_among rest
+pub among_cons : (a : Act) (rest : List Act) → wishes_among (a ∷ rest) ≡ wish_of a ++ wishes_among rest
 unfolding wishes_among
 among_cons a rest = refl
 

@@ -125,7 +125,7 @@ numbers_met : (all net : Net) → numbers (map (meets_all all) net) ≡ numbers 
 numbers_met all [] = refl
 numbers_met all (s ∷ ss) = ap (λ n. n ∷ numbers (map (meets_all all) ss)) (meets_number s all) ∙ ap (λ ns. s.number ∷ ns) (numbers_met all ss)
 
-events_met : (all net : Net) → events_of (map (meets_all all) net) ≡ events_of net
+pub events_met : (all net : Net) → events_of (map (meets_all all) net) ≡ events_of net
 events_met all [] = refl
 events_met all (s ∷ ss) = ap (λ es. es ++ events_of (map (meets_all all) ss)) (meets_events s all) ∙ ap (λ es. s.events ++ es) (events_met all ss)
 

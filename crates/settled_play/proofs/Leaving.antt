@@ -92,7 +92,7 @@ whether (Some c) b = elim (cases_eq c b) [ inl e ↦ inl (ap (λ z. Some z) e) |
 ---- The world at the end
 
 -- the world that these events make, in which all is synced
-record IsWorld (t : Network) (routes : Routes) (past : List Event) (w : World) : Type 0 where
+pub record IsWorld (t : Network) (routes : Routes) (past : List Event) (w : World) : Type 0 where
   pub journal : (a : ℕ) → w.journal a ≡ journal_at a past
   pub synced : (a : ℕ) → a < length t.agents → w.synced a ≡ length (w.journal a)
 
@@ -174,7 +174,7 @@ module _ (t : Network) (routes : Routes) (given : Given t routes) (law : Nothing
         | inr gone ↦ gone_there k d within gone
       ]
 
-settled_in : (t : Network) (routes : Routes) → Given t routes → NothingIsSaidTwice → (plans : Plans) (past : List Event) (net : Net) → Rests t routes plans past net → all_quiet (home_in t routes) net ≡ true → IsWorld t routes past (world_after empty past)
+pub settled_in : (t : Network) (routes : Routes) → Given t routes → NothingIsSaidTwice → (plans : Plans) (past : List Event) (net : Net) → Rests t routes plans past net → all_quiet (home_in t routes) net ≡ true → IsWorld t routes past (world_after empty past)
     → LeavesOnlyLost t (home_in t routes) plans past
 settled_in t routes given law plans past net r quiet is =
     let homes : Homes = home_in t routes in
@@ -194,7 +194,7 @@ settled_in t routes given law plans past net r quiet is =
           subst (AllBut (losses (ParcelKind.Message kind) (plans a b) + losses ParcelKind.Ack (plans b a)) (IsOver homes w a b kind)) (sym (said_is t routes past w a is la)) (over_but t routes given law plans past w is a b kind lb (left a b la lb cut));
     }
 
-nothing_yet : world_after empty [] ≡ empty
+pub nothing_yet : world_after empty [] ≡ empty
 unfolding world_after
 nothing_yet = refl
 

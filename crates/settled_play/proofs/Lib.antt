@@ -1,18 +1,18 @@
-mod Finding
+pub mod Finding
 mod Waiting
-mod Links
+pub mod Links
 mod Putting
 mod Places
-mod Steps
-mod Moves
+pub mod Steps
+pub mod Moves
 mod Pairs
 mod Afresh
-mod Cuts
-mod Meetings
-mod Journals
+pub mod Cuts
+pub mod Meetings
+pub mod Journals
 mod Quiet
-mod Rounds
-mod Restarting
-mod RestartActs
-mod Plays
-mod Leaving
+pub mod Rounds
+pub mod Restarting
+pub mod RestartActs
+pub mod Plays
+pub mod Leaving

@@ -42,29 +42,29 @@ use Rattle.settled_play.proofs.Rounds.{SitsIn, PairIn, PairIf, AllWithin, HasMet
 abbrev pub Comes : Network → Routes → Plans → List Event → Played → Type 0
 Comes t routes plans past p = Rests t routes plans (past ++ p.events) p.net
 
-comes_over : {plans : Plans} (t : Network) (routes : Routes) (past : List Event) (x : Net) (b : Bool) → Rests t routes plans past x → Comes t routes plans past (record { events = []; net = x; is_over = b })
+pub comes_over : {plans : Plans} (t : Network) (routes : Routes) (past : List Event) (x : Net) (b : Bool) → Rests t routes plans past x → Comes t routes plans past (record { events = []; net = x; is_over = b })
 comes_over {plans} t routes past x b r = subst (λ es. Rests t routes plans es x) (sym (append-nil past)) r
 
-comes_more : {plans : Plans} (t : Network) (routes : Routes) (past es : List Event) (p : Played) → Comes t routes plans (past ++ es) p → Comes t routes plans past (behind es p)
+pub comes_more : {plans : Plans} (t : Network) (routes : Routes) (past es : List Event) (p : Played) → Comes t routes plans (past ++ es) p → Comes t routes plans past (behind es p)
 comes_more {plans} t routes past es p r = subst (λ fs. Rests t routes plans fs p.net) (append_assoc past es p.events) r
 
 -- what has happened so far could happen
-abbrev IsFree : Network → Routes → List Event → Type 0
+abbrev pub IsFree : Network → Routes → List Event → Type 0
 IsFree t routes es = AreFree (home_in t routes) empty es
 
-free_first : (t : Network) (routes : Routes) (past es fs : List Event) → IsFree t routes (past ++ (es ++ fs)) → IsFree t routes (past ++ es)
+pub free_first : (t : Network) (routes : Routes) (past es fs : List Event) → IsFree t routes (past ++ (es ++ fs)) → IsFree t routes (past ++ es)
 free_first t routes past es fs h = free_front (home_in t routes) empty (past ++ es) fs (subst (IsFree t routes) (sym (append_assoc past es fs)) h)
 
 -- in the world after these events they stand as they should
-abbrev StandAfter : Network → Routes → ℕ → List Event → Net → Type 0
+abbrev pub StandAfter : Network → Routes → ℕ → List Event → Net → Type 0
 StandAfter t routes clock past x = AllStand (home_in t routes) clock (world_after empty past) x
 
-stand_after : (t : Network) (routes : Routes) (clock : ℕ) (past es : List Event) (x : Net) → AllStand (home_in t routes) clock (world_after (world_after empty past) es) x → StandAfter t routes clock (past ++ es) x
+pub stand_after : (t : Network) (routes : Routes) (clock : ℕ) (past es : List Event) (x : Net) → AllStand (home_in t routes) clock (world_after (world_after empty past) es) x → StandAfter t routes clock (past ++ es) x
 stand_after t routes clock past es x h = subst (λ (w : World). AllStand (home_in t routes) clock w x) (sym (after_append empty past es)) h
 
 ---- Acts
 
-act_comes : {plans : Plans} (t : Network) (routes : Routes) → Given t routes → (clock : ℕ) (past : List Event) (act : Act) (count : ℕ) (x : Net) → StandAfter t routes clock past x → IsFree t routes (past ++ events_of (acted act count (home_in t routes) x))
+pub act_comes : {plans : Plans} (t : Network) (routes : Routes) → Given t routes → (clock : ℕ) (past : List Event) (act : Act) (count : ℕ) (x : Net) → StandAfter t routes clock past x → IsFree t routes (past ++ events_of (acted act count (home_in t routes) x))
     → Rests t routes plans past x → Rests t routes plans (past ++ events_of (acted act count (home_in t routes) x)) (emptied (acted act count (home_in t routes) x))
 act_comes {plans} t routes given clock past (Act.Ask a ask) count x stand free r =
     act_rests t routes past (does (Act.Ask a ask) count (home_in t routes)) x (λ js s h. move_does t routes s.number (Act.Ask a ask) tt count js s h) (plain_does (Act.Ask a ask) tt count (home_in t routes)) r
@@ -113,7 +113,7 @@ pub record Ends (t : Network) (routes : Routes) (plans : Plans) (past : List Eve
   pub rests : Rests t routes plans (past ++ p.events) p.net
   pub quiet : all_quiet (home_in t routes) p.net ≡ true
 
-ends_more : {plans : Plans} (t : Network) (routes : Routes) (past es : List Event) (p : Played) → Ends t routes plans (past ++ es) p → Ends t routes plans past (behind es p)
+pub ends_more : {plans : Plans} (t : Network) (routes : Routes) (past es : List Event) (p : Played) → Ends t routes plans (past ++ es) p → Ends t routes plans past (behind es p)
 ends_more {plans} t routes past es p h = record { rests = comes_more t routes past es p h.rests; quiet = h.quiet }
 
 never : {X : Type 0} (b : Bool) → b ≡ false → b ≡ true → X

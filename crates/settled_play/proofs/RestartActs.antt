@@ -90,7 +90,7 @@ one_changed c f (s ∷ ss) d told h = elim (cases_eq s.number c) [
 ---- What it reads
 
 -- where a journal's synced part is told, so many entries of it are those
-read_front : (t : Network) (routes : Routes) (clock : ℕ) (past : List Event) (net : Net) (s : Seat) (es : List Entry) → AllStand (home_in t routes) clock (world_after empty past) net → Contains net s → s.past ≡ Some es
+pub read_front : (t : Network) (routes : Routes) (clock : ℕ) (past : List Event) (net : Net) (s : Seat) (es : List Entry) → AllStand (home_in t routes) clock (world_after empty past) net → Contains net s → s.past ≡ Some es
     → take (length es) (journal_at s.number past) ≡ es
 read_front t routes clock past net s es stand c e =
     let w : World = world_after empty past in

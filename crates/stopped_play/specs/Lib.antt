@@ -1,0 +1,5 @@
+pub mod Tapes
+pub mod Rounds
+pub mod Play
+pub mod Coming
+pub mod Laws
