@@ -189,8 +189,8 @@ kept_stand t p start acts owns h = All-weaker (IsKept t p start acts) (λ (o : O
 pub shut_counts : (x : Held) → IsBook x → 0 < x.book.faults → 0 < counted x.meter
 shut_counts x h shut = by h.fault
   where
-    by : (x.book.faults ≡ 0) ⊎ ((x.book.faults ≡ 1) × (0 < counted x.meter)) → 0 < counted x.meter
-    by (inl e) = absurd (omega (arith, e, shut))
+    by : ((x.book.faults ≡ 0) × (counted x.meter ≡ 0)) ⊎ ((x.book.faults ≡ 1) × (0 < counted x.meter)) → 0 < counted x.meter
+    by (inl e) = absurd (omega (arith, e.0, shut))
     by (inr k) = k.1
 
 ---- Faults

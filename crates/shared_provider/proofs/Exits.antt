@@ -60,12 +60,12 @@ module _ (ready : Type 0) (waits : Bool) (kept : Option Kept) (disk : Option His
     unwritten_sound (DiskFault n) failed usable same_disk same left = shut_sound ready waits kept disk reading setting x s opened ready' waits' kept' meter disk' (omega (arith, failed.1)) left
     unwritten_sound NoMemory failed usable same_disk same left =
         let may = usable refl in
-        same_sound ready waits kept disk reading setting x s opened ready' waits' kept' meter disk' may.1 may.0 (keeps_same disk disk' kept kept' (journal_of x.book.events).entries [] (same_disk refl) (same refl) (s.runs opened.running).keeps)
+        same_sound ready waits kept disk reading setting x s opened ready' waits' kept' meter disk' may.1 may.0 (omega (arith, failed.faults, failed.stops, (s.runs opened.running).calm)) (keeps_same disk disk' kept kept' (journal_of x.book.events).entries [] (same_disk refl) (same refl) (s.runs opened.running).keeps)
     unwritten_sound (Closed n) failed usable same_disk same left = absurd failed
     unwritten_sound Full failed usable same_disk same left = absurd failed
 
   pub unwritten_fails : (x : Held) (asked : Option Entry) (opened : IsOpen x.book) (meter : Meter) (fault : BookFault) → HasFailed x.meter meter fault → Fails asked x (record { book = record x.book { faults = faults_by fault x.book.faults }; meter = meter }) fault
   unwritten_fails x asked opened meter (DiskFault n) failed = record { was_open = opened; number = failed.0; counts = failed.1; book = inl refl }
-  unwritten_fails x asked opened meter NoMemory failed = record { was_open = opened; same = refl }
+  unwritten_fails x asked opened meter NoMemory failed = record { was_open = opened; same = refl; counts = failed }
   unwritten_fails x asked opened meter (Closed n) failed = absurd failed
   unwritten_fails x asked opened meter Full failed = absurd failed

@@ -13,7 +13,7 @@ use Rattle.provider_agent.specs.Runs.{after_all}
 use Rattle.provider_agent.specs.Events.{journal_after}
 use Rattle.provider_agent.specs.Replay.{replayed}
 use Rattle.shared_provider.specs.History.{journal_of, IsHistory}
-use Rattle.shared_provider.specs.Book.{fresh}
+use Rattle.shared_provider.specs.Book.{fresh, counted}
 use Rattle.shared_provider.specs.Sound.{Keeps, IsSound}
 
 all_none : {A : Type 0} (P : A → Type 0) → All P []
@@ -48,9 +48,9 @@ kept_none None synced waiting = tt
 kept_none (Some k) synced waiting = λ i. record { synced = synced i; waiting = waiting i }
 
 pub fresh_sound : (ready : Type 0) (waits : Bool) (kept : Option Kept) (disk : Option History) (reading : List ℕ → Result (List Entry) ℕ) (own : Setting) (network : Network) (agent : ℕ) (meter : Meter)
-    → own ≡ setting_of network agent → agent < length network.agents → IsProvider network agent → ready → waits ≡ false → is_some kept ≡ is_some disk → IfSome kept (λ k. k.synced ≡ []) → IfSome kept (λ k. k.waiting ≡ [])
+    → own ≡ setting_of network agent → agent < length network.agents → IsProvider network agent → ready → waits ≡ false → is_some kept ≡ is_some disk → IfSome kept (λ k. k.synced ≡ []) → IfSome kept (λ k. k.waiting ≡ []) → counted meter ≡ 0
     → IsSound ready waits kept disk reading own (record { book = fresh network agent; meter = meter })
-fresh_sound ready waits kept disk reading own network agent meter same within provider is none told synced waiting = record {
+fresh_sound ready waits kept disk reading own network agent meter same within provider is none told synced waiting calm = record {
   setting = same;
   within = within;
   provider = provider;
@@ -58,6 +58,6 @@ fresh_sound ready waits kept disk reading own network agent meter same within pr
   state = state_none _ _;
   taken = taken_none;
   most = omega arith;
-  runs = λ _. record { usable = is; none = none; keeps = record { told = told; same = kept_none kept synced waiting }; synced = all_synced_none };
+  runs = λ _. record { usable = is; none = none; keeps = record { told = told; same = kept_none kept synced waiting }; synced = all_synced_none; calm = calm };
   shut = λ some. absurd (omega (arith, some));
 }

@@ -107,7 +107,7 @@ module _ (ready : Type 0) (waits : Bool) (kept : Option Kept) (disk : Option His
     taken = s.taken;
     capped = subst (λ (y : Setting). IsCapped y x.book.state) s.setting good.capped;
     synced = λ none. (s.runs none).synced;
-    fault = ⊎_elim (λ none. inl none) (λ some. let shut = s.shut some in inr (shut.one, shut.counts)) (none_or_some x.book.faults);
+    fault = ⊎_elim (λ none. inl (none, (s.runs none).calm)) (λ some. let shut = s.shut some in inr (shut.one, shut.counts)) (none_or_some x.book.faults);
   }
 
   pub left_now : (ready → MayLeaveSynced reading kept disk) → Recovers reading x.book disk
@@ -119,8 +119,8 @@ module _ (ready : Type 0) (waits : Bool) (kept : Option Kept) (disk : Option His
 
   module _ (opened : IsOpen x.book) (ready' : Type 0) (waits' : Bool) (kept' : Option Kept) (meter : Meter) (disk' : Option History) where
     -- nothing was added, and it may be used
-    pub same_sound : ready' → waits' ≡ false → Keeps disk' kept' (journal_of x.book.events).entries [] → IsSound ready' waits' kept' disk' reading setting (record { book = x.book; meter = meter })
-    same_sound is none keeps = record {
+    pub same_sound : ready' → waits' ≡ false → counted meter ≡ 0 → Keeps disk' kept' (journal_of x.book.events).entries [] → IsSound ready' waits' kept' disk' reading setting (record { book = x.book; meter = meter })
+    same_sound is none calm keeps = record {
       setting = s.setting;
       within = s.within;
       provider = s.provider;
@@ -128,7 +128,7 @@ module _ (ready : Type 0) (waits : Bool) (kept : Option Kept) (disk : Option His
       state = s.state;
       taken = s.taken;
       most = s.most;
-      runs = λ n. record { usable = is; none = none; keeps = keeps; synced = (s.runs n).synced };
+      runs = λ n. record { usable = is; none = none; keeps = keeps; synced = (s.runs n).synced; calm = calm };
       shut = λ some. absurd (omega (arith, some, opened.running));
     }
 
@@ -179,9 +179,9 @@ module _ (ready : Type 0) (waits : Bool) (kept : Option Kept) (disk : Option His
         }
 
     -- an entry and its sync were added
-    pub entered_sound : (e : Entry) → MayBeAsked x.book.state e → ready' → waits' ≡ false → Keeps disk' kept' ((journal_of x.book.events).entries ++ e ∷ []) []
+    pub entered_sound : (e : Entry) → MayBeAsked x.book.state e → ready' → waits' ≡ false → counted meter ≡ 0 → Keeps disk' kept' ((journal_of x.book.events).entries ++ e ∷ []) []
         → IsSound ready' waits' kept' disk' reading setting (record { book = entered e x.book; meter = meter })
-    entered_sound e may is none keeps =
+    entered_sound e may is none calm keeps =
         let own = setting_of x.book.network x.book.agent in
         let stp_of = own_stp x.book.network x.book.agent in
         let count : ℕ = x.book.state.taken + 1 in
@@ -204,6 +204,7 @@ module _ (ready : Type 0) (waits : Bool) (kept : Option Kept) (disk : Option His
             none = none;
             keeps = subst (λ (es : List Entry). Keeps disk' kept' es []) (sym entries_are) keeps;
             synced = synced_are ∙ (counts ∙ makes.taken);
+            calm = calm;
           };
           shut = λ some. absurd (omega (arith, some, opened.running));
         })

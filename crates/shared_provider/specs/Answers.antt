@@ -2,6 +2,7 @@
 use Rattle.std.specs.Prelude.{◌≡◌, ◌⊎◌, ◌<◌, ◌+◌, ℕ, [], length, Option, Some, None, IfSome}
 use Rattle.nsi_primitive.specs.declared.entry.Entry.{Entry}
 use Rattle.agent_state.specs.Entries.{most_entries}
+use Rattle.journal_entry.specs.Journal.{HasSameCounts}
 use Rattle.shared_provider.specs.declared.reply.Reply.{Reply}
 use Rattle.shared_provider.specs.declared.reply.BookFault.{BookFault}
 use Rattle.shared_provider.specs.declared.reply.BookFault.TheVariants.{DiskFault, Closed, Full, NoMemory}
@@ -47,10 +48,11 @@ pub record WasFull (old new : Held) : Type 0 where
   pub full : old.book.state.taken ≡ most_entries
   pub same : new ≡ old
 
--- its disk may have been written to
+-- memory was wanting: its disk may have been written to, but no call of it failed
 pub record HasLacked (old new : Held) : Type 0 where
   pub was_open : IsOpen old.book
   pub same : new.book ≡ old.book
+  pub counts : HasSameCounts old.meter new.meter
 
 abbrev pub Fails : Option Entry → Held → Held → BookFault → Type 0
 Fails asked old new (DiskFault n) = HasBroken asked old new n

@@ -75,7 +75,7 @@ abbrev pub Recovers : (List ℕ → Result (List Entry) ℕ) → Book → Option
 Recovers reading b disk = IfSome disk (λ h. (c : List ℕ) → MayLeave h c → IsRead reading b c)
 
 -- Its history is one of its provider, which has what the history's entries make, and no load passes a capacity there. All is synced while it is open.
--- It is closed only where its disk has counted a fault or a stop.
+-- It is closed exactly where its disk has counted a fault or a stop.
 pub record IsBook (x : Held) : Type 0 where
   pub within : x.book.agent < length x.book.network.agents
   pub provider : IsProvider x.book.network x.book.agent
@@ -84,4 +84,4 @@ pub record IsBook (x : Held) : Type 0 where
   pub taken : x.book.state.taken ≡ length (journal_of x.book.events).entries
   pub capped : IsCapped (setting_of x.book.network x.book.agent) x.book.state
   pub synced : x.book.faults ≡ 0 → (journal_of x.book.events).synced ≡ length (journal_of x.book.events).entries
-  pub fault : (x.book.faults ≡ 0) ⊎ ((x.book.faults ≡ 1) × (0 < counted x.meter))
+  pub fault : ((x.book.faults ≡ 0) × (counted x.meter ≡ 0)) ⊎ ((x.book.faults ≡ 1) × (0 < counted x.meter))

@@ -3,7 +3,7 @@ use Rattle.std.specs.Prelude.{◌≡◌, ◌⊎◌, ◌<◌, ◌≤◌, ℕ, Boo
 use Rattle.nsi_primitive.specs.declared.entry.Entry.{Entry}
 use Rattle.stp_topology.specs.Sound.{IsProvider}
 use Rattle.nsi_disk.specs.Disk.{History, Meter, MayLeave}
-use Rattle.journal_entry.specs.Journal.{Kept}
+use Rattle.journal_entry.specs.Journal.{Kept, HasSameCounts}
 use Rattle.agent_state.specs.Entries.{most_entries}
 use Rattle.provider_agent.specs.Setting.{Setting, setting_of, own_stp}
 use Rattle.provider_agent.specs.Replay.{replayed}
@@ -36,10 +36,10 @@ LeavesThese reading disk synced = IfSome disk (λ h. (c : List ℕ) → MayLeave
 abbrev pub LeavesOneOf : (List ℕ → Result (List Entry) ℕ) → Option History → (synced waiting : List Entry) → Type 0
 LeavesOneOf reading disk synced waiting = IfSome disk (λ h. (c : List ℕ) → MayLeave h c → (reading c ≡ Ok synced) ⊎ (reading c ≡ Ok (synced ++ waiting)))
 
--- a fault of the disk has been counted
+-- a fault of the disk has been counted, and nothing where memory was wanting
 abbrev pub HasFailed : Meter → Meter → BookFault → Type 0
 HasFailed old new (DiskFault n) = (n ≡ 1) × (counted old < counted new)
-HasFailed old new NoMemory = Unit {0}
+HasFailed old new NoMemory = HasSameCounts old new
 HasFailed old new (Closed n) = ⊥
 HasFailed old new Full = ⊥
 
@@ -50,12 +50,13 @@ faults_by _ faults = faults
 
 ---- Of a book
 
--- it may be used, keeps the entries of the history, and all is synced
+-- it may be used, keeps the entries of the history, all is synced, and its disk has counted nothing
 pub record IsRunning (ready : Type 0) (waits : Bool) (kept : Option Kept) (disk : Option History) (x : Held) : Type 0 where
   pub usable : ready
   pub none : waits ≡ false
   pub keeps : Keeps disk kept (journal_of x.book.events).entries []
   pub synced : (journal_of x.book.events).synced ≡ length (journal_of x.book.events).entries
+  pub calm : counted x.meter ≡ 0
 
 pub record IsShut (reading : List ℕ → Result (List Entry) ℕ) (disk : Option History) (x : Held) : Type 0 where
   pub one : x.book.faults ≡ 1

@@ -4,7 +4,7 @@ ghost use Rattle.std.specs.Prelude.{◌≡◌, ◌<◌, ◌≤◌, [], length, A
 ghost use Rattle.nsi_primitive.specs.Printable.{IsPrintable, IsRequest};
 ghost use Rattle.stp_topology.specs.Sound.{IsProvider};
 ghost use Rattle.shared_provider.specs.Asked.{took_entry, work_entry, tick_entry};
-ghost use Rattle.shared_provider.specs.Book.{fresh, IsOpen, IsBook, Recovers};
+ghost use Rattle.shared_provider.specs.Book.{fresh, counted, IsOpen, IsBook, Recovers};
 ghost use Rattle.shared_provider.specs.Answers.{Answers, Fails};
 
 use crate::register::{Register, do_work, take_request, take_tick};
@@ -38,13 +38,15 @@ impl<J: Journal> Model for Book<J> {
 }
 
 impl<J: Journal> Book<J> {
-    /// The book of a provider of the topology, over a journal without entries. Where memory is wanting, the journal is given back.
+    /// The book of a provider of the topology, over a journal without entries, whose disk has counted no fault and no stop.
+    /// Where memory is wanting, the journal is given back.
     pub fn over(alloc: Global, topology: Topology, agent: AgentNo, journal: J) -> Result<Book<J>, J>
         requires within { agent < length topology.agents }
         requires provider { IsProvider topology agent }
         requires ready { J.is_ready journal }
         requires none { J.waits journal ≡ false }
         requires empty { IfSome (J.kept journal) (λ k. k.synced ≡ []) }
+        requires counts { counted (J.meter journal) ≡ 0 }
         ensures fresh { IfOk result (λ b. b.book ≡ fresh topology agent) }
         ensures meter { IfOk result (λ b. b.meter ≡ J.meter journal) }
         ensures back { IfErr result (λ j. j ≡ journal) }

@@ -5,7 +5,7 @@ ghost use Rattle.stp_topology.specs.Sound.{IsProvider};
 ghost use Rattle.journal_entry.specs.Payloads.{batch_of};
 ghost use Rattle.journal_entry.specs.Journals.{recovers};
 ghost use Rattle.disk_journal.specs.StartOf.{StartsFor, KeepsCounts, ReadsNothing};
-ghost use Rattle.shared_provider.specs.Book.{fresh, Recovers};
+ghost use Rattle.shared_provider.specs.Book.{fresh, counted, Recovers};
 
 use crate::book::Book;
 use disk_journal::{DiskJournal, StartCause, StartFault};
@@ -15,7 +15,7 @@ use std::alloc::Global;
 use stp_topology::Topology;
 
 impl<D: Disk> Book<DiskJournal<D>> {
-    /// The book of a provider of the topology, over a disk that is emptied first.
+    /// The book of a provider of the topology, over a disk that has counted no fault and no stop, and is emptied first.
     pub fn new(
         alloc: Global,
         topology: Topology,
@@ -25,6 +25,7 @@ impl<D: Disk> Book<DiskJournal<D>> {
         requires within { agent < length topology.agents }
         requires provider { IsProvider topology agent }
         requires runs { (D.meter disk).stopped ≡ false }
+        requires counts { counted (D.meter disk) ≡ 0 }
         ensures fresh { IfOk result (λ b. b.book ≡ fresh topology agent) }
         ensures quiet { IfOk result (λ b. KeepsCounts (D.meter disk) b.meter) }
         ensures cause { IfErr result (λ f. StartsFor (D.meter disk) (D.meter f.disk) None f.cause) }

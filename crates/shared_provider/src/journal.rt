@@ -3,6 +3,7 @@
 ghost use Rattle.std.specs.Prelude.{◌≡◌, ◌<◌, ◌≤◌, ◌++◌, ◌∷◌, [], List, false, IfErr, OnOk, IsErrOf};
 ghost use Rattle.nsi_primitive.specs.Printable.{IsPrintableEntry};
 ghost use Rattle.nsi_primitive.specs.declared.entry.Entry.{Entry as AnEntry};
+ghost use Rattle.journal_entry.specs.Journal.{HasSameCounts};
 ghost use Rattle.shared_provider.specs.Book.{counted};
 ghost use Rattle.shared_provider.specs.Sound.{Keeps, LeavesThese, LeavesOneOf, HasFailed};
 
@@ -36,7 +37,7 @@ pub fn append<J: Journal>(alloc: Global, journal: &mut J, entry: &Entry) -> Resu
         Keeps (J.history journal.old) (J.kept journal.old) es [] →
         LeavesThese J.reading (J.history journal.new) es }
     ensures cause { IfErr result (HasFailed (J.meter journal.old) (J.meter journal.new)) }
-    ensures counts { counted (J.meter journal.old) ≤ counted (J.meter journal.new) }
+    ensures counts { OnOk result (HasSameCounts (J.meter journal.old) (J.meter journal.new)) }
     ensures usable { IsErrOf result BookFault.NoMemory →
         (J.waits journal.new ≡ false) × J.is_ready journal.new }
     ensures same_disk { IsErrOf result BookFault.NoMemory →
@@ -60,6 +61,7 @@ pub fn sync<J: Journal>(journal: &mut J) -> Result<(), BookFault>
     ensures left { (es more : List AnEntry) →
         Keeps (J.history journal.old) (J.kept journal.old) es more →
         LeavesOneOf J.reading (J.history journal.new) es more }
+    ensures counts { OnOk result (HasSameCounts (J.meter journal.old) (J.meter journal.new)) }
     ensures cause { IfErr result (λ f. (f ≡ BookFault.DiskFault 1)
         × (counted (J.meter journal.old) < counted (J.meter journal.new))) }
 {
@@ -77,6 +79,7 @@ pub fn forget<J: Journal>(journal: &mut J)
     ensures keeps { (es more : List AnEntry) →
         Keeps (J.history journal.old) (J.kept journal.old) es more →
         Keeps (J.history journal.new) (J.kept journal.new) es [] }
+    ensures meter { J.meter journal.new ≡ J.meter journal.old }
 {
     journal.forget();
 }

@@ -24,6 +24,6 @@ pub enum BookFault {
     Closed { faults: u64 },
     /// It has taken 4,194,304 entries.
     Full,
-    /// The book is as before; its disk may have been written to.
+    /// The book is as before; its disk may have been written to, but has counted nothing.
     NoMemory,
 }

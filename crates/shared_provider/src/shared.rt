@@ -6,6 +6,7 @@ ghost use Rattle.nsi_primitive.specs.declared.entry.Entry.{Entry};
 ghost use Rattle.json_primitives.specs.Lines.{line_of};
 ghost use Rattle.provider_agent.specs.State.{State};
 ghost use Rattle.shared_provider.specs.Asked.{took_entry, work_entry, is_work};
+ghost use Rattle.shared_provider.specs.Book.{IsBook};
 ghost use Rattle.shared_provider.specs.Holds.{HasHeld};
 ghost use Rattle.shared_provider.specs.Calls.{HasCalled, IsHeld};
 
@@ -189,9 +190,13 @@ impl<J: Journal + Drop> SharedProvider<J> {
         self.mark.seen(pass)
     }
 
-    /// The book, once nobody shares it any more.
-    pub fn into_book(self) -> Book<J> {
+    /// The book, once nobody shares it any more. Which one it is isn't told, but what is true of every book.
+    pub fn into_book(self) -> Book<J>
+        ensures { IsBook result }
+    {
         let SharedProvider { book, mark: _ } = self;
-        book.into_inner()
+        let book = book.into_inner();
+        book.facts();
+        book
     }
 }

@@ -11,4 +11,4 @@ invariant_of-result g c =
     let t = c.args.topology in
     let a = c.args.agent in
     moved _ _ _ _ _ (setting_of t a) _ (fresh t a) _ _ (ap (λ (p : Standing). p.setting) c.in-Ok.ensures) (book_is t a c.in-Ok.provider.state blank c.new-in-Ok.result.items [] 0 0 (ap (λ (p : Standing). p.state) c.in-Ok.ensures) c.new-in-Ok.ensures.items refl)
-    (fresh_sound _ _ _ _ _ (setting_of t a) t a _ refl c.requires.within c.requires.provider c.requires.ready c.requires.none (g.met.J.Journal.tells c.args.journal) c.requires.empty (g.met.J.Journal.none_waits c.args.journal c.requires.none))
+    (fresh_sound _ _ _ _ _ (setting_of t a) t a _ refl c.requires.within c.requires.provider c.requires.ready c.requires.none (g.met.J.Journal.tells c.args.journal) c.requires.empty (g.met.J.Journal.none_waits c.args.journal c.requires.none) c.requires.counts)
