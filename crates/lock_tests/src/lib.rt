@@ -1,0 +1,5 @@
+//! Tests alone: a provider behind a lock.
+#![tactic(auto)]
+
+#[cfg(test)]
+mod locked;

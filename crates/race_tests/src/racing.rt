@@ -1,0 +1,181 @@
+//! What no clause says: two requesters are served at once, and a disk that fails ends a race whatever call it is.
+
+ghost use Rattle.std.specs.Prelude.{◌≡◌, ◌<◌, false, length, IfOk, IfSome};
+ghost use Rattle.nsi_disk.specs.Disk.{Meter};
+ghost use Rattle.shared_provider.specs.Book.{counted};
+ghost use Rattle.stp_topology.specs.Sound.{IsProvider};
+
+use nsi_base::{AgentNo, Second};
+use nsi_disk::{Disk, MemoryDisk};
+use nsi_script::{Script, read_script};
+use race_caller::Gate;
+use race_threads::{BookParts, NoGate, Race, RaceCause, RaceFault, Raced, race, race_of};
+use std::alloc::Global;
+use std::rt::HostRuntime;
+use std::sync::Wait;
+use std::sync::atomic::{AtomicU64, Ordering};
+use std::test::Fail;
+use std::thread::Threads;
+use stp_topology::{Topology, read_topology};
+
+const TOPOLOGY: &[u8] =
+    b"agent p1 provider 60\nagent r1 requester p1\nagent r2 requester p1\nstp p1 A 1000\nstp p1 B 1000\n---\n";
+
+/// The first requester asks once, the second one twice.
+const SCRIPT: &[u8] =
+    b"at 0\nask r1 reserve c1 A B 400 100 200\nask r2 reserve c2 A B 400 100 200\nask r2 reserve c3 A B 400 300 400\n";
+
+/// The first caller's first call waits here until the second caller's first call was answered, or for so many looks.
+#[derive(Drop)]
+struct Turn {
+    looks: u64,
+    answered: AtomicU64,
+    gave_up: AtomicU64,
+}
+
+impl Turn {
+    fn new(looks: u64) -> Turn {
+        Turn {
+            looks,
+            answered: AtomicU64::new(0),
+            gave_up: AtomicU64::new(0),
+        }
+    }
+
+    fn wait(&self) {
+        for _ in 0..self.looks {
+            if self.answered.load(Ordering::SeqCst) == 1 {
+                return;
+            }
+        }
+        self.gave_up.store(1, Ordering::SeqCst);
+    }
+
+    /// Whether the one that waited has seen the other one's answer.
+    fn has_met(&self) -> bool {
+        self.answered.load(Ordering::SeqCst) == 1 && self.gave_up.load(Ordering::SeqCst) == 0
+    }
+}
+
+impl Gate for Turn {
+    /// A second call comes where the first one was answered.
+    fn pass(&self, caller: u16, call: u32) {
+        if caller == 1 && call == 1 {
+            self.answered.store(1, Ordering::SeqCst);
+        }
+        if caller == 0 && call == 0 {
+            self.wait();
+        }
+    }
+}
+
+/// How a race ended.
+#[derive(Clone, Copy, Debug, PartialEq, Eq)]
+enum Ending {
+    /// With so many events.
+    Events(usize),
+    DiskFault,
+    Other,
+}
+
+fn let_go(cause: RaceCause) {
+    drop(cause);
+}
+
+fn is_disk_fault(cause: &RaceCause) -> bool {
+    matches!(cause, RaceCause::DiskFault)
+}
+
+fn cause_ending(cause: RaceCause) -> Ending {
+    let is_disk_fault = is_disk_fault(&cause);
+    let_go(cause);
+    if is_disk_fault {
+        Ending::DiskFault
+    } else {
+        Ending::Other
+    }
+}
+
+fn events_of(raced: Raced<MemoryDisk>) -> usize {
+    raced.book.history().len()
+}
+
+fn ending_of(raced: Result<Raced<MemoryDisk>, RaceFault<MemoryDisk>>) -> Ending {
+    match raced {
+        Ok(raced) => Ending::Events(events_of(raced)),
+        Err(fault) => {
+            let RaceFault { cause, disk: _ } = fault;
+            cause_ending(cause)
+        }
+    }
+}
+
+fn network(alloc: Global) -> Result<Topology, Fail> {
+    let (topology, _) = read_topology(alloc, TOPOLOGY).ok().ok_or("a topology")?;
+    Ok(topology)
+}
+
+fn script(alloc: Global, topology: &Topology) -> Result<Script, Fail> {
+    let script = read_script(alloc, SCRIPT, 7, topology)
+        .ok()
+        .ok_or("a script")?;
+    if script.groups.items().len() > 1 {
+        return Err(Fail::from("one second"));
+    }
+    Ok(script)
+}
+
+/// The script is raced over a disk of which the calls with these numbers fail.
+fn raced_over<R: Threads + Wait + Sync, G: Gate + Sync>(
+    rt: &R,
+    alloc: Global,
+    failing: &[u64],
+    gate: &G,
+) -> Result<Ending, Fail> {
+    let topology = network(alloc)?;
+    let own = network(alloc)?;
+    let provider = topology.first_provider().ok_or("a provider")?;
+    let script = script(alloc, &topology)?;
+    let failing = Vec::from_slice(alloc, failing)?;
+    let disk = MemoryDisk::new(alloc, Vec::new(alloc), failing, Vec::new(alloc));
+    let asked = race_of(provider, &script);
+    let parts = BookParts {
+        topology: own,
+        disk,
+    };
+    Ok(ending_of(race(rt, alloc, &topology, &asked, parts, gate)))
+}
+
+/// A tick, three requests and their work, each with its sync.
+const EVENTS: usize = 14;
+
+/// Four calls begin the journal, and four keep each of seven entries.
+const CALLS: u64 = 32;
+
+#[test]
+fn two_callers_are_served_at_once(rt: HostRuntime) -> Result<(), Fail> {
+    let gate = Turn::new(100_000_000);
+    let ending = raced_over(&rt, rt.alloc(), &[], &gate)?;
+    let has_met = gate.has_met();
+    assert!(rt; has_met && ending == Ending::Events(EVENTS));
+    Ok(())
+}
+
+/// Whether a race over a disk that fails at each of these calls ends by that.
+fn all_end_it<R: Threads + Wait + Sync>(rt: &R, alloc: Global) -> Result<bool, Fail> {
+    for call in 1..=CALLS {
+        let ending = raced_over(rt, alloc, &[call], &NoGate)?;
+        if ending != Ending::DiskFault {
+            return Ok(false);
+        }
+    }
+    Ok(true)
+}
+
+#[test]
+fn a_disk_that_fails_at_any_call_ends_a_race(rt: HostRuntime) -> Result<(), Fail> {
+    let is_right = all_end_it(&rt, rt.alloc())?;
+    let behind = raced_over(&rt, rt.alloc(), &[CALLS + 1], &NoGate)?;
+    assert!(rt; is_right && behind == Ending::Events(EVENTS));
+    Ok(())
+}
