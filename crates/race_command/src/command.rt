@@ -112,6 +112,43 @@ fn disk_of<D: Disk + Drop>(fault: RaceFault<D>) -> D
     disk
 }
 
+/// What a race that came to its end comes to, and its disk.
+fn ended_well<D: Disk + Drop>(
+    alloc: Global,
+    most: EventLimit,
+    contest: &Contest,
+    raced: Raced<D>,
+) -> (Result<Outcome, AllocError>, D)
+    requires raced { IsRaced contest.now.topology contest.now.provider
+        (start_of contest.now.script.groups) (acts_of contest.now.script.groups)
+        raced.book.book.events raced.committed }
+    requires lines { All (HasLine contest.now.topology) raced.book.book.events }
+    ensures { IfOk result.0 (HasRaced most contest.now.topology contest.now.provider
+        contest.now.script (D.meter result.1)) }
+{
+    let outcome = told(alloc, most, contest, &raced);
+    let Raced { book, committed: _ } = raced;
+    (outcome, book.into_disk())
+}
+
+/// What a race that has no history comes to, and its disk.
+fn ended_badly<D: Disk + Drop>(
+    alloc: Global,
+    most: EventLimit,
+    contest: &Contest,
+    fault: RaceFault<D>,
+) -> (Result<Outcome, AllocError>, D)
+    requires within { contest.now.provider < length contest.now.topology.agents }
+    requires fault { HasFault contest.now.topology contest.now.provider
+        (start_of contest.now.script.groups) (acts_of contest.now.script.groups)
+        (D.meter fault.disk) fault.cause }
+    ensures { IfOk result.0 (HasRaced most contest.now.topology contest.now.provider
+        contest.now.script (D.meter result.1)) }
+{
+    let outcome = explained(alloc, contest, &fault);
+    (outcome, disk_of(fault))
+}
+
 /// Races a script over the disk of the provider, and gives that back.
 fn race_disk<R: Threads + Wait + Sync, D: Disk + Drop + Send>(
     means: &Means<'_, R>,
@@ -130,14 +167,8 @@ fn race_disk<R: Threads + Wait + Sync, D: Disk + Drop + Send>(
     let alloc = means.alloc;
     let race = race_of(contest.provider, &contest.script);
     match race_callers(means.rt, alloc, &contest.topology, &race, parts, &NoGate) {
-        Ok(raced) => {
-            let outcome = told(alloc, means.most, contest, &raced);
-            (outcome, raced.book.into_disk())
-        }
-        Err(fault) => {
-            let outcome = explained(alloc, contest, &fault);
-            (outcome, disk_of(fault))
-        }
+        Ok(raced) => ended_well(alloc, means.most, contest, raced),
+        Err(fault) => ended_badly(alloc, means.most, contest, fault),
     }
 }
 

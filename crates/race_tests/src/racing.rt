@@ -1,21 +1,20 @@
 //! What no clause says: two requesters are served at once, and a disk that fails ends a race whatever call it is.
 
-ghost use Rattle.std.specs.Prelude.{◌≡◌, ◌<◌, false, length, IfOk, IfSome};
-ghost use Rattle.nsi_disk.specs.Disk.{Meter};
+ghost use Rattle.std.specs.Prelude.{◌≡◌, ◌≤◌, ◌<◌, length, IfOk, false};
 ghost use Rattle.shared_provider.specs.Book.{counted};
+ghost use Rattle.nsi_script.specs.Scripts.{acts_of};
+ghost use Rattle.race_run.specs.Scripts.{AreAsks};
 ghost use Rattle.stp_topology.specs.Sound.{IsProvider};
 
-use nsi_base::{AgentNo, Second};
+use nsi_base::AgentNo;
 use nsi_disk::{Disk, MemoryDisk};
 use nsi_script::{Script, read_script};
 use race_caller::Gate;
-use race_threads::{BookParts, NoGate, Race, RaceCause, RaceFault, Raced, race, race_of};
+use race_threads::{BookParts, RaceCause, RaceFault, Raced, race, race_of};
 use std::alloc::Global;
 use std::rt::HostRuntime;
-use std::sync::Wait;
 use std::sync::atomic::{AtomicU64, Ordering};
 use std::test::Fail;
-use std::thread::Threads;
 use stp_topology::{Topology, read_topology};
 
 const TOPOLOGY: &[u8] =
@@ -96,48 +95,73 @@ fn cause_ending(cause: RaceCause) -> Ending {
     }
 }
 
-fn events_of(raced: Raced<MemoryDisk>) -> usize {
-    raced.book.history().len()
+fn fault_ending(fault: RaceFault<MemoryDisk>) -> Ending {
+    let RaceFault { cause, disk } = fault;
+    drop(disk);
+    cause_ending(cause)
+}
+
+fn events_of(raced: Raced<MemoryDisk>) -> Ending {
+    Ending::Events(raced.book.history().len())
 }
 
 fn ending_of(raced: Result<Raced<MemoryDisk>, RaceFault<MemoryDisk>>) -> Ending {
     match raced {
-        Ok(raced) => Ending::Events(events_of(raced)),
-        Err(fault) => {
-            let RaceFault { cause, disk: _ } = fault;
-            cause_ending(cause)
-        }
+        Ok(raced) => events_of(raced),
+        Err(fault) => fault_ending(fault),
     }
 }
 
-fn network(alloc: Global) -> Result<Topology, Fail> {
-    let (topology, _) = read_topology(alloc, TOPOLOGY).ok().ok_or("a topology")?;
-    Ok(topology)
+/// The network twice.
+fn networks(alloc: Global) -> Result<(Topology, Topology), Fail>
+    ensures { IfOk result (λ r. r.1 ≡ r.0) }
+{
+    let Ok((topology, _)) = read_topology(alloc, TOPOLOGY) else {
+        return Err(Fail::from("a topology"));
+    };
+    let Ok((own, _)) = read_topology(alloc, TOPOLOGY) else {
+        return Err(Fail::from("the topology again"));
+    };
+    Ok((topology, own))
 }
 
-fn script(alloc: Global, topology: &Topology) -> Result<Script, Fail> {
-    let script = read_script(alloc, SCRIPT, 7, topology)
-        .ok()
-        .ok_or("a script")?;
+fn provider_of(topology: &Topology) -> Result<AgentNo, Fail>
+    ensures provider { IfOk result (λ a. IsProvider topology.now a) }
+    ensures within { IfOk result (λ a. a < length topology.now.agents) }
+{
+    match topology.first_provider() {
+        Some(provider) => Ok(provider),
+        None => Err(Fail::from("a provider")),
+    }
+}
+
+fn script_of(alloc: Global, topology: &Topology) -> Result<Script, Fail>
+    ensures one { IfOk result (λ s. length s.groups ≤ 1) }
+    ensures printable { IfOk result (λ s. AreAsks (acts_of s.groups)) }
+{
+    let Ok(script) = read_script(alloc, SCRIPT, 7, topology) else {
+        return Err(Fail::from("a script"));
+    };
     if script.groups.items().len() > 1 {
         return Err(Fail::from("one second"));
     }
     Ok(script)
 }
 
-/// The script is raced over a disk of which the calls with these numbers fail.
-fn raced_over<R: Threads + Wait + Sync, G: Gate + Sync>(
-    rt: &R,
-    alloc: Global,
-    failing: &[u64],
-    gate: &G,
-) -> Result<Ending, Fail> {
-    let topology = network(alloc)?;
-    let own = network(alloc)?;
-    let provider = topology.first_provider().ok_or("a provider")?;
-    let script = script(alloc, &topology)?;
-    let failing = Vec::from_slice(alloc, failing)?;
-    let disk = MemoryDisk::new(alloc, Vec::new(alloc), failing, Vec::new(alloc));
+/// A disk of which the calls with these numbers fail.
+fn disk_of(alloc: Global, failing: Vec<u64>) -> MemoryDisk
+    ensures runs { (⟦<MemoryDisk as Disk>⟧.meter result).stopped ≡ false }
+    ensures counts { counted (⟦<MemoryDisk as Disk>⟧.meter result) ≡ 0 }
+{
+    MemoryDisk::new(alloc, Vec::new(alloc), failing, Vec::new(alloc))
+}
+
+/// The script is raced over such a disk.
+fn raced_over(rt: &HostRuntime, alloc: Global, failing: Vec<u64>, gate: &Turn) -> Result<Ending, Fail> {
+    let (topology, own) = networks(alloc)?;
+    let provider = provider_of(&topology)?;
+    let script = script_of(alloc, &topology)?;
+    let disk = disk_of(alloc, failing);
     let asked = race_of(provider, &script);
     let parts = BookParts {
         topology: own,
@@ -155,16 +179,23 @@ const CALLS: u64 = 32;
 #[test]
 fn two_callers_are_served_at_once(rt: HostRuntime) -> Result<(), Fail> {
     let gate = Turn::new(100_000_000);
-    let ending = raced_over(&rt, rt.alloc(), &[], &gate)?;
+    let ending = raced_over(&rt, rt.alloc(), Vec::new(rt.alloc()), &gate)?;
     let has_met = gate.has_met();
     assert!(rt; has_met && ending == Ending::Events(EVENTS));
     Ok(())
 }
 
+/// The script is raced over a disk of which that call fails; nobody waits.
+fn raced_with(rt: &HostRuntime, alloc: Global, call: u64) -> Result<Ending, Fail> {
+    let mut failing = Vec::new(alloc);
+    failing.push(call)?;
+    raced_over(rt, alloc, failing, &Turn::new(0))
+}
+
 /// Whether a race over a disk that fails at each of these calls ends by that.
-fn all_end_it<R: Threads + Wait + Sync>(rt: &R, alloc: Global) -> Result<bool, Fail> {
+fn all_end_it(rt: &HostRuntime, alloc: Global) -> Result<bool, Fail> {
     for call in 1..=CALLS {
-        let ending = raced_over(rt, alloc, &[call], &NoGate)?;
+        let ending = raced_with(rt, alloc, call)?;
         if ending != Ending::DiskFault {
             return Ok(false);
         }
@@ -175,7 +206,7 @@ fn all_end_it<R: Threads + Wait + Sync>(rt: &R, alloc: Global) -> Result<bool, F
 #[test]
 fn a_disk_that_fails_at_any_call_ends_a_race(rt: HostRuntime) -> Result<(), Fail> {
     let is_right = all_end_it(&rt, rt.alloc())?;
-    let behind = raced_over(&rt, rt.alloc(), &[CALLS + 1], &NoGate)?;
+    let behind = raced_with(&rt, rt.alloc(), CALLS + 1)?;
     assert!(rt; is_right && behind == Ending::Events(EVENTS));
     Ok(())
 }

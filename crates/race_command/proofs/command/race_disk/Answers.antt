@@ -1,9 +1,7 @@
 use Rattle.std.proofs.Common.{◌<◌, ℕ, length, sym, subst}
 use Rattle.stp_topology.specs.Sound.{IsProvider}
-use Rattle.std.specs.Prelude.{IfOk}
 use Rattle.race_run.specs.Scripts.{AreAsks}
 use Rattle.race_threads.specs.Raced.{IsRaced, HasFault}
-use Rattle.race_command.specs.Outcomes.{HasRaced}
 use Rattle.race_command.proofs.Acts.{race_printable}
 use Rattle.race_command.proofs.Racing.{as_asked}
 use Rattle.race_command.proofs.command.race_disk.Goals as goal
@@ -26,27 +24,13 @@ race-requires-clause-runs g c = c.requires.runs
 pub race-requires-clause-counts : goal.race-requires-clause-counts
 race-requires-clause-counts g c = c.requires.counts
 
-pub told-outcome-requires-clause-lines : goal.told-outcome-requires-clause-lines
-told-outcome-requires-clause-lines g c = c.in-Ok.ensures.lines
-
-pub explained-outcome-requires-clause-within : goal.explained-outcome-requires-clause-within
-explained-outcome-requires-clause-within g c = c.requires.within
-
 pub race-requires-clause-printable : goal.race-requires-clause-printable
 race-requires-clause-printable g c = subst AreAsks (sym c.race_of-race.ensures.acts) (race_printable c.args.contest.now.topology c.args.contest.now.provider c.args.contest.now.script c.requires.race)
 
-pub told-outcome-requires-clause-raced : goal.told-outcome-requires-clause-raced
-told-outcome-requires-clause-raced g c =
+pub ended_well-requires-clause-raced : goal.ended_well-requires-clause-raced
+ended_well-requires-clause-raced g c =
     as_asked (λ p start acts. IsRaced c.args.contest.now.topology p start acts c.in-Ok.raced.book.book.events c.in-Ok.raced.committed) _ _ _ _ _ _ c.race_of-race.ensures.provider c.race_of-race.ensures.start c.race_of-race.ensures.acts c.in-Ok.ensures.raced
 
-pub explained-outcome-requires-clause-fault : goal.explained-outcome-requires-clause-fault
-explained-outcome-requires-clause-fault g c =
+pub ended_badly-requires-clause-fault : goal.ended_badly-requires-clause-fault
+ended_badly-requires-clause-fault g c =
     as_asked (λ p start acts. HasFault c.args.contest.now.topology p start acts (g.D.Disk.meter c.in-Err.fault.disk) c.in-Err.fault.cause) _ _ _ _ _ _ c.race_of-race.ensures.provider c.race_of-race.ensures.start c.race_of-race.ensures.acts c.in-Err.ensures.fault
-
-pub returns-in-Ok : goal.returns-in-Ok
-returns-in-Ok g c = c.told-outcome.ensures _
-
-pub returns-in-Err : goal.returns-in-Err
-returns-in-Err g c =
-    let contest = c.args.contest.now in
-    subst (λ d. IfOk c.explained-outcome.result (HasRaced c.args.means.now.most contest.topology contest.provider contest.script (g.D.Disk.meter d))) (sym c.disk_of.ensures) (c.explained-outcome.ensures c.args.means.now.most)
