@@ -5,6 +5,8 @@ ghost use Rattle.shared_provider.specs.Book.{counted};
 ghost use Rattle.nsi_script.specs.Scripts.{acts_of};
 ghost use Rattle.race_run.specs.Scripts.{AreAsks};
 ghost use Rattle.stp_topology.specs.Sound.{IsProvider};
+ghost use Rattle.nsi_base.specs.Range.{greatest_input};
+ghost use Rattle.race_tests.specs.Networks.{IsNetworkOf};
 
 use nsi_base::AgentNo;
 use nsi_disk::{Disk, MemoryDisk};
@@ -112,16 +114,25 @@ fn ending_of(raced: Result<Raced<MemoryDisk>, RaceFault<MemoryDisk>>) -> Ending 
     }
 }
 
+fn network(alloc: Global, text: &[u8]) -> Result<Topology, Fail>
+    requires { length text.now ≤ greatest_input }
+    ensures { IfOk result (λ t. IsNetworkOf text.now t) }
+{
+    match read_topology(alloc, text) {
+        Ok(read) => {
+            let (topology, _) = read;
+            Ok(topology)
+        }
+        Err(_) => Err(Fail::from("a topology")),
+    }
+}
+
 /// The network twice.
 fn networks(alloc: Global) -> Result<(Topology, Topology), Fail>
     ensures { IfOk result (λ r. r.1 ≡ r.0) }
 {
-    let Ok((topology, _)) = read_topology(alloc, TOPOLOGY) else {
-        return Err(Fail::from("a topology"));
-    };
-    let Ok((own, _)) = read_topology(alloc, TOPOLOGY) else {
-        return Err(Fail::from("the topology again"));
-    };
+    let topology = network(alloc, TOPOLOGY)?;
+    let own = network(alloc, TOPOLOGY)?;
     Ok((topology, own))
 }
 
@@ -136,12 +147,19 @@ fn provider_of(topology: &Topology) -> Result<AgentNo, Fail>
 }
 
 fn script_of(alloc: Global, topology: &Topology) -> Result<Script, Fail>
-    ensures one { IfOk result (λ s. length s.groups ≤ 1) }
-    ensures printable { IfOk result (λ s. AreAsks (acts_of s.groups)) }
+    ensures { IfOk result (λ s. AreAsks (acts_of s.groups)) }
 {
-    let Ok(script) = read_script(alloc, SCRIPT, 7, topology) else {
-        return Err(Fail::from("a script"));
-    };
+    match read_script(alloc, SCRIPT, 7, topology) {
+        Ok(script) => Ok(script),
+        Err(_) => Err(Fail::from("a script")),
+    }
+}
+
+/// The script, which has one second.
+fn one_second(script: Script) -> Result<Script, Fail>
+    ensures one { IfOk result (λ s. length s.groups ≤ 1) }
+    ensures same { IfOk result (λ s. s ≡ script) }
+{
     if script.groups.items().len() > 1 {
         return Err(Fail::from("one second"));
     }
@@ -160,7 +178,8 @@ fn disk_of(alloc: Global, failing: Vec<u64>) -> MemoryDisk
 fn raced_over(rt: &HostRuntime, alloc: Global, failing: Vec<u64>, gate: &Turn) -> Result<Ending, Fail> {
     let (topology, own) = networks(alloc)?;
     let provider = provider_of(&topology)?;
-    let script = script_of(alloc, &topology)?;
+    let read = script_of(alloc, &topology)?;
+    let script = one_second(read)?;
     let disk = disk_of(alloc, failing);
     let asked = race_of(provider, &script);
     let parts = BookParts {

@@ -34,3 +34,15 @@ ended_well-requires-clause-raced g c =
 pub ended_badly-requires-clause-fault : goal.ended_badly-requires-clause-fault
 ended_badly-requires-clause-fault g c =
     as_asked (λ p start acts. HasFault c.args.contest.now.topology p start acts (g.D.Disk.meter c.in-Err.fault.disk) c.in-Err.fault.cause) _ _ _ _ _ _ c.race_of-race.ensures.provider c.race_of-race.ensures.start c.race_of-race.ensures.acts c.in-Err.ensures.fault
+
+pub ended_well-requires-clause-lines : goal.ended_well-requires-clause-lines
+ended_well-requires-clause-lines g c = c.in-Ok.ensures.lines
+
+pub ended_badly-requires-clause-within : goal.ended_badly-requires-clause-within
+ended_badly-requires-clause-within g c = c.requires.within
+
+pub returns-in-Ok : goal.returns-in-Ok
+returns-in-Ok g c = c.ended_well.ensures
+
+pub returns-in-Err : goal.returns-in-Err
+returns-in-Err g c = c.ended_badly.ensures
