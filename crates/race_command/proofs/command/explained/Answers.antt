@@ -8,7 +8,7 @@ pub differ_lines-requires : goal.differ_lines-requires
 differ_lines-requires g c = (rw c.in-Differ.is at c.requires.fault).told
 
 pub returns-in_ok-text-in-Differ : goal.returns-in_ok-text-in-Differ
-returns-in_ok-text-in-Differ g c = λ most. came_apart most c.args.contest.now.topology c.args.contest.now.provider c.args.contest.now.script _ c.in-Differ.difference.now _ (rw c.in-Differ.is at c.requires.fault) refl c.in_ok-text-in-Differ.ensures
+returns-in_ok-text-in-Differ g c = λ most. came_apart most c.args.contest.now.topology c.args.contest.now.provider c.args.contest.now.script _ c.in-Differ.difference _ (rw c.in-Differ.is at c.requires.fault) refl c.in_ok-text-in-Differ.ensures
 
 pub returns-in-DiskFault : goal.returns-in-DiskFault
 returns-in-DiskFault g c =

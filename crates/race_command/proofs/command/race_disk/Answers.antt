@@ -10,22 +10,22 @@ pub race_of-race-requires : goal.race_of-race-requires
 race_of-race-requires g c = c.requires.race.one
 
 pub race-requires-clause-same : goal.race-requires-clause-same
-race-requires-clause-same g c = c.requires.same
+race-requires-clause-same g c κs within = c.requires.same
 
 pub race-requires-clause-within : goal.race-requires-clause-within
-race-requires-clause-within g c = subst (λ (n : ℕ). n < length c.args.contest.now.topology.agents) (sym c.race_of-race.ensures.provider) c.requires.within
+race-requires-clause-within g c κs within = subst (λ (n : ℕ). n < length c.args.contest.now.topology.agents) (sym c.race_of-race.ensures.provider) c.requires.within
 
 pub race-requires-clause-provider : goal.race-requires-clause-provider
-race-requires-clause-provider g c = subst (IsProvider c.args.contest.now.topology) (sym c.race_of-race.ensures.provider) c.requires.provider
+race-requires-clause-provider g c κs within = subst (IsProvider c.args.contest.now.topology) (sym c.race_of-race.ensures.provider) c.requires.provider
 
 pub race-requires-clause-runs : goal.race-requires-clause-runs
-race-requires-clause-runs g c = c.requires.runs
+race-requires-clause-runs g c κs within = c.requires.runs
 
 pub race-requires-clause-counts : goal.race-requires-clause-counts
-race-requires-clause-counts g c = c.requires.counts
+race-requires-clause-counts g c κs within = c.requires.counts
 
 pub race-requires-clause-printable : goal.race-requires-clause-printable
-race-requires-clause-printable g c = subst AreAsks (sym c.race_of-race.ensures.acts) (race_printable c.args.contest.now.topology c.args.contest.now.provider c.args.contest.now.script c.requires.race)
+race-requires-clause-printable g c κs within = subst AreAsks (sym c.race_of-race.ensures.acts) (race_printable c.args.contest.now.topology c.args.contest.now.provider c.args.contest.now.script c.requires.race)
 
 pub ended_well-requires-clause-raced : goal.ended_well-requires-clause-raced
 ended_well-requires-clause-raced g c =

@@ -1,5 +1,6 @@
 use Rattle.std.proofs.Common.{◌≡◌, ◌∙◌, ℕ, Err, ap, subst, arith}
 use Rattle.nsi_disk.specs.ShelfCounts.{Raised}
+use Rattle.fault_lines.specs.Counts.{counted}
 use Rattle.fault_lines.specs.Lines.{disk_fault_line}
 use Rattle.race_command.specs.declared.ending.RaceEnd.{RaceEnd}
 use Rattle.race_command.proofs.Racing.{both, given_back, not_fetched}
@@ -10,9 +11,13 @@ race_disk-outcome-requires-clause-counts g c = let h = c.in-Ok.ensures.counts in
 
 pub returns-in-Ok : goal.returns-in-Ok
 returns-in-Ok g c =
-    given_back c.args.means.now.most c.args.contest.now.topology c.args.contest.now.provider c.args.contest.now.script _ _ _ c.race_disk-outcome.result.0 c.race_disk-outcome.ensures
-    (subst (λ (n : ℕ). Raised n _ _) c.in-Ok.ensures.quiet c.give_back.ensures.faults)
-    (subst (λ (n : ℕ). Raised n _ _) c.fetch.ensures.stops c.give_back.ensures.stops)
+    let contest = c.args.contest.now in
+    let meter = g.H.Disk.Disk.meter c.race_disk-outcome.result.1 in
+    let before = counted 0 (g.H.Shelf.faults c.args.shelf.now) (g.H.Shelf.stops c.args.shelf.now) in
+    let after = counted 0 (g.H.Shelf.faults c.give_back.new.self) (g.H.Shelf.stops c.give_back.new.self) in
+    given_back c.args.means.now.most contest.topology contest.provider contest.script meter before after c.race_disk-outcome.result.0 c.race_disk-outcome.ensures
+    (subst (λ (n : ℕ). Raised n meter.faults after.faults) c.in-Ok.ensures.quiet c.give_back.ensures.faults)
+    (subst (λ (n : ℕ). Raised n meter.stops after.stops) c.fetch.ensures.stops c.give_back.ensures.stops)
 
 pub returns-in-Err-Failed : goal.returns-in-Err-Failed
 returns-in-Err-Failed g c =
