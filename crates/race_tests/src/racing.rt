@@ -175,7 +175,12 @@ fn disk_of(alloc: Global, failing: Vec<u64>) -> MemoryDisk
 }
 
 /// The script is raced over such a disk.
-fn raced_over(rt: &HostRuntime, alloc: Global, failing: Vec<u64>, gate: &Turn) -> Result<Ending, Fail> {
+fn raced_over(
+    rt: &HostRuntime,
+    alloc: Global,
+    failing: Vec<u64>,
+    gate: &Turn,
+) -> Result<Ending, Fail> {
     let (topology, own) = networks(alloc)?;
     let provider = provider_of(&topology)?;
     let read = script_of(alloc, &topology)?;
