@@ -136,6 +136,8 @@ test_all() {
     step tools/differential-test --seeds 6
     step tools/differential-run --seeds 1..200 --keep "${TMPDIR:-/tmp}"
     step tools/differential-run --seeds 1..80 --all --keep "${TMPDIR:-/tmp}"
+    step tools/differential-race --seeds 1..200 --keep "${TMPDIR:-/tmp}"
+    step tools/differential-race --crowd
     step tools/plain-verify --compare --seeds 1..20
     echo "$passed passed, $failed failed"
     [ "$failed" -eq 0 ]

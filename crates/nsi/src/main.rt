@@ -7,9 +7,10 @@ ghost use Rattle.nsi.specs.Usage.{IsUsageAsNamed};
 use file_shelf::FileShelf;
 use nsi_disk::{MemoryShelf, Shelf};
 use nsi_outside::{StdSink, StdSource};
-use nsi_program::{Status, top};
+use nsi_program::{Status, top_or_race};
 use std::env::VarError;
 use std::process::ExitCode;
+use std::sync::Wait;
 use std::thread::Threads;
 use std::{env, io};
 
@@ -23,11 +24,11 @@ fn main(rt: HostRuntime) -> ExitCode {
     ExitCode::from(run(&rt, &rt).code())
 }
 
-/// Runs the command that the words behind the program's name say, over standard input and output, and `run` in threads of this
-/// handle. The journal of `provide` is a file of the folder that the environment names; where it names none, and for every
-/// other command, journals begin empty, in memory. No contract knows the words, the bytes and the files that a program is
-/// run with.
-fn run<R: Threads + Sync>(rt: &HostRuntime, threads: &R) -> Status {
+/// Runs the command that the words behind the program's name say, over standard input and output, and `run` and `race` in
+/// threads of this handle. The journal of `provide` is a file of the folder that the environment names; where it names none,
+/// and for every other command, journals begin empty, in memory. No contract knows the words, the bytes and the files that a
+/// program is run with.
+fn run<R: Threads + Wait + Sync>(rt: &HostRuntime, threads: &R) -> Status {
     match words(rt) {
         Ok(words) => run_words(rt, threads, &words),
         Err(_) => Status::NoMemory,
@@ -35,7 +36,7 @@ fn run<R: Threads + Sync>(rt: &HostRuntime, threads: &R) -> Status {
 }
 
 /// Runs the words over the journals that are theirs.
-fn run_words<R: Threads + Sync>(rt: &HostRuntime, threads: &R, words: &[String]) -> Status
+fn run_words<R: Threads + Wait + Sync>(rt: &HostRuntime, threads: &R, words: &[String]) -> Status
     ensures { IsUsageAsNamed (map string_bytes words.now) result }
 {
     if !keeps_journals(words) {
@@ -63,14 +64,18 @@ fn keeps_journals(words: &[String]) -> bool {
     }
 }
 
-fn run_in_memory<R: Threads + Sync>(rt: &HostRuntime, threads: &R, words: &[String]) -> Status
+fn run_in_memory<R: Threads + Wait + Sync>(
+    rt: &HostRuntime,
+    threads: &R,
+    words: &[String],
+) -> Status
     ensures { IsUsageAsNamed (map string_bytes words.now) result }
 {
     let mut shelf = MemoryShelf::new(Vec::new(rt.alloc()), Vec::new(rt.alloc()));
     run_over(rt, threads, words, &mut shelf)
 }
 
-fn run_over<R: Threads + Sync, H: Shelf>(
+fn run_over<R: Threads + Wait + Sync, H: Shelf>(
     rt: &HostRuntime,
     threads: &R,
     words: &[String],
@@ -82,7 +87,7 @@ where
 {
     let mut input = StdSource::new(rt.reader());
     let mut out = StdSink::new(io::writer(rt));
-    top(threads, rt.alloc(), words, &mut input, &mut out, shelf)
+    top_or_race(threads, rt.alloc(), words, &mut input, &mut out, shelf)
 }
 
 /// The words behind the program's name. There are none where one isn't UTF-8, which no command is either.

@@ -5,3 +5,4 @@ pub mod Nothing
 pub mod Plainly
 mod Verdicts
 mod CheckRows
+mod Races

@@ -4,3 +4,4 @@ pub mod Asked
 pub mod Check
 pub mod Ends
 pub mod Plain
+pub mod RacesTo

@@ -1,0 +1,4 @@
+pub mod Strange
+pub mod Acts
+mod Closing
+mod Racing
