@@ -1,5 +1,5 @@
 -- How an entry that is put into a book ends.
-use Rattle.std.proofs.Common.{◌≡◌, ◌∙◌, inl, ◌+◌, ℕ, Bool, false, List, [], ◌∷◌, ◌++◌, Option, Result, refl, ap, arith}
+use Rattle.std.proofs.Common.{◌≡◌, ◌∙◌, inl, inr, ◌<◌, ◌+◌, ℕ, Bool, false, List, [], ◌∷◌, ◌++◌, Option, Some, Result, refl, sym, ap, subst, arith, length}
 use Rattle.std.proofs.lemmas.List.{append_assoc}
 use Rattle.nsi_primitive.specs.declared.entry.Entry.{Entry}
 use Rattle.nsi_primitive.specs.declared.entry.Event.{Event}
@@ -9,16 +9,17 @@ use Rattle.stp_topology.specs.declared.network.Network.{Network}
 use Rattle.provider_agent.specs.Setting.{Setting, setting_of, own_stp}
 use Rattle.provider_agent.specs.State.{State, Standing}
 use Rattle.provider_agent.specs.Steps.{after}
+use Rattle.shared_provider.specs.declared.reply.Reply.{Reply}
 use Rattle.shared_provider.specs.declared.reply.BookFault.{BookFault}
 use Rattle.shared_provider.specs.declared.reply.BookFault.TheVariants.{DiskFault, Closed, Full, NoMemory}
 use Rattle.shared_provider.specs.History.{journal_of}
-use Rattle.shared_provider.specs.Book.{Book, Held, steps, enter, sync, with_entry, entered, closed, IsOpen}
+use Rattle.shared_provider.specs.Book.{Book, Held, counted, steps, enter, sync, with_entry, entered, closed, IsOpen}
 use Rattle.shared_provider.specs.Asked.{MayBeAsked}
-use Rattle.shared_provider.specs.Answers.{Fails}
-use Rattle.shared_provider.specs.Sound.{LeavesThese, HasFailed, faults_by, IsSound}
+use Rattle.shared_provider.specs.Answers.{Adds, Fails, HasBroken}
+use Rattle.shared_provider.specs.Sound.{Keeps, LeavesThese, LeavesOneOf, HasFailed, faults_by, IsSound}
 use Rattle.shared_provider.proofs.Histories.{taken_more}
 use Rattle.shared_provider.proofs.Kept.{keeps_same}
-use Rattle.shared_provider.proofs.Sounds.{same_sound, shut_sound}
+use Rattle.shared_provider.proofs.Sounds.{same_sound, shut_sound, synced_entered}
 
 abbrev pub a_book : Network → ℕ → State → List Event → ℕ → Book
 a_book network agent state events faults = record { network = network; agent = agent; state = state; events = events; faults = faults }

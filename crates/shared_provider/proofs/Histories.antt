@@ -1,5 +1,5 @@
 -- A history goes on, and what follows of it.
-use Rattle.std.proofs.Common.{◌≡◌, ◌∙◌, ◌<◌, ◌+◌, ℕ, true, ◌&&◌, nat_lt, List, [], ◌∷◌, ◌++◌, Option, refl, sym, ap, subst, arith, length}
+use Rattle.std.proofs.Common.{◌≡◌, ◌∙◌, ◌≤◌, ◌<◌, ◌+◌, ℕ, Bool, true, ◌&&◌, nat_lt, List, [], ◌∷◌, ◌++◌, Option, None, refl, sym, ap, subst, arith, length, length-append}
 use Rattle.std.specs.List.{All}
 use Rattle.std.proofs.lemmas.Bool.{and_parts}
 use Rattle.std.proofs.lemmas.List.{map-append}
@@ -9,7 +9,7 @@ use Rattle.nsi_primitive.specs.declared.entry.Event.{Event}
 use Rattle.nsi_primitive.specs.declared.entry.Happening.{Happening}
 use Rattle.agent_state.specs.Entries.{is_on_time, most_entries}
 use Rattle.provider_agent.specs.Setting.{Setting}
-use Rattle.provider_agent.specs.State.{State, Stepped}
+use Rattle.provider_agent.specs.State.{State, Stepped, blank}
 use Rattle.provider_agent.specs.Steps.{is_for_provider, may_take, after}
 use Rattle.provider_agent.specs.Events.{all_synced, happens, journal_after}
 use Rattle.provider_agent.specs.Cuts.{Journal}

@@ -14,7 +14,7 @@ use Rattle.provider_agent.specs.Events.{journal_after}
 use Rattle.provider_agent.specs.Replay.{replayed}
 use Rattle.shared_provider.specs.History.{journal_of, IsHistory}
 use Rattle.shared_provider.specs.Book.{fresh, counted}
-use Rattle.shared_provider.specs.Sound.{IsSound}
+use Rattle.shared_provider.specs.Sound.{Keeps, IsSound}
 
 all_none : {A : Type 0} (P : A → Type 0) → All P []
 all_none P = λ k d within. absurd (omega (arith, within))

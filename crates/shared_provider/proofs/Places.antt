@@ -1,5 +1,5 @@
 -- Where ids rise, a search finds the one record of an id.
-use Rattle.std.proofs.Common.{◌≡◌, ◌≢◌, ◌∙◌, ⊎_elim, ◌≤◌, ◌<◌, ℕ, Bool, true, false, [], cond, nat_lt, List, length, get_or, Option, Some, None, Ok, Err, refl, ap, arith, slice_get}
+use Rattle.std.proofs.Common.{◌≡◌, ◌≢◌, ◌∙◌, ◌⊎◌, inl, inr, ⊎_elim, ◌≤◌, ◌<◌, ℕ, Bool, true, false, [], cond, nat_lt, bytes_eq, List, length, get_or, Option, Some, None, Ok, Err, refl, sym, ap, arith, slice_get}
 use Rattle.std.specs.Prelude.{position}
 use Rattle.std.specs.List.{position_or_len}
 use Rattle.std.specs.List.Sorted.{IsBinarySearchResult}

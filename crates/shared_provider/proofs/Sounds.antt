@@ -1,23 +1,25 @@
 -- What is true of a book stays true, whatever a call does.
-use Rattle.std.proofs.Common.{◌≡◌, ◌∙◌, ◌⊎◌, inl, inr, ⊎_elim, ◌<◌, ◌+◌, ℕ, zero, suc, Bool, false, List, [], ◌∷◌, ◌++◌, Option, Result, Ok, refl, sym, ap, subst, arith, length, length-append}
+use Rattle.std.proofs.Common.{◌≡◌, ◌∙◌, ◌⊎◌, inl, inr, ⊎_elim, ◌≤◌, ◌<◌, ◌+◌, ℕ, zero, suc, Bool, true, false, List, [], ◌∷◌, ◌++◌, Option, Some, None, Result, Ok, refl, sym, ap, subst, arith, length, length-append, take}
+use Rattle.std.specs.Prelude.{IfSome}
 use Rattle.std.proofs.lemmas.List.{take_all, append_assoc, take-append-le}
 use Rattle.nsi_primitive.specs.declared.entry.Entry.{Entry}
 use Rattle.nsi_primitive.specs.declared.entry.Event.{Event}
 use Rattle.nsi_disk.specs.Disk.{History, Meter, MayLeave}
 use Rattle.nsi_disk.proofs.Moments.{weaker}
 use Rattle.journal_entry.specs.Journal.{Kept, MayLeaveSynced}
+use Rattle.stp_topology.specs.declared.network.Network.{Network}
 use Rattle.provider_agent.specs.Setting.{Setting, setting_of, own_stp}
 use Rattle.provider_agent.specs.State.{State}
 use Rattle.provider_agent.specs.Steps.{after}
 use Rattle.provider_agent.specs.Replay.{replayed}
 use Rattle.provider_agent.specs.Safety.{IsCapped}
 use Rattle.provider_agent.specs.Good.{IsGood}
-use Rattle.provider_agent.specs.Events.{synced_part}
+use Rattle.provider_agent.specs.Events.{happens, synced_part}
 use Rattle.provider_agent.specs.Cuts.{Journal}
 use Rattle.shared_provider.specs.History.{journal_of, IsHistory}
 use Rattle.shared_provider.specs.Book.{Book, Held, counted, steps, enter, sync, with_entry, entered, closed, IsOpen, IsRead, Recovers, IsBook}
 use Rattle.shared_provider.specs.Asked.{MayBeAsked}
-use Rattle.shared_provider.specs.Sound.{Keeps, LeavesThese, LeavesOneOf, IsSound}
+use Rattle.shared_provider.specs.Sound.{Keeps, LeavesThese, LeavesOneOf, IsRunning, IsShut, IsSound}
 use Rattle.shared_provider.proofs.Kept.{leaves_now}
 use Rattle.shared_provider.proofs.Histories.{journal_more, history_more, IsAt, entry_may_follow, sync_may_follow, state_more, taken_more}
 

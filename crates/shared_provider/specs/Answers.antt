@@ -1,5 +1,5 @@
 -- What a book answers.
-use Rattle.std.specs.Prelude.{◌≡◌, ◌⊎◌, ◌<◌, ℕ, [], length, Option, Some, None, IfSome}
+use Rattle.std.specs.Prelude.{◌≡◌, ◌⊎◌, ◌<◌, ◌+◌, ℕ, [], length, Option, Some, None, IfSome}
 use Rattle.nsi_primitive.specs.declared.entry.Entry.{Entry}
 use Rattle.agent_state.specs.Entries.{most_entries}
 use Rattle.journal_entry.specs.Journal.{HasSameCounts}
