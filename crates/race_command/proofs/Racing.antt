@@ -18,6 +18,7 @@ use Rattle.stp_topology.specs.declared.fault.TopologyFault.{TopologyFault}
 use Rattle.stp_topology.specs.declared.fault.TopologyFault.TheVariants.{Empty}
 use Rattle.stp_topology.specs.Network.{nothing, first_provider, name_of}
 use Rattle.stp_topology.specs.Text.{read_lines}
+use Rattle.stp_topology.specs.Sound.{IsProvider}
 use Rattle.topology_input.specs.declared.Declared.{Declared}
 use Rattle.topology_input.specs.Reading.{IsDeclared}
 use Rattle.trace_text.specs.Lines.{text_of}
@@ -26,7 +27,9 @@ use Rattle.fault_lines.specs.Counts.{Counts, HasDiskFault}
 use Rattle.fault_lines.specs.Lines.{topology_fault, script_fault, disk_fault_line, long_line, read_fault_line}
 use Rattle.shared_provider.specs.Book.{counted}
 use Rattle.race_run.specs.declared.item.Difference.{Difference}
-use Rattle.race_run.specs.Scripts.{start_of}
+use Rattle.race_run.specs.Scripts.{start_of, IsRace}
+use Rattle.race_command.specs.declared.command.Contest.{Contest}
+use Rattle.race_command.specs.Contests.{IsContest}
 use Rattle.race_threads.specs.Raced.{IsRaced, HasDiffered}
 use Rattle.race_command.specs.declared.ending.Outcome.{Outcome}
 use Rattle.race_command.specs.declared.ending.RaceEnd.{RaceEnd}
@@ -156,6 +159,22 @@ module _ (most : ℕ) (bytes : List ℕ) (before after : Counts) (o : Outcome) (
   pub comes_raced : (p : ℕ) (script : Script) → first_provider d.topology ≡ Some p → race_script_of d.topology p (d.lines + 1) d.behind.now ≡ Ok script → HasComeTo most d.topology p script before after o
       → ComesTo most bytes before after o
   comes_raced p script first e h = record { told = h.told; races = races_read p (Ok script) first e h.races; counts = h.counts }
+
+  pub comes_contest : (p : ℕ) (x : Contest) → first_provider d.topology ≡ Some p → IsContest d.topology p (d.lines + 1) d.behind.now x → HasComeTo most x.topology x.provider x.script before after o
+      → ComesTo most bytes before after o
+  comes_contest p x first c h =
+      comes_raced p x.script first c.reads
+      (subst (λ (y : Network). HasComeTo most y p x.script before after o) c.topology (subst (λ (n : ℕ). HasComeTo most x.topology n x.script before after o) c.provider h))
+
+-- a contest is one of its own provider
+pub raced_for : (t : Network) (p first_line : ℕ) (text : List ℕ) (x : Contest) → IsContest t p first_line text x → IsRace x.topology x.provider x.script
+raced_for t p first_line text x c = subst (λ (y : Network). IsRace y x.provider x.script) (sym c.topology) (subst (λ (n : ℕ). IsRace t n x.script) (sym c.provider) c.race)
+
+pub provided_for : (t : Network) (p first_line : ℕ) (text : List ℕ) (x : Contest) → IsContest t p first_line text x → IsProvider t p → IsProvider x.topology x.provider
+provided_for t p first_line text x c h = subst (λ (y : Network). IsProvider y x.provider) (sym c.topology) (subst (λ (n : ℕ). IsProvider t n) (sym c.provider) h)
+
+pub within_for : (t : Network) (p first_line : ℕ) (text : List ℕ) (x : Contest) → IsContest t p first_line text x → p < length t.agents → x.provider < length x.topology.agents
+within_for t p first_line text x c h = subst (λ (y : Network). x.provider < length y.agents) (sym c.topology) (subst (λ (n : ℕ). n < length t.agents) (sym c.provider) h)
 
 ---- What is written
 

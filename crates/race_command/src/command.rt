@@ -1,6 +1,6 @@
 //! A topology and a script come in, and what happened at the first provider of the topology goes out.
 
-ghost use Rattle.std.specs.Prelude.{◌≡◌, ◌≤◌, ◌<◌, ◌+◌, ◌⊎◌, ℕ, true, false, length, IfOk, IfSome, All};
+ghost use Rattle.std.specs.Prelude.{◌≡◌, ◌≤◌, ◌<◌, ◌+◌, ◌⊎◌, ℕ, true, false, length, Err, IfOk, IfErr, IfSome, All};
 ghost use Rattle.nsi_base.specs.Range.{greatest_input};
 ghost use Rattle.nsi_disk.specs.Disk.{Meter};
 ghost use Rattle.nsi_outside.specs.Stream.{WritesAll};
@@ -14,7 +14,10 @@ ghost use Rattle.shared_provider.specs.Book.{counted as counts};
 ghost use Rattle.race_run.specs.Scripts.{IsRace, start_of};
 ghost use Rattle.race_threads.specs.Raced.{IsRaced, HasFault};
 ghost use Rattle.race_command.specs.Ends.{Races, is_told, IsCutShort, WritesSome};
+ghost use Rattle.race_command.specs.Lines.{race_script_of};
 ghost use Rattle.race_command.specs.Outcomes.{HasRaced, HasComeTo, ComesTo};
+ghost use Rattle.race_command.specs.Contests.{IsContest, IsTopologyOf};
+ghost use Rattle.nsi_script.specs.Text.{Reads};
 
 use crate::ending::{Outcome, RaceEnd, bad_script, bad_topology, broken, close, too_long};
 use crate::reading::read_race;
@@ -215,6 +218,53 @@ fn read_again(alloc: Global, bytes: &[u8]) -> Result<Topology, AllocError>
     }
 }
 
+/// Races what stands behind a topology, over a book of the same topology, which is read once more for it.
+fn race_contest<R: Threads + Wait + Sync, H: Shelf>(
+    means: &Means<'_, R>,
+    bytes: &[u8],
+    contest: &Contest,
+    shelf: &mut H,
+) -> Result<Outcome, AllocError>
+where
+    H::Disk: Drop + Send,
+    requires size { length bytes.now ≤ greatest_input }
+    requires same { IsTopologyOf bytes.now contest.now.topology }
+    requires within { contest.now.provider < length contest.now.topology.agents }
+    requires provider { IsProvider contest.now.topology contest.now.provider }
+    requires race { IsRace contest.now.topology contest.now.provider contest.now.script }
+    ensures { IfOk result (HasComeTo means.now.most contest.now.topology
+        contest.now.provider contest.now.script
+        (counted 0 (H.faults shelf.old) (H.stops shelf.old))
+        (counted 0 (H.faults shelf.new) (H.stops shelf.new))) }
+{
+    let own = read_again(means.alloc, bytes)?;
+    race_script(means, contest, own, shelf)
+}
+
+/// The contest of a topology's provider that a text is.
+fn contest_of(
+    alloc: Global,
+    text: &[u8],
+    first_line: u32,
+    topology: Topology,
+    provider: AgentNo,
+) -> Result<Contest, ScriptRefusal>
+    requires text { length text.now ≤ greatest_input }
+    requires first_line { first_line ≤ greatest_input + 1 }
+    ensures contest { IfOk result (IsContest topology provider first_line text.now) }
+    ensures refused { IfErr result
+        (λ e. Reads (Err e) (race_script_of topology provider first_line text.now)) }
+{
+    match read_race(alloc, text, first_line, &topology, provider) {
+        Ok(script) => Ok(Contest {
+            topology,
+            provider,
+            script,
+        }),
+        Err(refusal) => Err(refusal),
+    }
+}
+
 /// Reads the script behind a topology, and races it.
 fn race_declared<R: Threads + Wait + Sync, H: Shelf>(
     means: &Means<'_, R>,
@@ -240,16 +290,8 @@ where
     let Some(provider) = topology.first_provider() else {
         return bad_topology(alloc, lines, TopologyFault::Empty);
     };
-    let own = read_again(alloc, bytes)?;
-    match read_race(alloc, behind, lines + 1, &topology, provider) {
-        Ok(script) => {
-            let contest = Contest {
-                topology,
-                provider,
-                script,
-            };
-            race_script(means, &contest, own, shelf)
-        }
+    match contest_of(alloc, behind, lines + 1, topology, provider) {
+        Ok(contest) => race_contest(means, bytes, &contest, shelf),
         Err(ScriptRefusal::Fault { line, fault }) => bad_script(alloc, line, fault),
         Err(ScriptRefusal::NoMemory) => Err(AllocError),
     }
