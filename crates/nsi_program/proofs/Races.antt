@@ -1,5 +1,5 @@
 -- A race, as the program tells it.
-use Rattle.std.proofs.Common.{◌≡◌, ℕ, true, false, Option, Some, None, inl, refl, sym, ◌∙◌}
+use Rattle.std.proofs.Common.{◌≡◌, ℕ, true, false, Option, Some, None, inl, refl, sym, ◌∙◌, subst}
 use Rattle.provide_command.specs.declared.status.Status.{Status}
 use Rattle.race_command.specs.declared.ending.RaceEnd.{RaceEnd}
 use Rattle.nsi_program.specs.Plain.{Outside}
@@ -43,3 +43,6 @@ not_both most said some none = absurd (apart (sym some ∙ none))
 
 pub same_limit : (a b : ℕ) → Some a ≡ Some b → a ≡ b
 same_limit a b e = cc
+
+pub at_limit : (a b : ℕ) (old new : Outside) (status : Status) → a ≡ b → EndsRace a old new status → EndsRace b old new status
+at_limit a b old new status e h = subst (λ (n : ℕ). EndsRace n old new status) e h

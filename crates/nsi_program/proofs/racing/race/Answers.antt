@@ -2,9 +2,9 @@ use Rattle.nsi_program.proofs.racing.race.Goals as goal
 
 pub returns-clause-raced : goal.returns-clause-raced
 returns-clause-raced g c =
-    let e = c.race.ensures in
+    let e = c.race-end.ensures in
     record {
-      end = c.race.result;
+      end = c.race-end.result;
       told = c.status_of.ensures.status;
       raced = record {
         ends = e.ends;

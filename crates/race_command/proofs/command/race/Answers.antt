@@ -35,10 +35,10 @@ returns-in-Ok g c =
     let before = counted (g.S.Source.faults c.args.input.now) (g.H.Shelf.faults c.args.shelf.now) (g.H.Shelf.stops c.args.shelf.now) in
     let after = counted (g.S.Source.faults c.read_whole.new.input) (g.H.Shelf.faults c.outcome_of.new.shelf) (g.H.Shelf.stops c.outcome_of.new.shelf) in
     let came : ComesTo most c.in-Ok-Some.bytes.items before after outcome = read_too most c.in-Ok-Some.bytes.items _ _ _ _ outcome
-        (subst (λ (b : List ℕ). ComesTo most b (counted 0 (g.H.Shelf.faults c.args.shelf.now) (g.H.Shelf.stops c.args.shelf.now)) (counted 0 (g.H.Shelf.faults c.outcome_of.new.shelf) (g.H.Shelf.stops c.outcome_of.new.shelf)) outcome) c.deref.ensures.value c.in-Ok.ensures) in
+    (subst (λ (b : List ℕ). ComesTo most b (counted 0 (g.H.Shelf.faults c.args.shelf.now) (g.H.Shelf.stops c.args.shelf.now)) (counted 0 (g.H.Shelf.faults c.outcome_of.new.shelf) (g.H.Shelf.stops c.outcome_of.new.shelf)) outcome) c.deref.ensures.value c.in-Ok.ensures) in
     let h = told_of most left (g.K.Sink.content c.args.out.now) (g.K.Sink.content c.close-in-Ok.new.out) before after (g.K.Sink.faults c.args.out.now) (g.K.Sink.faults c.close-in-Ok.new.out) outcome.end c.close-in-Ok.result
     outcome.text.items came.told came.counts (of_whole left c.in-Ok-Some.bytes.items (λ bytes. ComesTo most bytes before after outcome) (rw c.in-Ok-Some.field-0-is at c.in-Ok-Some.ensures.whole) came) c.in-Ok-Some.ensures.quiet
-        (subst (λ (b : List ℕ). Closes b outcome.end c.close-in-Ok.result (g.K.Sink.content c.args.out.now) (g.K.Sink.content c.close-in-Ok.new.out) (g.K.Sink.faults c.args.out.now) (g.K.Sink.faults c.close-in-Ok.new.out)) c.deref-in-Ok.ensures.value c.close-in-Ok.ensures) in
+    (subst (λ (b : List ℕ). Closes b outcome.end c.close-in-Ok.result (g.K.Sink.content c.args.out.now) (g.K.Sink.content c.close-in-Ok.new.out) (g.K.Sink.faults c.args.out.now) (g.K.Sink.faults c.close-in-Ok.new.out)) c.deref-in-Ok.ensures.value c.close-in-Ok.ensures) in
     record { ends = h.ends; read_fault = h.read_fault; alone = h.alone; write_fault = h.write_fault; disk_fault = h.disk_fault; unfinished = h.unfinished; quiet_in = h.quiet_in; quiet_out = h.quiet_out }
 
 pub returns-in-Err-NoMemory : goal.returns-in-Err-NoMemory
