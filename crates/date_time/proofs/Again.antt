@@ -1,8 +1,7 @@
 -- What is printed is read.
-use Rattle.std.proofs.Common.{◌≡◌, ℕ, zero, suc, ◌+◌, ◌-◌, ◌*◌, ◌/◌, ◌%◌, ◌<◌, ◌≤◌, ◌==◌, ◌&&◌, ◌||◌, nat_le, Bool, true, false, List, [], ◌∷◌, ◌++◌, Option, Some, None, inl, inr, refl, sym, ap, subst, ◌∙◌, arith, ℤ, pos, neg_ℤ, ◌+ℤ◌, ◌-ℤ◌, ◌*ℤ◌, ◌≤ℤ◌, if◌then◌else◌, to_z}
+use Rattle.std.proofs.Common.{◌≡◌, ℕ, ◌+◌, ◌-◌, ◌*◌, ◌/◌, ◌%◌, ◌<◌, ◌≤◌, ◌==◌, ◌&&◌, nat_le, true, List, [], ◌∷◌, ◌++◌, Some, None, refl, subst, arith, ℤ, pos, ◌+ℤ◌, ◌-ℤ◌, ◌*ℤ◌, to_z}
 use Rattle.std.proofs.lemmas.Bool.Decides.{nat_tests}
 use Rattle.nsi_base.specs.Digits.{is_digit}
-use Rattle.nsi_base.specs.Options.{◌>>=◌}
 use Rattle.nsi_base.specs.Range.{within, greatest_second}
 use Rattle.std.specs.Int.{IsInRange, w8, w16}
 use Rattle.jiff_core.specs.declared.civil.date.Date.{Date}
@@ -10,10 +9,9 @@ use Rattle.jiff_core.specs.Calendar.{days_in_month, days_from_civil, IsCivilDate
 use Rattle.jiff_core.specs.Date.{epoch_day, IsYmd}
 use Rattle.jiff_core.proofs.SignedLemmas.{signed_arith, signed_casts}
 use Rattle.jiff_core.proofs.CalendarLemmas.{days_in_month_bounds}
-use Rattle.date_time.specs.Text.{two_digits, four_digits, date_text, time_text, date_time_text, year_of, month_of, day_of, day_text, clock_text, text_of}
+use Rattle.date_time.specs.Text.{two_digits, four_digits, date_text, time_text, date_time_text, year_of, month_of, day_of, text_of}
 use Rattle.date_time.specs.Reading.{two_at, four_at, field_at, behind, behind_letter, days_to, date_at, minutes_at, time_at, behind_fraction, offset_of, on_time_line, second_of}
-use Rattle.date_time.proofs.Dates.{IsDateOf, date_is}
-use borrow.Author.Differences.{up, down}
+use Rattle.date_time.proofs.Dates.{date_is}
 
 pub two_read : (n : ℕ) (rest : List ℕ) → n < 100 → two_at (two_digits n ++ rest) ≡ Some (n, rest)
 unfolding two_at

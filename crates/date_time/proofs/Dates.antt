@@ -1,15 +1,14 @@
 -- Each day has its date: the year that has begun last, its month that has begun last, and the days since.
-use Rattle.std.proofs.Common.{◌≡◌, ℕ, zero, suc, ◌+◌, ◌-◌, ◌<◌, ◌≤◌, Bool, true, false, inl, inr, refl, sym, subst, ◌∙◌, arith, ℤ, pos, neg_ℤ, ◌+ℤ◌, ◌-ℤ◌, ◌<ℤ◌, ◌≤ℤ◌, unsigned_abs, int_le}
+use Rattle.std.proofs.Common.{◌≡◌, ℕ, zero, suc, ◌+◌, ◌<◌, ◌≤◌, Bool, true, false, inl, inr, refl, sym, subst, ◌∙◌, arith, ℤ, pos, ◌+ℤ◌, ◌-ℤ◌, ◌<ℤ◌, ◌≤ℤ◌, unsigned_abs, int_le}
 use Rattle.std.proofs.lemmas.Bool.{cases_order}
 use Rattle.std.proofs.lemmas.Int.{by_lt_z}
 use Rattle.jiff_core.specs.declared.civil.date.Date.{Date}
-use Rattle.jiff_core.specs.Calendar.{days_from_civil, day_count, days_in_month, IsCivilDate}
+use Rattle.jiff_core.specs.Calendar.{days_from_civil, days_in_month, IsCivilDate}
 use Rattle.jiff_core.specs.Date.{epoch_day}
 use Rattle.jiff_core.proofs.SignedLemmas.{signed_arith, one_part}
-use Rattle.jiff_core.proofs.CalendarLemmas.{days_from_civil-day_count, day_count-day, day_count-lt_year, day_count-later_year, day_count-next_month, day_count-next_year, day_count-last_of_year, day_count-end, day_count-epoch}
+use Rattle.jiff_core.proofs.CalendarLemmas.{days_from_civil-day_count, day_count-day, day_count-later_year, day_count-next_month, day_count-next_year, day_count-last_of_year, day_count-end, day_count-epoch}
 use Rattle.jiff_core.proofs.DateLemmas.{epoch_day_injective}
 use Rattle.date_time.specs.Text.{last_begun, year_of, month_in, month_of, day_of}
-use borrow.Author.Differences.{up, down}
 
 -- k has begun, and if it isn't the bound, the next hasn't
 record IsLast (first : ℕ → ℤ) (day : ℤ) (bound k : ℕ) : Type 0 where

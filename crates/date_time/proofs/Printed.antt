@@ -1,18 +1,16 @@
 -- A text in the printed form is the text of the second that it is read as.
-use Rattle.std.proofs.Common.{◌≡◌, ℕ, zero, suc, ◌+◌, ◌-◌, ◌*◌, ◌/◌, ◌%◌, ◌<◌, ◌≤◌, ◌&&◌, nat_le, Bool, true, false, List, [], ◌∷◌, ◌++◌, Option, Some, None, is_some, unwrap_or, if◌then◌else◌, inl, inr, refl, sym, ap, ◌∙◌, arith, ℤ, pos, negsuc, ◌+ℤ◌, ◌-ℤ◌, ◌*ℤ◌}
+use Rattle.std.proofs.Common.{◌≡◌, ℕ, ◌+◌, ◌*◌, ◌/◌, ◌%◌, ◌<◌, ◌≤◌, ◌&&◌, nat_le, Bool, true, false, List, [], ◌∷◌, ◌++◌, Option, Some, None, is_some, unwrap_or, if◌then◌else◌, inl, inr, refl, sym, ap, ◌∙◌, arith, ℤ, pos, negsuc, ◌+ℤ◌, ◌-ℤ◌, ◌*ℤ◌}
 use Rattle.std.proofs.lemmas.Bool.{cases_order}
 use Rattle.std.proofs.lemmas.Bool.Decides.{nat_tests}
-use Rattle.nsi_base.specs.Range.{within, greatest_second}
+use Rattle.nsi_base.specs.Range.{greatest_second}
 use Rattle.jiff_core.specs.declared.civil.date.Date.{Date}
 use Rattle.jiff_core.specs.Calendar.{days_in_month, days_from_civil, IsCivilDate}
 use Rattle.jiff_core.proofs.SignedLemmas.{signed_arith}
-use Rattle.jiff_core.proofs.DateLemmas.{epoch_day_injective}
-use Rattle.date_time.specs.Text.{two_digits, date_text, time_text, date_time_text, year_of, month_of, day_of, day_text, clock_text, text_of}
+use Rattle.date_time.specs.Text.{two_digits, date_text, time_text, date_time_text, year_of, text_of}
 use Rattle.date_time.specs.Reading.{field_at, days_to, date_at, minutes_at, time_at, on_time_line, second_of}
 use Rattle.date_time.specs.Laws.{IsPrintedAgain}
-use Rattle.date_time.proofs.Dates.{IsSame, date_only}
-use Rattle.date_time.proofs.Again.{two_read, four_read, in_within, not_within, field_read, first_behind, behind_t, days_read, date_read, minutes_read, time_read, ending, utc}
-use borrow.Author.Differences.{up, down}
+use Rattle.date_time.proofs.Dates.{date_only}
+use Rattle.date_time.proofs.Again.{two_read, four_read, in_within, not_within, field_read, first_behind, behind_t, date_read, minutes_read, time_read, ending, utc}
 
 by_bool : {P : Type 0} (b : Bool) → (b ≡ true → P) → (b ≡ false → P) → P
 by_bool true t f = t refl

@@ -36,12 +36,12 @@ digits_then n rest h k =
 
 pub spelled_text : (y m d h mi s : ℕ) → y < 10000 → m < 100 → d < 100 → h < 100 → mi < 100 → s < 100 → IsUtf8 (date_time_text y m d h mi s)
 spelled_text y m d h mi s a b c e f g =
-    let end = 90 ∷ [] in
-    let second = 58 ∷ two_digits s ++ end in
-    let minute = 58 ∷ two_digits mi ++ second in
-    let hour = 84 ∷ two_digits h ++ minute in
-    let day = 45 ∷ two_digits d ++ hour in
-    let month = 45 ∷ two_digits m ++ day in
+    let end : List ℕ = 90 ∷ [] in
+    let second : List ℕ = 58 ∷ two_digits s ++ end in
+    let minute : List ℕ = 58 ∷ two_digits mi ++ second in
+    let hour : List ℕ = 84 ∷ two_digits h ++ minute in
+    let day : List ℕ = 45 ∷ two_digits d ++ hour in
+    let month : List ℕ = 45 ∷ two_digits m ++ day in
     let at_end = byte_then 90 [] refl refl in
     let at_second = byte_then 58 (two_digits s ++ end) refl (digits_then s end g at_end) in
     let at_minute = byte_then 58 (two_digits mi ++ second) refl (digits_then mi second f at_second) in

@@ -1,7 +1,5 @@
-use Rattle.std.proofs.Common.{◌≡◌, ℕ, pos, unsigned_abs, refl, sym, ap, ◌∙◌, arith}
-use Rattle.jiff_core.specs.Date.{epoch_day}
+use Rattle.std.proofs.Common.{arith}
 use Rattle.jiff_core.proofs.SignedLemmas.{signed_arith, signed_casts}
-use Rattle.date_time.specs.Text.{year_of}
 use Rattle.date_time.proofs.Dates.{IsSame, date_only}
 use Rattle.date_time.proofs.printing.date_of.Goals as goal
 
