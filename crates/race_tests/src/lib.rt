@@ -1,5 +1,0 @@
-//! Tests alone: requesters that race for one provider.
-#![tactic(auto)]
-
-#[cfg(test)]
-mod racing;
