@@ -8,6 +8,7 @@ pub mod Allowed
 pub mod Answered
 pub mod Entering
 pub mod Stepping
+pub mod Stopping
 pub mod Making
 pub mod Resting
 pub mod Filtering

@@ -8,7 +8,7 @@ use Rattle.stp_topology.specs.declared.network.Network.{Network}
 use Rattle.stp_topology.specs.Network.{agent_of}
 use Rattle.nsi_disk.specs.Disk.{Meter}
 use Rattle.journal_entry.specs.declared.journal.JournalFault.{JournalFault}
-use Rattle.journal_entry.specs.Journal.{Kept as Journaled, Adds, HasJournalCause}
+use Rattle.journal_entry.specs.Journal.{Kept as Journaled, Adds, HasJournalCause, KeepsOneOf}
 use Rattle.nsi_agent.specs.Homes.{Home, Routes, home_in}
 use Rattle.agent_node.specs.declared.fault.TurnFault.{TurnFault}
 use Rattle.agent_node.specs.Doors.{Door}
@@ -16,14 +16,17 @@ use Rattle.agent_node.specs.Passing.{says_all}
 use Rattle.agent_node.specs.Seat.{Seat}
 use Rattle.agent_node.specs.Turns.{lying, cleared, adds, syncs, syncs_if, synced_all, sync_event, pushed, turn_entered, turn_with}
 use Rattle.agent_node.specs.Faults.{fault_by}
-use Rattle.agent_node.specs.Seated.{Seated, AtSeat, Stays, Goes}
-use Rattle.agent_node.specs.Kept.{Kept, kept_with, IsSameAgent}
+use Rattle.agent_node.specs.Seated.{Seated, AtSeat, IsSameCore, Stays, Goes}
+use Rattle.agent_node.specs.Kept.{Kept, kept_with, first_kept, IsSameAgent}
 use Rattle.agent_node.specs.Made.{HasTurnCause, IsSynced, IsTurnWith, IsTurn, unsynced, turn_keeps}
 use Rattle.agent_node.proofs.Growing.{count, turn_synced, turn_from_entered}
 use Rattle.agent_node.proofs.Stepping.{none, no_fault, at_before}
 
-same_agent : (a b : Seated) (z y : Option TurnFault) (m n : Meter) (k j : Option Journaled) → Stays a b → IsSameAgent (kept_with a z m k) (kept_with b y n j)
+same_agent : (a b : Seated) (z y : Option TurnFault) (m n : Meter) (k j : Option Journaled) → IsSameCore a b → IsSameAgent (kept_with a z m k) (kept_with b y n j)
 same_agent a b z y m n k j s = record { network = s.network; number = s.number; others = s.others }
+
+same_core : (a b : Seated) → Stays a b → IsSameCore a b
+same_core a b s = record { network = s.network; number = s.number; plugs = s.plugs; others = s.others }
 
 -- the disk was not called
 pub no_call : (m : Meter) (z : Option TurnFault) → (z ≡ Some TurnFault.DiskFault → ⊥) → (z ≡ Some TurnFault.Stopped → ⊥) → HasTurnCause m m z
@@ -90,6 +93,9 @@ made_none room c m k e w = record {
   kept = λ routes are z. subst (λ es. Adds es k k) (sym e) (adds_none k w);
   fits = λ routes are z. let same = ap (λ (s : Seat). count s) (none_fresh (home_in c.network routes c.seat.number) c.seat e) in omega (arith, same);
   long = λ routes are z. absurd (cc);
+  halted = λ routes are e. absurd (cc);
+  either = λ e. absurd (cc);
+  front = λ e. absurd (cc);
   cause = no_call m None (λ z. cc) (λ z. cc);
   same = record { network = refl; number = refl; others = refl };
   plugs = refl;
@@ -102,6 +108,9 @@ made_long c m k room none some = record {
   kept = λ routes are z. absurd (cc);
   fits = λ routes are z. absurd (cc);
   long = λ routes are z. let more = sync_event_more (home_in c.network routes c.seat.number) c.seat some in omega (arith, none, more);
+  halted = λ routes are e. absurd (cc);
+  either = λ e. absurd (cc);
+  front = λ e. absurd (cc);
   cause = no_call m (Some TurnFault.Long) (λ z. cc) (λ z. cc);
   same = record { network = refl; number = refl; others = refl };
   plugs = refl;
@@ -119,12 +128,15 @@ not_long JournalFault.NoMemory z = cc
 
 -- the journal failed
 pub made_failed : {T : Type 0} (room : ℕ) (c : Seated) (m n : Meter) (k j : Option Journaled) (r : Result T JournalFault) (e : JournalFault) → r ≡ Err e → HasJournalCause m n r
-    → IsSynced room (kept_with c None m k) (kept_with c (Some (fault_by e)) n j)
-made_failed room c m n k j r e h cause = record {
+    → KeepsOneOf c.seat.fresh k j → first_kept c.seat.synced j ≡ k → IsSynced room (kept_with c None m k) (kept_with c (Some (fault_by e)) n j)
+made_failed room c m n k j r e h cause either front = record {
   ok = λ routes are z. no_fault (fault_by e) z;
   kept = λ routes are z. no_fault (fault_by e) z;
   fits = λ routes are z. no_fault (fault_by e) z;
   long = λ routes are z. absurd (not_long e z);
+  halted = λ routes are z. refl;
+  either = λ z. either;
+  front = λ z. front;
   cause = failed_by m n r e h cause;
   same = record { network = refl; number = refl; others = refl };
   plugs = refl;
@@ -136,13 +148,16 @@ kept_by {T} m n r x z h c p q =
     record { faults = c.faults; stops = c.stops; quiet = λ e. d.quiet; calm = λ e. d.calm; failed = λ e. absurd (p e); stopped = λ e. absurd (q e) }
 
 -- it is kept, and memory is wanting then
-pub made_lack : {T : Type 0} (room : ℕ) (c d : Seated) (m n : Meter) (k j : Option Journaled) (r : Result T JournalFault) (x : T) → r ≡ Ok x → HasJournalCause m n r → Stays c d
+pub made_lack : {T : Type 0} (room : ℕ) (c d : Seated) (m n : Meter) (k j : Option Journaled) (r : Result T JournalFault) (x : T) → r ≡ Ok x → HasJournalCause m n r → IsSameCore c d
     → IsSynced room (kept_with c None m k) (kept_with d (Some TurnFault.NoMemory) n j)
 made_lack room c d m n k j r x h cause s = record {
   ok = λ routes are z. absurd (cc);
   kept = λ routes are z. absurd (cc);
   fits = λ routes are z. absurd (cc);
   long = λ routes are z. absurd (cc);
+  halted = λ routes are e. absurd (cc);
+  either = λ e. absurd (cc);
+  front = λ e. absurd (cc);
   cause = kept_by m n r x (Some TurnFault.NoMemory) h cause (λ z. cc) (λ z. cc);
   same = same_agent c d None (Some TurnFault.NoMemory) m n k j s;
   plugs = s.plugs;
@@ -150,12 +165,15 @@ made_lack room c d m n k j r x h cause s = record {
 
 -- it is kept, and told
 pub made_synced : {T : Type 0} (room : ℕ) (c d : Seated) (m n : Meter) (k j : Option Journaled) (r : Result T JournalFault) (x : T) → r ≡ Ok x → HasJournalCause m n r → Adds c.seat.fresh k j
-    → 0 < room → 0 < length c.seat.fresh → AtSeat c (λ h. d.seat ≡ syncs h c.seat) → Stays c d → IsSynced room (kept_with c None m k) (kept_with d None n j)
+    → 0 < room → 0 < length c.seat.fresh → AtSeat c (λ h. d.seat ≡ syncs h c.seat) → IsSameCore c d → IsSynced room (kept_with c None m k) (kept_with d None n j)
 made_synced room c d m n k j r x h cause adds more some told s = record {
   ok = λ routes are z. told routes are ∙ sym (some_fresh (home_in c.network routes c.seat.number) c.seat some);
   kept = λ routes are z. adds;
   fits = λ routes are z. let one = sync_event_more (home_in c.network routes c.seat.number) c.seat some in omega (arith, one, more);
   long = λ routes are z. absurd (cc);
+  halted = λ routes are e. absurd (cc);
+  either = λ e. absurd (cc);
+  front = λ e. absurd (cc);
   cause = kept_by m n r x None h cause (λ z. cc) (λ z. cc);
   same = same_agent c d None None m n k j s;
   plugs = s.plugs;
@@ -181,8 +199,11 @@ turn_stops xs room l c d z m k g = record {
       let far : room + count c.seat < count (turn_entered (home_in c.network routes c.seat.number) xs c.seat) = g.long routes are e in
       let all = turn_from_entered (home_in c.network routes c.seat.number) xs c.seat in
       omega (arith, far, all);
+  halted = λ routes are e. absurd (g.stopped e);
+  either = λ e. absurd (g.stopped e);
+  front = λ e. absurd (g.stopped e);
   cause = no_call m (Some z) g.failed g.stopped;
-  same = same_agent c d None (Some z) m m k k g.stays;
+  same = same_agent c d None (Some z) m m k k (same_core c d g.stays);
   plugs = g.stays.plugs;
 }
 
@@ -201,6 +222,9 @@ turn_unsynced xs room l a b c z m n k j g p = record {
       let all = turn_synced h xs a.seat in
       let spent = g.spent refl in
       omega (arith, far, same, all, spent);
+  halted = λ routes are e. at_before a b (λ o. Some z ≡ Some TurnFault.Stopped → c.seat ≡ b.seat) g.stays p.halted routes are e ∙ g.ok routes are refl;
+  either = p.either;
+  front = p.front;
   cause = p.cause;
   same = record { network = p.same.network ∙ g.stays.network; number = p.same.number ∙ g.stays.number; others = p.same.others ∙ g.stays.others };
   plugs = p.plugs ∙ g.stays.plugs;
@@ -214,6 +238,9 @@ turn_unpushed xs room l a b c d m n k j g p s = record {
   kept = λ routes are e. absurd (cc);
   fits = λ routes are e. absurd (cc);
   long = λ routes are e. absurd (cc);
+  halted = λ routes are e. absurd (cc);
+  either = λ e. absurd (cc);
+  front = λ e. absurd (cc);
   cause = record { faults = p.cause.faults; stops = p.cause.stops; quiet = λ e. absurd (cc); calm = λ e. absurd (cc); failed = λ e. absurd (cc); stopped = λ e. absurd (cc) };
   same = record { network = s.network ∙ (p.same.network ∙ g.stays.network); number = s.number ∙ (p.same.number ∙ g.stays.number); others = s.others ∙ (p.same.others ∙ g.stays.others) };
   plugs = s.plugs ∙ (p.plugs ∙ g.stays.plugs);
@@ -227,7 +254,7 @@ turn_made xs room l a b c d m n k j g p s e = record {
       e ∙ (ap pushed (at_before a b (λ o. none ≡ None → c.seat ≡ synced_all o b.seat) g.stays p.ok routes are refl)
       ∙ (ap (λ x. pushed (synced_all h x)) (g.ok routes are refl) ∙ sym (turn_is h xs a.seat)));
   kept = λ routes are z.
-      subst (λ (x : Seat). Adds x.fresh k j) (g.ok routes are refl) (at_before a b (λ o. none ≡ None → Adds (unsynced o b.seat) k j) g.stays p.kept routes are refl);
+      subst (λ (x : Seat). Adds x.fresh k j) (g.ok routes are refl) (at_before a b (λ o. none ≡ None → Adds (unsynced o b.seat).fresh k j) g.stays p.kept routes are refl);
   fits = λ routes are z.
       let h = home_in a.network routes a.seat.number in
       let within : count (synced_all h b.seat) ≤ count b.seat + l =
@@ -237,6 +264,9 @@ turn_made xs room l a b c d m n k j g p s e = record {
       let spent = g.spent refl in
       omega (arith, within, same, all, spent);
   long = λ routes are z. absurd (cc);
+  halted = λ routes are e. absurd (cc);
+  either = λ e. absurd (cc);
+  front = λ e. absurd (cc);
   cause = p.cause;
   same = record { network = s.network ∙ (p.same.network ∙ g.stays.network); number = s.number ∙ (p.same.number ∙ g.stays.number); others = s.others ∙ (p.same.others ∙ g.stays.others) };
   plugs = s.plugs ∙ (p.plugs ∙ g.stays.plugs);
@@ -250,7 +280,7 @@ turn_gathered room a b xs m k c s e f t = record {
   ok = λ routes are z.
       at_before a b (λ h. c.fault ≡ None → c.seat ≡ turn_with h xs b.seat) s t.ok routes are z ∙ same routes;
   kept = λ routes are z.
-      subst (λ (es : List Entry). Adds es k c.kept) (same_keeps routes) (at_before a b (λ h. c.fault ≡ None → Adds (turn_keeps h xs b.seat) k c.kept) s t.kept routes are z);
+      subst (λ (x : Seat). Adds x.fresh k c.kept) (same_entered routes) (at_before a b (λ h. c.fault ≡ None → Adds (turn_keeps h xs b.seat) k c.kept) s t.kept routes are z);
   fits = λ routes are z.
       let within : count (turn_with (home_in a.network routes a.seat.number) xs b.seat) ≤ count b.seat + room =
       at_before a b (λ h. c.fault ≡ None → count (turn_with h xs b.seat) ≤ count b.seat + room) s t.fits routes are z in
@@ -263,6 +293,10 @@ turn_gathered room a b xs m k c s e f t = record {
       let these = ap (λ (x : Seat). count x) (same routes) in
       let before = ap (λ (x : Seat). count x) e in
       omega (arith, far, these, before);
+  halted = λ routes are z.
+      at_before a b (λ h. c.fault ≡ Some TurnFault.Stopped → c.seat ≡ turn_entered h xs b.seat) s t.halted routes are z ∙ same_entered routes;
+  either = t.either;
+  front = t.front;
   cause = t.cause;
   same = record { network = t.same.network ∙ s.network; number = t.same.number ∙ s.number; others = t.same.others ∙ s.others };
   plugs = t.plugs ∙ s.plugs;
@@ -270,8 +304,9 @@ turn_gathered room a b xs m k c s e f t = record {
   same : (routes : Routes) → turn_with (home_in a.network routes a.seat.number) xs b.seat ≡ turn_with (home_in a.network routes a.seat.number) (lying a.seat.doors) (cleared a.seat)
   same routes = ap (λ ys. turn_with (home_in a.network routes a.seat.number) ys b.seat) f ∙ ap (turn_with (home_in a.network routes a.seat.number) (lying a.seat.doors)) e
 
-  same_keeps : (routes : Routes) → turn_keeps (home_in a.network routes a.seat.number) xs b.seat ≡ turn_keeps (home_in a.network routes a.seat.number) (lying a.seat.doors) (cleared a.seat)
-  same_keeps routes = ap (λ ys. turn_keeps (home_in a.network routes a.seat.number) ys b.seat) f ∙ ap (turn_keeps (home_in a.network routes a.seat.number) (lying a.seat.doors)) e
+  same_entered : (routes : Routes) → turn_entered (home_in a.network routes a.seat.number) xs b.seat ≡ turn_entered (home_in a.network routes a.seat.number) (lying a.seat.doors) (cleared a.seat)
+  same_entered routes =
+      ap (λ ys. turn_entered (home_in a.network routes a.seat.number) ys b.seat) f ∙ ap (turn_entered (home_in a.network routes a.seat.number) (lying a.seat.doors)) e
 
 pub turn_ungathered : (room : ℕ) (a b : Seated) (m : Meter) (k : Option Journaled) → Stays a b → IsTurn room (kept_with a None m k) (kept_with b (Some TurnFault.NoMemory) m k)
 turn_ungathered room a b m k s = record {
@@ -279,7 +314,10 @@ turn_ungathered room a b m k s = record {
   kept = λ routes are e. absurd (cc);
   fits = λ routes are e. absurd (cc);
   long = λ routes are e. absurd (cc);
+  halted = λ routes are e. absurd (cc);
+  either = λ e. absurd (cc);
+  front = λ e. absurd (cc);
   cause = no_call m (Some TurnFault.NoMemory) (λ z. cc) (λ z. cc);
-  same = same_agent a b None (Some TurnFault.NoMemory) m m k k s;
+  same = same_agent a b None (Some TurnFault.NoMemory) m m k k (same_core a b s);
   plugs = s.plugs;
 }

@@ -102,6 +102,9 @@ made_quiet room c m k quiet w = record {
   kept = λ routes are z. subst (λ es. Adds es k k) (sym (keeps_none (home_in c.network routes c.seat.number) c.seat (rests_at routes are))) (adds_none k w);
   fits = λ routes are z. let same = ap (λ (s : Seat). length s.events) (turned_quiet (home_in c.network routes c.seat.number) c.seat (rests_at routes are)) in omega (arith, same);
   long = λ routes are z. absurd (cc);
+  halted = λ routes are z. absurd (cc);
+  either = λ z. absurd (cc);
+  front = λ z. absurd (cc);
   cause = no_call m None (λ z. cc) (λ z. cc);
   same = record { network = refl; number = refl; others = refl };
   plugs = refl;

@@ -15,7 +15,7 @@ pub no_fault : {A : Type 0} (z : TurnFault) → Some z ≡ None → A
 no_fault z e = absurd (cc)
 
 pub stays_same : (a : Seated) → Stays a a
-stays_same a = record { network = refl; number = refl; plugs = refl; others = refl }
+stays_same a = record { network = refl; number = refl; plugs = refl; others = refl; synced = refl }
 
 pub stays_twice : (a b c : Seated) → Stays a b → Stays b c → Stays a c
 stays_twice a b c p q = record {
@@ -23,6 +23,7 @@ stays_twice a b c p q = record {
   number = q.number ∙ p.number;
   plugs = q.plugs ∙ p.plugs;
   others = q.others ∙ p.others;
+  synced = q.synced ∙ p.synced;
 }
 
 -- what is true at the homes of an agent is so at those that it had

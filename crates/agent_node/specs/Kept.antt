@@ -1,9 +1,10 @@
 -- An agent with its journal and its links, as its contracts see it.
-use Rattle.std.specs.Prelude.{◌≡◌, ℕ, List, [], ◌∷◌, length, map, Option, Some, None, Result, Ok, Err}
+use Rattle.std.specs.Prelude.{◌≡◌, ℕ, Bool, false, List, [], ◌∷◌, length, map, take, Option, Some, None, IfSome, Result, Ok, Err}
 use Rattle.std.specs.List.{All}
+use Rattle.nsi_primitive.specs.declared.entry.Entry.{Entry}
 use Rattle.stp_topology.specs.declared.network.Network.{Network}
-use Rattle.nsi_disk.specs.Disk.{Meter}
-use Rattle.journal_entry.specs.Journal.{Kept as Journaled}
+use Rattle.nsi_disk.specs.Disk.{History, Meter}
+use Rattle.journal_entry.specs.Journal.{Kept as Journaled, MayLeaveWith}
 use Rattle.agent_link.specs.Link.{Half, OutHalf, Wire}
 use Rattle.agent_link.specs.Plans.{Plan}
 use Rattle.agent_node.specs.declared.fault.TurnFault.{TurnFault}
@@ -26,6 +27,27 @@ pub record Kept : Type 0 where
 abbrev pub kept_with : Seated → Option TurnFault → Meter → Option Journaled → Kept
 kept_with s fault meter kept =
     record { network = s.network; seat = s.seat; plugs = s.plugs; fault = fault; meter = meter; kept = kept }
+
+---- Its journal
+
+-- its journal has so many synced entries, where this is told
+abbrev pub HasSynced : ℕ → Option Journaled → Type 0
+HasSynced count kept = IfSome kept (λ k. length k.synced ≡ count)
+
+-- the first of the entries that are kept, so many, and none that waits
+abbrev pub first_kept : ℕ → Option Journaled → Option Journaled
+first_kept count None = None
+first_kept count (Some k) = Some (record { synced = take count k.synced; waiting = [] })
+
+-- a crash now leaves the entries that the agent knows as synced, or these with its fresh ones behind them
+abbrev pub LeavesBatch : (List ℕ → Result (List Entry) ℕ) → Seat → Option Journaled → Option History → Type 0
+LeavesBatch reading s kept now = MayLeaveWith reading s.fresh (first_kept s.synced kept) now
+
+-- Where no call has failed, the journal may be used, no batch waits, and it has as many synced entries as the agent knows; where its disk
+-- has stopped, a crash leaves those, or also the agent's fresh ones.
+abbrev pub IsHeld : (List ℕ → Result (List Entry) ℕ) → (ready : Type 0) → (waits : Bool) → Option Journaled → Option History → Seat → Option TurnFault → Type 0
+IsHeld reading ready waits kept now s fault =
+    (fault ≡ None → ready × (waits ≡ false) × HasSynced s.synced kept) × (fault ≡ Some TurnFault.Stopped → LeavesBatch reading s kept now)
 
 ---- Links
 

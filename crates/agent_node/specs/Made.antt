@@ -3,12 +3,12 @@ use Rattle.std.specs.Prelude.{◌≡◌, ◌≤◌, ◌<◌, ◌+◌, ℕ, List,
 use Rattle.nsi_primitive.specs.declared.entry.Entry.{Entry}
 use Rattle.nsi_primitive.specs.declared.message.Parcel.{Parcel}
 use Rattle.nsi_disk.specs.Disk.{Meter}
-use Rattle.journal_entry.specs.Journal.{Adds}
+use Rattle.journal_entry.specs.Journal.{Adds, KeepsOneOf}
 use Rattle.nsi_agent.specs.Homes.{Home}
 use Rattle.agent_node.specs.declared.fault.TurnFault.{TurnFault}
 use Rattle.agent_node.specs.Seat.{Seat}
-use Rattle.agent_node.specs.Turns.{lying, cleared, synced_all, turn_entered, turn_with, turned}
-use Rattle.agent_node.specs.Kept.{Kept, IsSameAgent}
+use Rattle.agent_node.specs.Turns.{lying, cleared, synced_all, turn_entered, turn_with, turned, halted}
+use Rattle.agent_node.specs.Kept.{Kept, IsSameAgent, first_kept}
 use Rattle.agent_node.specs.Seated.{At}
 
 -- so it is of an agent, whichever legs are those of the least paths
@@ -32,28 +32,33 @@ pub record HasTurnCause (old new : Meter) (fault : Option TurnFault) : Type 0 wh
   pub failed : fault ≡ Some TurnFault.DiskFault → old.faults < new.faults
   pub stopped : fault ≡ Some TurnFault.Stopped → old.stops < new.stops
 
--- A turn that had room for so many events, and with no fault makes this of an agent, and keeps these entries. The fault Long comes
--- exactly where more events were to be made.
-pub record IsMade (f : Home → Seat → Seat) (g : Home → Seat → List Entry) (room : ℕ) (old new : Kept) : Type 0 where
+-- A turn that had room for so many events, whose first part is e, which enters entries. Without a fault it makes f of an agent, and keeps
+-- what is fresh behind e. The fault Long comes exactly where more events were to be made. Where the disk stops, e alone was made of the
+-- agent; what its journal kept is the front of what it keeps then, alone or with what is fresh.
+pub record IsMade (f e : Home → Seat → Seat) (room : ℕ) (old new : Kept) : Type 0 where
   pub ok : AtHome old (λ h. new.fault ≡ None → new.seat ≡ f h old.seat)
-  pub kept : AtHome old (λ h. new.fault ≡ None → Adds (g h old.seat) old.kept new.kept)
+  pub kept : AtHome old (λ h. new.fault ≡ None → Adds (e h old.seat).fresh old.kept new.kept)
   pub fits : AtHome old (λ h. new.fault ≡ None → length (f h old.seat).events ≤ length old.seat.events + room)
   pub long : AtHome old (λ h. new.fault ≡ Some TurnFault.Long → length old.seat.events + room < length (f h old.seat).events)
+  pub halted : AtHome old (λ h. new.fault ≡ Some TurnFault.Stopped → new.seat ≡ e h old.seat)
+  pub either : new.fault ≡ Some TurnFault.Stopped → KeepsOneOf new.seat.fresh old.kept new.kept
+  pub front : new.fault ≡ Some TurnFault.Stopped → first_kept new.seat.synced new.kept ≡ old.kept
   pub cause : HasTurnCause old.meter new.meter new.fault
   pub same : IsSameAgent old new
   pub plugs : new.plugs ≡ old.plugs
 
 -- a turn, in which it takes these parcels
 abbrev pub IsTurnWith : List (ℕ × Parcel) → ℕ → Kept → Kept → Type 0
-IsTurnWith xs room old new = IsMade (λ h s. turn_with h xs s) (λ h s. turn_keeps h xs s) room old new
+IsTurnWith xs room old new = IsMade (λ h s. turn_with h xs s) (λ h s. turn_entered h xs s) room old new
 
 -- a turn, in which it takes what came
 abbrev pub IsTurn : ℕ → Kept → Kept → Type 0
-IsTurn room old new = IsMade turned keeps room old new
+IsTurn room old new = IsMade turned halted room old new
+
+-- nothing is entered
+abbrev pub unsynced : Home → Seat → Seat
+unsynced h s = s
 
 -- what isn't synced is synced, and kept
-abbrev pub unsynced : Home → Seat → List Entry
-unsynced h s = s.fresh
-
 abbrev pub IsSynced : ℕ → Kept → Kept → Type 0
 IsSynced room old new = IsMade synced_all unsynced room old new

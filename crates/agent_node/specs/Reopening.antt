@@ -1,5 +1,5 @@
 -- A journal that is read again, and the agent that is made anew from it.
-use Rattle.std.specs.Prelude.{◌≡◌, ◌<◌, ℕ, List, [], Option, Some, None, Result, IfSome}
+use Rattle.std.specs.Prelude.{◌≡◌, ◌<◌, ◌⊎◌, ◌++◌, ℕ, List, [], Option, Some, None, Result, IfSome}
 use Rattle.nsi_primitive.specs.declared.entry.Entry.{Entry}
 use Rattle.nsi_disk.specs.Disk.{History, MayLeave}
 use Rattle.nsi_disk.specs.ShelfCounts.{Raised}
@@ -8,7 +8,7 @@ use Rattle.journal_entry.specs.Journal.{Kept as Journaled}
 pub use Rattle.journal_entry.specs.Journal.{HasSameCounts}
 use Rattle.disk_journal.specs.declared.opening.StartCause.{StartCause}
 use Rattle.agent_node.specs.declared.reopen.ReopenFault.{ReopenFault}
-use Rattle.agent_node.specs.Kept.{Kept, IsSameAgent}
+use Rattle.agent_node.specs.Kept.{Kept, IsSameAgent, first_kept}
 use Rattle.agent_node.specs.Made.{AtHome}
 use Rattle.agent_node.specs.Restarts.{reads}
 
@@ -21,6 +21,10 @@ MayRead reading result history = IfSome history (λ h. (c : List ℕ) × MayLeav
 -- where it is told what a journal kept, it keeps these entries, and none waits
 abbrev pub KeepsRead : List Entry → Option Journaled → Option Journaled → Type 0
 KeepsRead es old new = IfSome old (λ k. new ≡ Some (record { synced = es; waiting = [] }))
+
+-- these entries are those that were kept as synced, or these with that batch behind them
+abbrev pub AreEither : List Entry → Option Journaled → List Entry → Type 0
+AreEither batch kept es = IfSome kept (λ k. (es ≡ k.synced) ⊎ (es ≡ k.synced ++ batch))
 
 ---- Why it isn't read
 
@@ -49,3 +53,18 @@ pub record IsReread (old new : Kept) : Type 0 where
   pub counts : HasSameCounts old.meter new.meter
   pub same : IsSameAgent old new
   pub plugs : new.plugs ≡ old.plugs
+
+-- It has read entries that are so, and keeps them. It may be used, and is the same agent.
+pub record HasRead (P : List Entry → Type 0) (old new : Kept) : Type 0 where
+  pub entries : List Entry
+  pub seat : AtHome old (λ h. new.seat ≡ reads h 0 entries old.seat)
+  pub read : P entries
+  pub kept : KeepsRead entries old.kept new.kept
+  pub fault : new.fault ≡ None
+  pub counts : HasSameCounts old.meter new.meter
+  pub same : IsSameAgent old new
+  pub plugs : new.plugs ≡ old.plugs
+
+-- Its disk had stopped: it has read the entries that it knew as synced, or these with its fresh ones behind them.
+abbrev pub IsReopened : Kept → Kept → Type 0
+IsReopened old new = HasRead (AreEither old.seat.fresh (first_kept old.seat.synced old.kept)) old new

@@ -50,11 +50,19 @@ is_tick _ = false
 ---- Steps
 
 -- the same agent, with the same links
+pub record IsSameCore (old new : Seated) : Type 0 where
+  pub network : new.network ≡ old.network
+  pub number : new.seat.number ≡ old.seat.number
+  pub plugs : new.plugs ≡ old.plugs
+  pub others : others new.seat.doors ≡ others old.seat.doors
+
+-- the same, and as many entries are synced
 pub record Stays (old new : Seated) : Type 0 where
   pub network : new.network ≡ old.network
   pub number : new.seat.number ≡ old.seat.number
   pub plugs : new.plugs ≡ old.plugs
   pub others : others new.seat.doors ≡ others old.seat.doors
+  pub synced : new.seat.synced ≡ old.seat.synced
 
 -- the same agent, with links to the same others
 pub record IsSameSeat (old new : Seated) : Type 0 where

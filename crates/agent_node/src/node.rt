@@ -1,6 +1,6 @@
 //! One agent of a net, with its journal and its ends of the links.
 
-ghost use Rattle.std.specs.Prelude.{◌≡◌, ◌≤◌, ◌<◌, ◌+◌, ℕ, List, [], None, Some, true, false, IfOk, IfErr, OnOk, is_some};
+ghost use Rattle.std.specs.Prelude.{◌≡◌, ◌≤◌, ◌<◌, ◌+◌, ◌⊎◌, ℕ, List, [], None, Some, true, IfOk, IfErr, OnOk, is_some};
 ghost use Rattle.std.specs.List.{All};
 ghost use Rattle.nsi_primitive.specs.Printable.{IsPrintableAsk, IsPrintableEvent};
 ghost use Rattle.nsi_primitive.specs.declared.entry.Input.{Input};
@@ -13,9 +13,10 @@ ghost use Rattle.agent_node.specs.Seat.{now_at};
 ghost use Rattle.agent_node.specs.Acts.{asked, forced, ticked, is_quiet};
 ghost use Rattle.agent_node.specs.Meetings.{met};
 ghost use Rattle.agent_node.specs.Passing.{HasMet, IsPrintableCome};
-ghost use Rattle.agent_node.specs.Kept.{plug, AreLinked, IsSameAgent, HasSameJournal, fault_in, lack_of};
+ghost use Rattle.agent_node.specs.declared.fault.TurnFault.{TurnFault as AFault};
+ghost use Rattle.agent_node.specs.Kept.{plug, AreLinked, IsSameAgent, HasSameJournal, LeavesBatch, fault_in, lack_of};
 ghost use Rattle.agent_node.specs.Made.{AtHome, IsTurn, IsTurnWith};
-ghost use Rattle.agent_node.specs.Reopening.{HasReopenCause, IsReread};
+ghost use Rattle.agent_node.specs.Reopening.{HasReopenCause, IsReread, IsReopened};
 
 use crate::fault::TurnFault;
 use crate::reopen::{Reopen, ReopenFault};
@@ -29,7 +30,8 @@ use std::alloc::{AllocError, Global};
 use std::marker::Model;
 
 /// An agent with its journal and its ends of the links to others. It takes what comes to it, keeps what it took in its journal, and
-/// says only then what that causes. Where a call of it has failed, it is only good for giving its disk back.
+/// says only then what that causes. Where a call of it has failed, it is only good for giving its disk back; where its disk has
+/// stopped, it still meets others, and may be restarted.
 #[derive(Drop)]
 pub struct Node<'t, J: Journal + Drop> {
     /// In a box, since agents are moved where each two meet.
@@ -39,8 +41,8 @@ pub struct Node<'t, J: Journal + Drop> {
 }
 
 impl<'t, J: Journal + Drop> Model for Node<'t, J> {
-    ghost use Rattle.std.specs.Prelude.{◌≡◌, None, false, box_value};
-    ghost use Rattle.agent_node.specs.Kept.{Kept};
+    ghost use Rattle.std.specs.Prelude.{box_value};
+    ghost use Rattle.agent_node.specs.Kept.{Kept, IsHeld};
 
     ghost Value = { Kept };
 
@@ -53,7 +55,9 @@ impl<'t, J: Journal + Drop> Model for Node<'t, J> {
       kept = J.kept n.journal;
     } };
 
-    ghost invariant = { λ n. n.fault ≡ None → J.is_ready n.journal × (J.waits n.journal ≡ false) };
+    ghost invariant = { λ n.
+        IsHeld J.reading (J.is_ready n.journal) (J.waits n.journal) (J.kept n.journal)
+        (J.history n.journal) (box_value n.core).seat n.fault };
 }
 
 impl<'t, J: Journal + Drop> Node<'t, J> {
@@ -101,9 +105,7 @@ impl<'t, J: Journal + Drop> Node<'t, J> {
         ensures journal { HasSameJournal self.old self.new }
     {
         let answer = self.core.ask(alloc, number, ask);
-        if answer.is_err() {
-            self.fault = Some(TurnFault::NoMemory);
-        }
+        self.fault = lack_of(&answer);
         answer
     }
 
@@ -119,9 +121,7 @@ impl<'t, J: Journal + Drop> Node<'t, J> {
         ensures journal { HasSameJournal self.old self.new }
     {
         let made = self.core.force(alloc, number);
-        if made.is_err() {
-            self.fault = Some(TurnFault::NoMemory);
-        }
+        self.fault = lack_of(&made);
         made
     }
 
@@ -138,9 +138,7 @@ impl<'t, J: Journal + Drop> Node<'t, J> {
         ensures journal { HasSameJournal self.old self.new }
     {
         let made = self.core.tick(alloc, to);
-        if made.is_err() {
-            self.fault = Some(TurnFault::NoMemory);
-        }
+        self.fault = lack_of(&made);
         made
     }
 
@@ -227,16 +225,18 @@ impl<'t, J: Journal + Drop> Node<'t, J> {
         self.core.meet(&mut other.core);
     }
 
-    /// The agent after a crash now, as its journal has it. What it has caused and isn't acknowledged is queued, and nothing else is;
-    /// what came lies there still.
+    /// The agent after a crash now, or after that at which its disk has stopped, as its journal has it. What it has caused and isn't
+    /// acknowledged is queued, and nothing else is; what came lies there still.
     pub fn restart<B: Reopen<J>>(
         self,
         alloc: Global,
         shelf: &mut B,
     ) -> Result<Node<'t, J>, ReopenFault>
-        requires usable { self.fault ≡ None }
+        requires usable { (self.fault ≡ None) ⊎ (self.fault ≡ Some AFault.Stopped) }
         requires listed { B.listed shelf.old (name_of self.network self.seat.number) ≡ true }
-        ensures made { IfOk result (IsReread self.entry) }
+        ensures made { self.entry.fault ≡ None → IfOk result (IsReread self.entry) }
+        ensures reopened { self.entry.fault ≡ Some AFault.Stopped →
+            IfOk result (IsReopened self.entry) }
         ensures same_faults { OnOk result (B.faults shelf.new ≡ B.faults shelf.old) }
         ensures same_stops { OnOk result (B.stops shelf.new ≡ B.stops shelf.old) }
         ensures cause { IfErr result (HasReopenCause (B.faults shelf.old) (B.faults shelf.new)
@@ -271,6 +271,8 @@ impl<'t, J: Journal + Drop> Node<'t, J> {
         ensures kept { J.kept result ≡ self.entry.kept }
         ensures left { self.entry.fault ≡ None →
             MayLeaveSynced J.reading self.entry.kept (J.history result) }
+        ensures halted { self.entry.fault ≡ Some AFault.Stopped →
+            LeavesBatch J.reading self.entry.seat self.entry.kept (J.history result) }
         ensures tells { is_some self.entry.kept ≡ is_some (J.history result) }
     {
         let Node {
@@ -280,6 +282,16 @@ impl<'t, J: Journal + Drop> Node<'t, J> {
         } = self;
         let_go(core);
         journal
+    }
+}
+
+/// Why a call that fails only for want of memory has failed.
+fn lack_of<T>(made: &Result<T, AllocError>) -> Option<TurnFault>
+    ensures { result ≡ lack_of made.now }
+{
+    match made {
+        Ok(_) => None,
+        Err(_) => Some(TurnFault::NoMemory),
     }
 }
 

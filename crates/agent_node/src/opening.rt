@@ -8,7 +8,8 @@ ghost use Rattle.journal_entry.specs.Payloads.{batch_of};
 ghost use Rattle.disk_journal.specs.StartOf.{StartsFor, KeepsCounts, Keeps, ReadsNothing};
 ghost use Rattle.agent_link.specs.Plans.{Plan};
 ghost use Rattle.agent_node.specs.Openings.{is_provider_of, asks, are_linked, others_of, Plans, nothing_planned, opened, seat_of};
-ghost use Rattle.agent_node.specs.Kept.{AreEnds, ArePlanned, plugs_of};
+ghost use Rattle.agent_node.specs.declared.fault.TurnFault.{TurnFault as AFault};
+ghost use Rattle.agent_node.specs.Kept.{AreEnds, ArePlanned, LeavesBatch, plugs_of};
 
 use crate::links::{Link, Links};
 use crate::node::Node;
@@ -246,11 +247,14 @@ impl<'t, D: Disk + Drop> Node<'t, DiskJournal<D>> {
         }
     }
 
-    /// Its disk. Where no call has failed, a crash now leaves the synced entries.
+    /// Its disk. Where no call has failed, a crash now leaves the synced entries; where it has stopped, these or also the batch that was
+    /// being synced.
     pub fn into_disk(self) -> D
         ensures meter { D.meter result ≡ self.entry.meter }
         ensures left { self.entry.fault ≡ None →
             MayLeaveSynced (recovers batch_of) self.entry.kept (D.history result) }
+        ensures halted { self.entry.fault ≡ Some AFault.Stopped →
+            LeavesBatch (recovers batch_of) self.entry.seat self.entry.kept (D.history result) }
         ensures tells { is_some self.entry.kept ≡ is_some (D.history result) }
     {
         let journal = self.into_journal();

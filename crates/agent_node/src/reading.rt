@@ -13,6 +13,7 @@ use nsi_agent::laws::every_entry;
 use nsi_base::{AgentNo, Second};
 use nsi_primitive::{Entry, Input, Message};
 use std::alloc::{AllocError, Global};
+use std::mem;
 use stp_topology::{AgentKind, Topology};
 
 /// Whether an agent of that kind takes such an input: asks are a requester's.
@@ -87,8 +88,15 @@ fn read_each(
     Ok(())
 }
 
-pub fn let_go(agent: Agent<'_>) {
+fn let_go(agent: Agent<'_>) {
     drop(agent);
+}
+
+/// Puts another agent in the place of one, which is let go.
+pub fn renew<'t>(place: &mut Agent<'t>, agent: Agent<'t>)
+    ensures { place.new ≡ agent.entry }
+{
+    let_go(mem::replace(place, agent));
 }
 
 /// The agent of that number, which has taken these entries.

@@ -1,9 +1,10 @@
 //! Where journals are read again.
 
-ghost use Rattle.std.specs.Prelude.{◌≡◌, ◌≤◌, List, ℕ, Bool, true, false, Ok, Err, IfOk, IfErr, OnOk};
+ghost use Rattle.std.specs.Prelude.{◌≡◌, ◌≤◌, List, ℕ, Bool, true, false, length, Ok, Err, IfOk, IfErr, OnOk};
 ghost use Rattle.std.specs.List.{All};
 ghost use Rattle.nsi_primitive.specs.Printable.{IsPrintableEntry};
 ghost use Rattle.nsi_disk.specs.ShelfCounts.{Raised};
+ghost use Rattle.agent_node.specs.Kept.{HasSynced};
 ghost use Rattle.agent_node.specs.Reopening.{MayRead, KeepsRead, HasSameCounts, HasReopenCause};
 
 use disk_journal::{DiskJournal, StartCause};
@@ -45,6 +46,7 @@ pub trait Reopen<J: Journal> {
         ensures none { IfOk result (λ r. J.waits r.0 ≡ false) }
         ensures read { IfOk result (λ r. MayRead J.reading (Ok r.1.items) (J.history journal)) }
         ensures kept { IfOk result (λ r. KeepsRead r.1.items (J.kept journal) (J.kept r.0)) }
+        ensures counted { IfOk result (λ r. HasSynced (length r.1.items) (J.kept r.0)) }
         ensures printable { IfOk result (λ r. All IsPrintableEntry r.1.items) }
         ensures quiet { IfOk result (λ r. HasSameCounts (J.meter journal) (J.meter r.0)) }
         ensures same_faults { OnOk result (faults self.new ≡ faults self.old) }

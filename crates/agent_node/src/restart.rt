@@ -1,15 +1,15 @@
 //! An agent is made anew from its journal.
 
-ghost use Rattle.std.specs.Prelude.{◌≡◌, ◌≤◌, List, ℕ, None, true, false, IfOk, IfErr, OnOk};
+ghost use Rattle.std.specs.Prelude.{◌≡◌, ◌≤◌, List, ℕ, None, true, false, length, Ok, Err, IfOk, IfErr, OnOk};
 ghost use Rattle.std.specs.List.{All};
 ghost use Rattle.nsi_primitive.specs.Printable.{IsPrintableEntry};
 ghost use Rattle.disk_journal.specs.declared.opening.StartCause.{StartCause as ACause};
 ghost use Rattle.agent_node.specs.declared.reopen.ReopenFault.{ReopenFault as AFault};
 ghost use Rattle.agent_node.specs.Restarts.{reads};
-ghost use Rattle.agent_node.specs.Seated.{AtSeat, Stays};
+ghost use Rattle.agent_node.specs.Seated.{AtSeat, IsSameCore};
 ghost use Rattle.stp_topology.specs.Network.{name_of};
-ghost use Rattle.agent_node.specs.Kept.{kept_with};
-ghost use Rattle.agent_node.specs.Reopening.{HasReopenCause, IsReread};
+ghost use Rattle.agent_node.specs.Kept.{kept_with, HasSynced};
+ghost use Rattle.agent_node.specs.Reopening.{HasReopenCause, HasRead, MayRead};
 
 use crate::reopen::{Reopen, ReopenFault};
 use crate::seated::Core;
@@ -33,7 +33,8 @@ fn remake<J: Journal, B: Reopen<J>>(
     ensures journal { IfOk result (λ j. j ≡ journal) }
     ensures seat { AtSeat core.old
         (λ h. OnOk result (core.new.seat ≡ reads h 0 entries.items core.old.seat)) }
-    ensures core { Stays core.old core.new }
+    ensures synced { OnOk result (core.new.seat.synced ≡ length entries.items) }
+    ensures core { IsSameCore core.old core.new }
     ensures same { OnOk result (shelf.new ≡ shelf.old) }
     ensures memory { IfErr result (λ f. f ≡ AFault.GivenBack ACause.NoMemory) }
     ensures faults { B.faults shelf.old ≤ B.faults shelf.new }
@@ -58,18 +59,18 @@ pub fn read_again<J: Journal, B: Reopen<J>>(
     journal: J,
     shelf: &mut B,
 ) -> Result<J, ReopenFault>
-    requires ready { J.is_ready journal }
-    requires none { J.waits journal ≡ false }
     requires listed { B.listed shelf.old (name_of core.old.network core.old.seat.number) ≡ true }
     ensures ready { IfOk result (λ j. J.is_ready j) }
     ensures none { IfOk result (λ j. J.waits j ≡ false) }
-    ensures made { IfOk result (λ j. IsReread
+    ensures counted { IfOk result (λ j. HasSynced core.new.seat.synced (J.kept j)) }
+    ensures made { IfOk result (λ j.
+        HasRead (λ es. MayRead J.reading (Ok es) (J.history journal))
         (kept_with core.old None (J.meter journal) (J.kept journal))
         (kept_with core.new None (J.meter j) (J.kept j))) }
     ensures same_faults { OnOk result (B.faults shelf.new ≡ B.faults shelf.old) }
     ensures same_stops { OnOk result (B.stops shelf.new ≡ B.stops shelf.old) }
     ensures cause { IfErr result (HasReopenCause (B.faults shelf.old) (B.faults shelf.new)
-        (B.stops shelf.old) (B.stops shelf.new) (λ place. J.kept journal ≡ None)) }
+        (B.stops shelf.old) (B.stops shelf.new) (λ place. MayRead J.reading (Err place) (J.history journal))) }
     ensures faults { B.faults shelf.old ≤ B.faults shelf.new }
     ensures stops { B.stops shelf.old ≤ B.stops shelf.new }
     ensures stays { (n : List ℕ) → B.listed shelf.old n ≡ true → B.listed shelf.new n ≡ true }

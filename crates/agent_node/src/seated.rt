@@ -16,19 +16,18 @@ ghost use Rattle.agent_node.specs.Acts.{asked, forced, ticked, overdue, is_overd
 ghost use Rattle.agent_node.specs.Meetings.{met};
 ghost use Rattle.agent_node.specs.Restarts.{reads, begun_again, tells_restart};
 ghost use Rattle.agent_node.specs.Kept.{fault_in};
-ghost use Rattle.agent_node.specs.Seated.{AtSeat, Stays, Goes, IsSameSeat, entry_at, is_for, is_tick, stepped};
+ghost use Rattle.agent_node.specs.Seated.{AtSeat, IsSameCore, Stays, Goes, IsSameSeat, entry_at, is_for, is_tick, stepped};
 
 use crate::fault::TurnFault;
 use crate::links::Links;
 use crate::lists::{Entries, Events, Messages};
-use crate::reading::{copy_waiting, let_go, read_all};
+use crate::reading::{copy_waiting, read_all, renew};
 use nsi_agent::Agent;
 use nsi_agent::laws::works;
 use nsi_base::{AgentNo, Name, RecordNo, Second};
 use nsi_primitive::{Ask, AskAnswer, Entry, Event, Input, Message, Parcel};
 use std::alloc::{AllocError, Global};
 use std::marker::Model;
-use std::mem;
 use stp_topology::Topology;
 
 #[derive(Drop)]
@@ -304,7 +303,9 @@ impl<'t> Core<'t> {
     /// All is synced: it is told, and what it causes is queued.
     pub fn tell_sync(&mut self) -> Result<(), AllocError>
         ensures ok { AtSeat self.old (λ h. OnOk result (self.new.seat ≡ syncs h self.old.seat)) }
-        ensures stays { Stays self.old self.new }
+        ensures synced { let s = self.old.seat in
+            OnOk result (self.new.seat.synced ≡ s.synced + length s.fresh) }
+        ensures same { IsSameCore self.old self.new }
     {
         let fresh = self.fresh.len() as u64;
         let Some(count) = self.synced.checked_add(fresh) else {
@@ -324,7 +325,8 @@ impl<'t> Core<'t> {
         requires { All IsPrintableEntry entries.now }
         ensures ok { AtSeat self.old
             (λ h. OnOk result (self.new.seat ≡ reads h 0 entries.now self.old.seat)) }
-        ensures stays { Stays self.old self.new }
+        ensures synced { OnOk result (self.new.seat.synced ≡ length entries.now) }
+        ensures same { IsSameCore self.old self.new }
     {
         self.agent.facts();
         let agent = read_all(alloc, self.topology, self.agent.number(), entries)?;
@@ -339,9 +341,9 @@ impl<'t> Core<'t> {
         requires network { agent.network ≡ self.old.network }
         requires number { agent.number ≡ self.old.seat.number }
         ensures seat { self.new.seat ≡ begun_again agent.entry.state count self.old.seat }
-        ensures stays { Stays self.old self.new }
+        ensures same { IsSameCore self.old self.new }
     {
-        let_go(mem::replace(&mut self.agent, agent));
+        renew(&mut self.agent, agent);
         self.synced = count;
         self.fresh.clear();
         self.unsaid.clear();

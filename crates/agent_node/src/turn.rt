@@ -1,10 +1,11 @@
 //! A turn of an agent with its journal.
 
-ghost use Rattle.std.specs.Prelude.{◌≡◌, ◌≤◌, ◌+◌, None, false, OnOk};
+ghost use Rattle.std.specs.Prelude.{◌≡◌, ◌≤◌, ◌+◌, None, Some, false, OnOk};
 ghost use Rattle.std.specs.List.{All};
 ghost use Rattle.agent_state.specs.Entries.{most_entries};
 ghost use Rattle.agent_node.specs.Passing.{IsPrintableCome};
-ghost use Rattle.agent_node.specs.Kept.{kept_with, fault_in};
+ghost use Rattle.agent_node.specs.declared.fault.TurnFault.{TurnFault as AFault};
+ghost use Rattle.agent_node.specs.Kept.{kept_with, fault_in, HasSynced, LeavesBatch};
 ghost use Rattle.agent_node.specs.Made.{IsSynced, IsTurn, IsTurnWith};
 
 use crate::fault::TurnFault;
@@ -33,8 +34,12 @@ fn sync<J: Journal>(
 ) -> Result<(), TurnFault>
     requires ready { J.is_ready journal.old }
     requires none { J.waits journal.old ≡ false }
+    requires counted { HasSynced core.old.seat.synced (J.kept journal.old) }
     ensures ready { OnOk result (J.is_ready journal.new) }
     ensures none { OnOk result (J.waits journal.new ≡ false) }
+    ensures counted { OnOk result (HasSynced core.new.seat.synced (J.kept journal.new)) }
+    ensures left { fault_in result ≡ Some AFault.Stopped →
+        LeavesBatch J.reading core.new.seat (J.kept journal.new) (J.history journal.new) }
     ensures made { IsSynced room
         (kept_with core.old None (J.meter journal.old) (J.kept journal.old))
         (kept_with core.new (fault_in result) (J.meter journal.new) (J.kept journal.new)) }
@@ -60,10 +65,14 @@ pub fn make_turn_with<J: Journal>(
 ) -> Result<(), TurnFault>
     requires ready { J.is_ready journal.old }
     requires none { J.waits journal.old ≡ false }
+    requires counted { HasSynced core.old.seat.synced (J.kept journal.old) }
     requires few { core.old.seat.state.base.taken + room ≤ most_entries }
     requires printable { All IsPrintableCome parcels.items }
     ensures ready { OnOk result (J.is_ready journal.new) }
     ensures none { OnOk result (J.waits journal.new ≡ false) }
+    ensures counted { OnOk result (HasSynced core.new.seat.synced (J.kept journal.new)) }
+    ensures left { fault_in result ≡ Some AFault.Stopped →
+        LeavesBatch J.reading core.new.seat (J.kept journal.new) (J.history journal.new) }
     ensures made { IsTurnWith parcels.items room
         (kept_with core.old None (J.meter journal.old) (J.kept journal.old))
         (kept_with core.new (fault_in result) (J.meter journal.new) (J.kept journal.new)) }
@@ -85,9 +94,13 @@ pub fn make_turn<J: Journal>(
 ) -> Result<(), TurnFault>
     requires ready { J.is_ready journal.old }
     requires none { J.waits journal.old ≡ false }
+    requires counted { HasSynced core.old.seat.synced (J.kept journal.old) }
     requires few { core.old.seat.state.base.taken + room ≤ most_entries }
     ensures ready { OnOk result (J.is_ready journal.new) }
     ensures none { OnOk result (J.waits journal.new ≡ false) }
+    ensures counted { OnOk result (HasSynced core.new.seat.synced (J.kept journal.new)) }
+    ensures left { fault_in result ≡ Some AFault.Stopped →
+        LeavesBatch J.reading core.new.seat (J.kept journal.new) (J.history journal.new) }
     ensures made { IsTurn room
         (kept_with core.old None (J.meter journal.old) (J.kept journal.old))
         (kept_with core.new (fault_in result) (J.meter journal.new) (J.kept journal.new)) }

@@ -19,7 +19,7 @@ use Rattle.quiet_rounds.proofs.Meeting.{each_others, each_keeps, each_knows, eac
 ---- A turn
 
 -- behind a turn, before the agents meet
-abbrev IsTaken : Door → Type 0
+abbrev pub IsTaken : Door → Type 0
 IsTaken d = d.inc ≡ []
 
 abbrev pub LetsFew : Door → Type 0
@@ -31,11 +31,11 @@ pub record IsTurnedIn (ns : List ℕ) (s : Seat) : Type 0 where
   pub apart : AllPairs (λ a b. b ≢ a) (others s.doors)
   pub lead : All (LeadsTo ns) s.doors
 
-cleared_taken : (ds : List Door) → All IsTaken (map clears ds)
+pub cleared_taken : (ds : List Door) → All IsTaken (map clears ds)
 cleared_taken [] = All-nil IsTaken
 cleared_taken (d ∷ ds) = All-cons IsTaken (clears d) (map clears ds) refl (cleared_taken ds)
 
-mapped_others : (f : Door → Door) → ((d : Door) → (f d).other ≡ d.other) → (ds : List Door) → others (map f ds) ≡ others ds
+pub mapped_others : (f : Door → Door) → ((d : Door) → (f d).other ≡ d.other) → (ds : List Door) → others (map f ds) ≡ others ds
 mapped_others f same [] = refl
 mapped_others f same (d ∷ ds) = ap (λ n. n ∷ others (map f ds)) (same d) ∙ ap (λ ns. d.other ∷ ns) (mapped_others f same ds)
 
@@ -70,7 +70,7 @@ by_doors ns s u e h = record {
   lead = subst (All (LeadsTo ns)) (sym e) h.lead;
 }
 
-turned_bounded : (ns : List ℕ) (homes : Homes) (s : Seat) → IsBoundedIn ns s → IsTurnedIn ns (turned_in homes s)
+pub turned_bounded : (ns : List ℕ) (homes : Homes) (s : Seat) → IsBoundedIn ns s → IsTurnedIn ns (turned_in homes s)
 turned_bounded ns homes s h =
     let u : Seat = synced_all (homes s.number) (turn_entered (homes s.number) (lying s.doors) (cleared s)) in
     by_doors ns (record s { doors = map pushes u.doors }) (turned_in homes s) (turn_doors (homes s.number) (lying s.doors) (cleared s))
@@ -98,7 +98,7 @@ meets_bounded ns os s e all h = record {
   lead = each_keeps (LeadsTo ns) s os (λ ps d k. k) h.lead;
 }
 
-all_meet : (ns : List ℕ) (os net : Net) → numbers os ≡ ns → All (IsTurnedIn ns) os → All (IsTurnedIn ns) net → All (IsBoundedIn ns) (map (meets_all os) net)
+pub all_meet : (ns : List ℕ) (os net : Net) → numbers os ≡ ns → All (IsTurnedIn ns) os → All (IsTurnedIn ns) net → All (IsBoundedIn ns) (map (meets_all os) net)
 all_meet ns os [] e all h = All-nil (IsBoundedIn ns)
 all_meet ns os (s ∷ ss) e all h =
     All-cons (IsBoundedIn ns) (meets_each s os) (map (meets_all os) ss) (meets_bounded ns os s e all (All-head (IsTurnedIn ns) s ss h)) (all_meet ns os ss e all (All-tail (IsTurnedIn ns) s ss h))

@@ -79,7 +79,7 @@ same_takes h from (Parcel.Message m) s =
     same_twice s u (queues from (Parcel.Ack (identity m)) u) (same_due (is_new h s.state m) h (Input.Got m) s) (same_queues from (Parcel.Ack (identity m)) u)
 same_takes h from (Parcel.Ack i) s = same_due (waits i s.state) h (Input.Acked i) s
 
-same_takes_all : (h : Home) (xs : List (ℕ × Parcel)) (s : Seat) → HasSameEnds s (takes_all h xs s)
+pub same_takes_all : (h : Home) (xs : List (ℕ × Parcel)) (s : Seat) → HasSameEnds s (takes_all h xs s)
 unfolding takes_all
 same_takes_all h [] s = same_ends s
 same_takes_all h (x ∷ xs) s = same_twice s (takes h x.0 x.1 s) (takes_all h xs (takes h x.0 x.1 s)) (same_takes h x.0 x.1 s) (same_takes_all h xs (takes h x.0 x.1 s))
@@ -90,7 +90,7 @@ same_work (Some w) h rest s more =
     let u : Seat = enters_now h (Input.Work w.0 w.1) s in
     same_twice s u (rest u) (same_enters h (record { second = s.state.base.now; input = Input.Work w.0 w.1 }) s) (more u)
 
-same_works : (n : ℕ) (h : Home) (s : Seat) → HasSameEnds s (works_off n h s)
+pub same_works : (n : ℕ) (h : Home) (s : Seat) → HasSameEnds s (works_off n h s)
 unfolding works_off
 same_works zero h s = same_ends s
 same_works (suc n) h s = same_work (work_of h.role s.state) h (works_off n h) s (same_works n h)

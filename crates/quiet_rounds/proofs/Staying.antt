@@ -31,7 +31,7 @@ same_ticked : (h : Home) (second : ℕ) (s : Seat) → HasSameEnds s (ticked h s
 unfolding ticked enters
 same_ticked h second s = record { number = refl; ends = bare_said h.agent_of (overdue s) s.doors }
 
-same_if : (b : Bool) (s u : Seat) → HasSameEnds s u → HasSameEnds s (cond b u s)
+pub same_if : (b : Bool) (s u : Seat) → HasSameEnds s u → HasSameEnds s (cond b u s)
 same_if true s u h = h
 same_if false s u h = same_ends s
 
@@ -43,11 +43,11 @@ same_reads : (h : Home) (tries : ℕ) (es : List Entry) (s : Seat) → HasSameEn
 unfolding reads
 same_reads h tries es s = record { number = refl; ends = bare_said h.agent_of (told h es).state.base.waiting (map drops s.doors) ∙ bare_dropped s.doors }
 
-same_past : (o : Option (List Entry)) (h : Home) (tries : ℕ) (s : Seat) → HasSameEnds s (reads_past o h tries s)
+pub same_past : (o : Option (List Entry)) (h : Home) (tries : ℕ) (s : Seat) → HasSameEnds s (reads_past o h tries s)
 same_past None h tries s = same_ends s
 same_past (Some es) h tries s = same_reads h tries es s
 
-same_does : (act : Act) (count : ℕ) (homes : Homes) (s : Seat) → HasSameEnds s (does act count homes s)
+pub same_does : (act : Act) (count : ℕ) (homes : Homes) (s : Seat) → HasSameEnds s (does act count homes s)
 same_does (Act.Ask a ask) count homes s = same_if (s.number == a) s (asked (homes a) count ask s) (same_enters (homes a) (now_at s (Input.Ask count ask)) s)
 same_does (Act.Force a n) count homes s = same_if (s.number == a) s (forced (homes a) n s) (same_enters (homes a) (now_at s (Input.Force n)) s)
 same_does (Act.Restart a) count homes s = same_if (s.number == a) s (restarted (homes a) s) (same_past s.past (homes a) 0 s)
@@ -66,7 +66,7 @@ all_same ns f same [] h = All-nil (IsBoundedIn ns)
 all_same ns f same (s ∷ ss) h =
     All-cons (IsBoundedIn ns) (f s) (map f ss) (bounded_same ns s (f s) (same s) (All-head (IsBoundedIn ns) s ss h)) (all_same ns f same ss (All-tail (IsBoundedIn ns) s ss h))
 
-bounded_by : (f : Seat → Seat) → ((s : Seat) → HasSameEnds s (f s)) → (net : Net) → IsBounded net → IsBounded (map f net)
+pub bounded_by : (f : Seat → Seat) → ((s : Seat) → HasSameEnds s (f s)) → (net : Net) → IsBounded net → IsBounded (map f net)
 bounded_by f same net h = subst (λ ns. All (IsBoundedIn ns) (map f net)) (sym (same_numbers f same net)) (all_same (numbers net) f same net h)
 
 pub ticks_bounded : (second : ℕ) (homes : Homes) (net : Net) → IsBounded net → IsBounded (map (ticked_in second homes) net)

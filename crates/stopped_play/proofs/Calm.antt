@@ -26,11 +26,11 @@ round_none : (homes : Homes) (net : Net) → round_by none_cut homes net ≡ rou
 unfolding round_by round
 round_none homes net = refl
 
-emptied_none : (net : Net) → events_of (emptied net) ≡ []
+pub emptied_none : (net : Net) → events_of (emptied net) ≡ []
 emptied_none [] = refl
 emptied_none (s ∷ ss) = emptied_none ss
 
-emptied_twice : (net : Net) → emptied (emptied net) ≡ emptied net
+pub emptied_twice : (net : Net) → emptied (emptied net) ≡ emptied net
 emptied_twice [] = refl
 emptied_twice (s ∷ ss) = ap (λ zs. tells s ∷ zs) (emptied_twice ss)
 

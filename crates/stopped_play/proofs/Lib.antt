@@ -7,3 +7,6 @@ pub mod Reading
 pub mod Leaving
 mod Rows
 pub mod Coming
+pub mod Bounds
+pub mod Whole
+pub mod Counting

@@ -1,8 +1,9 @@
 -- How far a play in which disks stop has come: whatever the rest is played as, it completes the play.
-use Rattle.std.specs.Prelude.{ℕ, ◌+◌, ◌<◌, ◌≡◌, false, List, ◌++◌, length}
+use Rattle.std.specs.Prelude.{ℕ, ◌+◌, ◌<◌, ◌≡◌, false, List, ◌++◌, length, None}
 use Rattle.nsi_primitive.specs.declared.entry.Event.{Event}
 use Rattle.nsi_script.specs.declared.script.Act.{Act}
 use Rattle.nsi_script.specs.declared.script.Group.{Group}
+use Rattle.agent_node.specs.Seat.{Seat}
 use Rattle.nsi_play.specs.Rounds.{Net, Homes, events_of, emptied, all_quiet}
 use Rattle.nsi_play.specs.Play.{behind, ended}
 use Rattle.stopped_play.specs.Tapes.{Cuts, Tape, Stops}
@@ -18,6 +19,10 @@ behind_cuts cuts homes net = emptied (reopens cuts homes (emptied (round_by cuts
 -- what has happened in the round, and then the restarts
 abbrev pub events_by : Cuts → Homes → Net → List Event
 events_by cuts homes net = events_of (round_by cuts homes net) ++ events_of (reopens cuts homes (emptied (round_by cuts homes net)))
+
+-- its disk doesn't stop
+abbrev pub IsWhole : Cuts → Seat → Type 0
+IsWhole cuts s = cuts s.number ≡ None
 
 -- rounds that were made, and whose disks stopped in each
 pub record IsSettledBy (homes : Homes) (x : Net) (events : List Event) (y : Net) : Type 0 where

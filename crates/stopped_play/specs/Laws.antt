@@ -7,20 +7,26 @@ use Rattle.stp_topology.specs.Sound.{IsSound}
 use Rattle.stp_topology.specs.declared.network.Network.{Network}
 use Rattle.agent_state.specs.Entries.{most_entries}
 use Rattle.nsi_agent.specs.Homes.{Routes, AreRoutes, home_in}
+use Rattle.nsi_script.specs.declared.script.Act.{Act}
 use Rattle.nsi_script.specs.declared.script.Group.{Group}
 use Rattle.nsi_script.specs.Fits.{IsActOf, IsRising}
 use Rattle.nsi_script.specs.Scripts.{acts_of, seconds_of}
 use Rattle.nsi_play.specs.Openings.{Plans, opening}
-use Rattle.nsi_play.specs.Rounds.{Net, Homes}
+use Rattle.nsi_play.specs.Rounds.{Net, Homes, round, events_of, emptied}
 use Rattle.nsi_play.specs.Play.{Played, plays, IsPlayFrom}
+use Rattle.nsi_world.specs.Nets.{numbers, IsTold}
 use Rattle.nsi_world.specs.Worlds.{empty}
 use Rattle.nsi_world.specs.Runs.{IsRun, world_after, asks_of, numbered}
 use Rattle.nsi_world.specs.Rest.{IsAtRest}
 use Rattle.nsi_world.specs.Scripts.{wishes_of}
 use Rattle.nsi_world.specs.Laws.{StandInTheEnd}
 use Rattle.settled_play.specs.Settled.{LeavesOnlyLost}
-use Rattle.stopped_play.specs.Tapes.{Stops, copies, calm, calm_stops}
-use Rattle.stopped_play.specs.Play.{plays_by, plays_from, IsPlayBy}
+use Rattle.quiet_rounds.specs.Bounded.{IsBounded}
+use Rattle.stopped_play.specs.Tapes.{Cuts, Stops, copies, calm, calm_stops}
+use Rattle.stopped_play.specs.Rounds.{round_by, reopens}
+use Rattle.stopped_play.specs.Play.{acted_by, plays_by, plays_from, IsPlayBy}
+use Rattle.stopped_play.specs.Coming.{behind_cuts, events_by, IsWhole}
+use Rattle.stopped_play.specs.Counts.{restarts_in, stops_among}
 
 ---- Where no disk stops
 
@@ -70,3 +76,24 @@ StoppedPlaySettles =
     (t : Network) (routes : Routes) (plans : Plans) (stops : Stops) (script : List Group) (events : List Event) (last : Net) → IsSound t → IsWellFormed t → AreRoutes t routes →
     IsRising (seconds_of script) → All (IsActOf t) (acts_of script) → IsPlayBy stops script (home_in t routes) (opening t plans) events last →
     LeavesOnlyLost t (home_in t routes) plans events
+
+---- Rounds
+
+-- an act, a round and its restarts keep a net bounded
+pub record StaysBoundedBy (homes : Homes) (net : Net) : Type 0 where
+  pub acts : (act : Act) (tries count : ℕ) → IsBounded (acted_by act tries count homes net)
+  pub round : (cuts : Cuts) → IsBounded (round_by cuts homes net)
+  pub restarts : (cuts : Cuts) → IsBounded (reopens cuts homes net)
+  pub behind : (cuts : Cuts) → IsBounded (behind_cuts cuts homes net)
+
+abbrev pub CutsKeepBounds : Type 0
+CutsKeepBounds = (homes : Homes) (net : Net) → IsBounded net → StaysBoundedBy homes net
+
+-- where no agent of the net is cut, a round is that of nsi_play
+abbrev pub NoCutIsARound : Type 0
+NoCutIsARound =
+    (cuts : Cuts) (homes : Homes) (net : Net) → All (IsWhole cuts) net → (events_by cuts homes net ≡ events_of (round homes net)) × (behind_cuts cuts homes net ≡ emptied (round homes net))
+
+-- a round has no more restarts than stops of its agents' disks
+abbrev pub RestartsAreStops : Type 0
+RestartsAreStops = (cuts : Cuts) (homes : Homes) (net : Net) → All IsTold net → restarts_in (events_by cuts homes net) ≤ stops_among cuts (numbers net)

@@ -1,6 +1,6 @@
 //! The laws of plays in which disks stop. Each function is its contract.
 
-ghost use Rattle.stopped_play.specs.Laws.{CalmTapes, CalmPlays, StoppedPlayRuns, StoppedPlayStands, StoppedPlayRests, StoppedPlayAsks, StoppedPlaySettles};
+ghost use Rattle.stopped_play.specs.Laws.{CalmTapes, CalmPlays, StoppedPlayRuns, StoppedPlayStands, StoppedPlayRests, StoppedPlayAsks, StoppedPlaySettles, CutsKeepBounds, NoCutIsARound, RestartsAreStops};
 
 use agent_speech::laws::every_step;
 use nsi_world::laws::agents;
@@ -37,3 +37,11 @@ pub fn settled()
     agents();
     every_step();
 }
+
+/// An act, a round and its restarts keep nets bounded, and a round in which no agent of the net is cut is one of `nsi_play`; so what is
+/// proved of rounds in which nothing happens holds of those by a tape, since each restart is an event.
+pub fn rounds()
+    ensures bounded { CutsKeepBounds }
+    ensures whole { NoCutIsARound }
+    ensures counted { RestartsAreStops }
+{}

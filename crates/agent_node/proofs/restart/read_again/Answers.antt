@@ -1,13 +1,15 @@
-use Rattle.agent_node.proofs.Reopened.{read_is_synced, keeps_again, made_again}
+use Rattle.std.proofs.Common.{List, length, Ok}
+use Rattle.nsi_primitive.specs.declared.entry.Entry.{Entry}
+use Rattle.agent_node.specs.Reopening.{MayRead}
+use Rattle.agent_node.proofs.Reopened.{made_again, counted_again}
 use Rattle.agent_node.proofs.restart.read_again.Goals as goal
 
 pub returns-in-Ok-clause-made : goal.returns-in-Ok-clause-made
 returns-in-Ok-clause-made g c =
     let j = c.args.journal in
-    let k = g.J.Journal.kept j in
-    let es = c.in-Ok.entries.items in
-    let same =
-    read_is_synced g.J.Journal.reading k (g.J.Journal.history j) es (g.met.J.Journal.tells j) (g.met.J.Journal.leaves_synced j c.requires.ready) c.in-Ok.ensures.read in
-    let keeps = keeps_again es k (g.J.Journal.kept c.in-Ok.journal) (g.met.J.Journal.none_waits j c.requires.none) same c.in-Ok.ensures.kept in
-    made_again c.remake.result c.in-Ok.journal g.J.Journal.meter g.J.Journal.kept (g.J.Journal.meter j) k c.args.core.now c.remake.new.core es c.remake.ensures.journal c.remake.ensures.seat
-    c.remake.ensures.core same keeps c.in-Ok.ensures.quiet
+    made_again (λ (es : List Entry). MayRead g.J.Journal.reading (Ok es) (g.J.Journal.history j)) c.remake.result c.in-Ok.journal g.J.Journal.meter g.J.Journal.kept (g.J.Journal.meter j) (g.J.Journal.kept j) c.args.core.now c.remake.new.core
+    c.in-Ok.entries.items c.remake.ensures.journal c.remake.ensures.seat c.remake.ensures.core c.in-Ok.ensures.read c.in-Ok.ensures.kept c.in-Ok.ensures.quiet
+
+pub returns-in-Ok-clause-counted : goal.returns-in-Ok-clause-counted
+returns-in-Ok-clause-counted g c =
+    counted_again c.remake.result c.in-Ok.journal g.J.Journal.kept c.remake.new.core.seat.synced (length c.in-Ok.entries.items) c.remake.ensures.journal c.remake.ensures.synced c.in-Ok.ensures.counted

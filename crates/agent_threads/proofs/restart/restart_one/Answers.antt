@@ -8,7 +8,7 @@ returns-then-is_own-clause-done g c =
     let y = c.in-Ok.again in
     let within : (nat_le y.seat.state.base.taken x.seat.state.base.taken && nat_le y.seat.state.base.now x.seat.state.base.now) ≡ true =
     ap₂ (λ (a b : ℕ). nat_le y.seat.state.base.taken a && nat_le y.seat.state.base.now b) (sym c.taken-taken.ensures) (sym c.now-now.ensures) ∙ (sym c.is_within-is_own.ensures ∙ c.if-is_own.true) in
-    (y, c.push_reserved.ensures.items, is_restarted c.routes_exist.ensures.exist x y c.in-Ok.ensures.made within)
+    (y, c.push_reserved.ensures.items, is_restarted c.routes_exist.ensures.exist x y (c.in-Ok.ensures.made c.requires.usable) within)
 
 pub returns-else-is_own-clause-cause : goal.returns-else-is_own-clause-cause
 returns-else-is_own-clause-cause g c =
@@ -16,4 +16,4 @@ returns-else-is_own-clause-cause g c =
     let y = c.in-Ok.again in
     let more : (nat_le y.seat.state.base.taken x.seat.state.base.taken && nat_le y.seat.state.base.now x.seat.state.base.now) ≡ false =
     ap₂ (λ (a b : ℕ). nat_le y.seat.state.base.taken a && nat_le y.seat.state.base.now b) (sym c.taken-taken.ensures) (sym c.now-now.ensures) ∙ (sym c.is_within-is_own.ensures ∙ c.if-is_own.false) in
-    (c.number-agent.ensures, untold_more x y c.in-Ok.ensures.made more)
+    (c.number-agent.ensures, untold_more x y (c.in-Ok.ensures.made c.requires.usable) more)
