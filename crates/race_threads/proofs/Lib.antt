@@ -1,3 +1,4 @@
 mod Sitting
 mod Asked
 mod Weighing
+pub mod Lone

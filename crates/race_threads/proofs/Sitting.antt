@@ -82,7 +82,7 @@ last_one callers x =
       of = refl;
     }
 
-not_last : (a n : ℕ) → a < n + 1 → (a == n) ≡ false → a < n
+pub not_last : (a n : ℕ) → a < n + 1 → (a == n) ≡ false → a < n
 not_last a n h e =
     let apart = eqb-false a n e in
     omega (arith, h, apart)
@@ -91,7 +91,7 @@ further : (n : ℕ) (callers : List Caller) → All (λ s. agent_of s < n) calle
 further n callers h = All-weaker (λ s. agent_of s < n) (λ s. agent_of s < n + 1) (λ s k. omega (arith, k)) callers h
 
 -- a number above all goes behind them
-rises : (xs : List ℕ) (n : ℕ) → IsStrictlyIncreasing xs → ((k : ℕ) → k < length xs → slice_index xs k < n) → IsStrictlyIncreasing (xs ++ n ∷ [])
+pub rises : (xs : List ℕ) (n : ℕ) → IsStrictlyIncreasing xs → ((k : ℕ) → k < length xs → slice_index xs k < n) → IsStrictlyIncreasing (xs ++ n ∷ [])
 rises xs n up above k within = by (k + 1 == length xs) refl
   where
     len : length (xs ++ n ∷ []) ≡ length xs + 1

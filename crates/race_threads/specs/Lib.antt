@@ -1,2 +1,3 @@
 pub mod Raced
 pub mod Callers
+pub mod Alone

@@ -1,5 +1,5 @@
 -- What a race has come to.
-use Rattle.std.specs.Prelude.{◌≡◌, ◌<◌, ℕ, true, List, [], length, get_or, Option, Some, None}
+use Rattle.std.specs.Prelude.{◌≡◌, ◌≤◌, ◌<◌, ℕ, true, List, [], length, get_or, Option, Some, None}
 use Rattle.std.specs.List.{All}
 use Rattle.nsi_primitive.specs.declared.entry.Event.{Event}
 use Rattle.stp_topology.specs.declared.network.Network.{Network}
@@ -70,6 +70,20 @@ pub record AreKept (t : Network) (p : ℕ) (start : Option ℕ) (acts : List Act
   pub each : All (IsKept t p start acts) owns
   pub has : (a : ℕ) → a < length t.agents → is_caller t p (Some a) ≡ true → HasOwn owns a
   pub rising : IsStrictlyIncreasing (map own_agent owns)
+
+---- Asks of one requester
+
+-- an ask of the agent
+abbrev pub IsAskTo : ℕ → Act → Type 0
+IsAskTo a (Act.Ask agent ask) = agent ≡ a
+IsAskTo a (Act.Force agent number) = ⊥
+IsAskTo a (Act.Restart agent) = ⊥
+
+-- all acts are asks of one agent, and no more than a script has
+pub record AreOfOne (acts : List Act) : Type 0 where
+  pub agent : ℕ
+  pub each : All (IsAskTo agent) acts
+  pub few : length acts ≤ 100000
 
 ---- Faults
 

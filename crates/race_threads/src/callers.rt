@@ -61,7 +61,7 @@ pub fn race_of(provider: AgentNo, script: &Script) -> Race<'_>
 }
 
 /// The agent of that place.
-fn agent_at(place: usize) -> AgentNo
+pub(crate) fn agent_at(place: usize) -> AgentNo
     requires { place < 64 }
     ensures { result ≡ place }
 {

@@ -1,6 +1,7 @@
 //! Requesters that race for one provider, each in a thread of its own, and what its history then says of them.
 #![tactic(auto)]
 
+mod alone;
 mod callers;
 mod racing;
 

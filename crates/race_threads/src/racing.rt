@@ -5,8 +5,9 @@ ghost use Rattle.stp_topology.specs.Sound.{IsProvider};
 ghost use Rattle.trace_text.specs.Lines.{HasLine};
 ghost use Rattle.shared_provider.specs.Book.{IsBook, counted};
 ghost use Rattle.race_run.specs.Scripts.{AreAsks};
-ghost use Rattle.race_threads.specs.Raced.{IsRaced, AreKept, HasFault, IsBroken, cause_of, start_cause_of};
+ghost use Rattle.race_threads.specs.Raced.{IsRaced, AreKept, IsAskTo, HasFault, IsBroken, cause_of, start_cause_of};
 
+use crate::alone::{serve_alone, sole_asker};
 use crate::callers::{Race, serve_all};
 use disk_journal::{DiskJournal, StartCause, StartFault};
 use journal_entry::Journal;
@@ -151,6 +152,26 @@ fn begin<D: Disk + Drop>(
     }
 }
 
+/// The callers where one alone is asked, and the book when all have ended. There is no lock and no thread.
+fn run_alone<J: Journal>(
+    alloc: Global,
+    topology: &Topology,
+    race: &Race<'_>,
+    book: Book<J>,
+    asked: AgentNo,
+) -> (Book<J>, Result<Vec<Own>, AllocError>)
+    requires within { race.now.provider < length topology.now.agents }
+    requires provider { IsProvider topology.now race.now.provider }
+    requires printable { AreAsks race.now.acts.now }
+    requires asks { All (IsAskTo asked) race.now.acts.now }
+    ensures kept { IfOk result.1 (λ v. AreKept topology.now race.now.provider
+        race.now.start race.now.acts.now v.items) }
+{
+    let mut book = book;
+    let owns = serve_alone(alloc, topology, race, &mut book, asked);
+    (book, owns)
+}
+
 /// The callers, and the book when all have ended.
 fn run<J: Journal + Drop + Send, R: Threads + Wait + Sync, G: Gate + Sync>(
     rt: &R,
@@ -166,6 +187,9 @@ fn run<J: Journal + Drop + Send, R: Threads + Wait + Sync, G: Gate + Sync>(
     ensures kept { IfOk result.1 (λ v. AreKept topology.now race.now.provider
         race.now.start race.now.acts.now v.items) }
 {
+    if let Some(asked) = sole_asker(race.acts, race.provider) {
+        return run_alone(alloc, topology, race, book, asked);
+    }
     let (shared, mut pass) = match SharedProvider::new(alloc, book) {
         Ok(both) => both,
         Err(book) => return (book, Err(AllocError)),
