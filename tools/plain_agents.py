@@ -7,7 +7,9 @@ dictionaries. There is no calendar and no index: a load is a sum over all record
 
 and gives the answer to an ask (else None) and the messages that it causes.
 """
+import datetime
 import json
+import re
 import uuid
 
 GREATEST_VERSION = 2_147_483_647
@@ -109,8 +111,57 @@ def id_of(agent, number):
     return f"urn:uuid:{uuid.UUID(int=agent * 2**80 + 8 * 2**76 + 2 * 2**62 + number)}"
 
 
+EPOCH = datetime.datetime(1970, 1, 1)
+LAST_SECOND = 253_370_764_799
+TIMES = ("startTime", "endTime")
+DATE_TIME = re.compile(
+    r"(\d{4})-(\d\d)-(\d\d)[Tt](\d\d):(\d\d):(\d\d)(?:\.\d{1,9})?(?:[Zz]|([+-])(\d\d):(\d\d))?", re.ASCII
+)
+
+
+def date_time(second):
+    """The text of a second, as `2027-03-01T00:00:00Z`."""
+    return f"{(EPOCH + datetime.timedelta(seconds=second)).isoformat()}Z"
+
+
+def second_of(text):
+    """The second of a date-time, or None: of RFC 3339, with an offset or none, lower-case letters and a fraction, which is dropped."""
+    parts = DATE_TIME.fullmatch(text)
+    if parts is None:
+        return None
+    year, month, day, hour, minute, second = map(int, parts.groups()[:6])
+    ahead = [int(part or 0) for part in parts.groups()[7:]]
+    if max(hour, ahead[0]) > 23 or max(minute, second, ahead[1]) > 59:
+        return None
+    try:
+        days = datetime.date(year, month, day).toordinal() - EPOCH.toordinal()
+    except ValueError:
+        return None
+    offset = (3600 * ahead[0] + 60 * ahead[1]) * (-1 if parts[7] == "-" else 1)
+    found = 86_400 * days + 3600 * hour + 60 * minute + second - offset
+    return found if 0 <= found <= LAST_SECOND else None
+
+
+def dated(value):
+    """With times as they are printed."""
+    if isinstance(value, list):
+        return [dated(one) for one in value]
+    if not isinstance(value, dict):
+        return value
+    return {key: date_time(one) if key in TIMES and type(one) is int else dated(one) for key, one in value.items()}
+
+
+def timed(value):
+    """With times as numbers, where they are date-times."""
+    if isinstance(value, list):
+        return [timed(one) for one in value]
+    if not isinstance(value, dict):
+        return value
+    return {key: second_of(one) if key in TIMES and isinstance(one, str) else timed(one) for key, one in value.items()}
+
+
 def spelled(keys):
-    return json.dumps(keys, sort_keys=True, separators=(",", ":"), ensure_ascii=False)
+    return json.dumps(dated(keys), sort_keys=True, separators=(",", ":"), ensure_ascii=False)
 
 
 def message(kind, correlation, requester, provider, /, **keys):

@@ -1,18 +1,17 @@
 """Which texts are the printed spelling of a message or an acknowledgement, written from the tables of their keys alone.
 
 A number of JSON is read as its digits, so that one beyond its range is seen, and one with a sign or a fraction is none. The spelling of
-what is read has to be the text again: compact, its keys in byte order, ids in lower case, and only what of the text isn't ASCII, a quote
-or a backslash written otherwise than it is.
+what is read has to be the text again: compact, its keys in byte order, ids in lower case, times of schedules as date-times, and only what
+of the text isn't ASCII, a quote or a backslash written otherwise than it is.
 """
 import json
 import re
 import uuid
 
-from plain_agents import LIFECYCLE, PROVISION, RESERVE, spelled
+from plain_agents import LAST_SECOND, LIFECYCLE, PROVISION, RESERVE, spelled, timed
 
 NAME = re.compile(r"[!#-\[\]-~]{1,128}")
 ID = re.compile(r"urn:uuid:[0-9a-f]{8}(-[0-9a-f]{4}){3}-[0-9a-f]{12}")
-LAST_SECOND = 253_370_764_799
 ERRORS = (
     "PAYLOAD VERSION WRONG_PROVIDER NONEXISTENT GONE INVALID_TRANSITION VERSION_LOW UNKNOWN_STP SCHEDULE BANDWIDTH PASSED NO_PATH CHILD "
     "TIMEOUT"
@@ -139,7 +138,7 @@ def parcel_of(text):
     """The keys of the message or acknowledgement that is printed so, or None."""
     try:
         text.encode()
-        value = json.loads(text)
+        value = timed(json.loads(text))
     except (ValueError, RecursionError):
         return None
     if not isinstance(value, dict):

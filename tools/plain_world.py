@@ -6,11 +6,10 @@ on a disk: an agent's journal is the list of its entries. Lines `stop` have the 
 import re
 
 from plain_agents import ANSWERED_BY, GREATEST_VERSION, QUERIES, REQUESTS, TOLD
-from plain_agents import Aggregator, Provider, Requester, acknowledgement, identity, receiver, spelled
+from plain_agents import LAST_SECOND, Aggregator, Provider, Requester, acknowledgement, identity, receiver, spelled
 
 LONGEST_INPUT = 67_108_864
 MOST_EVENTS = 2_000_000
-LAST_SECOND = 253_370_764_799
 GREATEST_CAPACITY = 1_099_511_627_776
 LONGEST_HOLD = 86_400
 RECORDS = 4_194_304

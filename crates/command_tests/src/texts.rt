@@ -13,7 +13,7 @@ pub(crate) const RESERVE: &str =
 
 pub(crate) const ANSWER: &str =
     r#"{"connectionId":"P#1","correlationId":"R#1","kind":"reserveResponse","providerNSA":"p1","requesterNSA":"r1"}
-{"capacity":600,"connectionId":"P#1","correlationId":"R#1","destSTP":"B","directionality":"Bidirectional","endTime":200,"kind":"reserveConfirmed","providerNSA":"p1","requesterNSA":"r1","sourceSTP":"A","startTime":100,"version":0}
+{"capacity":600,"connectionId":"P#1","correlationId":"R#1","destSTP":"B","directionality":"Bidirectional","endTime":"1970-01-01T00:03:20Z","kind":"reserveConfirmed","providerNSA":"p1","requesterNSA":"r1","sourceSTP":"A","startTime":"1970-01-01T00:01:40Z","version":0}
 "#;
 
 /// The commit of the reserve, and its answer.
@@ -43,12 +43,12 @@ tick r1 0
 ask r1 sent reserve c1 A B 600 100 200
 sync p1 1
 sync r1 2
-got p1 {"capacity":600,"correlationId":"R#1","destSTP":"B","endTime":200,"kind":"reserve","providerNSA":"p1","requesterNSA":"r1","sourceSTP":"A","startTime":100}
+got p1 {"capacity":600,"correlationId":"R#1","destSTP":"B","endTime":"1970-01-01T00:03:20Z","kind":"reserve","providerNSA":"p1","requesterNSA":"r1","sourceSTP":"A","startTime":"1970-01-01T00:01:40Z"}
 work p1 0 reserve
 sync p1 3
 acked r1 {"correlationId":"R#1","kind":"ack","of":"reserve","providerNSA":"p1","requesterNSA":"r1"}
 got r1 {"connectionId":"P#1","correlationId":"R#1","kind":"reserveResponse","providerNSA":"p1","requesterNSA":"r1"}
-got r1 {"capacity":600,"connectionId":"P#1","correlationId":"R#1","destSTP":"B","directionality":"Bidirectional","endTime":200,"kind":"reserveConfirmed","providerNSA":"p1","requesterNSA":"r1","sourceSTP":"A","startTime":100,"version":0}
+got r1 {"capacity":600,"connectionId":"P#1","correlationId":"R#1","destSTP":"B","directionality":"Bidirectional","endTime":"1970-01-01T00:03:20Z","kind":"reserveConfirmed","providerNSA":"p1","requesterNSA":"r1","sourceSTP":"A","startTime":"1970-01-01T00:01:40Z","version":0}
 sync r1 5
 acked p1 {"correlationId":"R#1","kind":"ack","of":"reserveResponse","providerNSA":"p1","requesterNSA":"r1"}
 acked p1 {"correlationId":"R#1","kind":"ack","of":"reserveConfirmed","providerNSA":"p1","requesterNSA":"r1"}

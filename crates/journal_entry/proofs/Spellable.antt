@@ -13,7 +13,10 @@ use Rattle.nsi_primitive.specs.declared.message.Parcel.{Parcel}
 use Rattle.ask_text.specs.Asks.{ask_text}
 use Rattle.ask_text.specs.Reading.{ask_of}
 use Rattle.json_primitives.specs.Lines.{object_of}
-use Rattle.json_primitives.specs.Spelling.{spelling, parcel_spelling}
+use Rattle.json_primitives.specs.Spelling.{spelling_in, parcel_spelling}
+use Rattle.json_fields.specs.declared.time_form.TimeForm.{TimeForm}
+use Rattle.journal_entry.specs.Forms.{times_of}
+use Rattle.journal_entry.specs.declared.form.Form.{Form}
 use Rattle.journal_entry.specs.Spelling.{body_of, entry_spelling, entry_of, HasSpelling, HasParts, IsReadAgain}
 use Rattle.journal_entry.specs.Payloads.{payload_of, payload_spelling}
 use Rattle.journal_entry.proofs.Again.{entry_again, of_again, payload_again}
@@ -21,26 +24,26 @@ use Rattle.journal_entry.proofs.Again.{entry_again, of_again, payload_again}
 -- the laws of texts
 pub record AreTextsReadAgain : Type 0 where
   pub asks : (a : Ask) → IsSpellableAsk a → ask_of (ask_text a) ≡ Some a
-  pub messages : (m : Message) → IsSpellable m → object_of (spelling m) ≡ Ok (Parcel.Message m)
+  pub messages : (form : TimeForm) (m : Message) → IsSpellable m → object_of (spelling_in form m) ≡ Ok (Parcel.Message m)
   pub acks : (i : Identity) → IsRangedIdentity i → object_of (parcel_spelling (Parcel.Ack i)) ≡ Ok (Parcel.Ack i)
 
-parts_of : AreTextsReadAgain → (i : Input) → IsRangedInput i → IsPrintableInput i → length (body_of i) < 2 ^ 64 → HasParts i
-parts_of texts (Input.Ask number ask) r p l = (r.0, texts.asks ask (record { ranged = r.1; printable = p }), omega (arith, l))
-parts_of texts (Input.Got m) r p l = (texts.messages m (record { ranged = r; printable = p }), omega (arith, l))
-parts_of texts (Input.Work number machine) r p l = r
-parts_of texts Input.Tick r p l = tt
-parts_of texts (Input.Force number) r p l = r
-parts_of texts (Input.Acked identity) r p l = (texts.acks identity r, omega (arith, l))
+parts_of : AreTextsReadAgain → (form : Form) (i : Input) → IsRangedInput i → IsPrintableInput i → length (body_of form i) < 2 ^ 64 → HasParts form i
+parts_of texts form (Input.Ask number ask) r p l = (r.0, texts.asks ask (record { ranged = r.1; printable = p }), omega (arith, l))
+parts_of texts form (Input.Got m) r p l = (texts.messages (times_of form) m (record { ranged = r; printable = p }), omega (arith, l))
+parts_of texts form (Input.Work number machine) r p l = r
+parts_of texts form Input.Tick r p l = tt
+parts_of texts form (Input.Force number) r p l = r
+parts_of texts form (Input.Acked identity) r p l = (texts.acks identity r, omega (arith, l))
 
-again : AreTextsReadAgain → (e : Entry) → HasSpelling e → IsReadAgain e
-again texts e h = entry_again e h.spellable.ranged.second (parts_of texts e.input h.spellable.ranged.input h.spellable.printable (omega (arith, h.short)))
+again : AreTextsReadAgain → (form : Form) (e : Entry) → HasSpelling form e → IsReadAgain form e
+again texts form e h = entry_again form e h.spellable.ranged.second (parts_of texts form e.input h.spellable.ranged.input h.spellable.printable (omega (arith, h.short)))
 
-pub spelled_again : AreTextsReadAgain → (e : Entry) (rest : List ℕ) → HasSpelling e → entry_of (entry_spelling e ++ rest) ≡ Some (e, length (entry_spelling e))
-spelled_again texts e rest h = of_again e (entry_spelling e) (again texts e h) refl rest
+pub spelled_again : AreTextsReadAgain → (form : Form) (e : Entry) (rest : List ℕ) → HasSpelling form e → entry_of form (entry_spelling form e ++ rest) ≡ Some (e, length (entry_spelling form e))
+spelled_again texts form e rest h = of_again form e (entry_spelling form e) (again texts form e h) refl rest
 
-each_again : AreTextsReadAgain → (es : List Entry) → AllByRecursion HasSpelling es → AllByRecursion IsReadAgain es
-each_again texts [] h = tt
-each_again texts (e ∷ es) h = (again texts e h.0, each_again texts es h.1)
+each_again : AreTextsReadAgain → (form : Form) (es : List Entry) → AllByRecursion (HasSpelling form) es → AllByRecursion (IsReadAgain form) es
+each_again texts form [] h = tt
+each_again texts form (e ∷ es) h = (again texts form e h.0, each_again texts form es h.1)
 
-pub all_spelled_again : AreTextsReadAgain → (es : List Entry) → All HasSpelling es → payload_of (payload_spelling es) ≡ Some es
-all_spelled_again texts es h = payload_again es (each_again texts es (recursion_from_All HasSpelling es h))
+pub all_spelled_again : AreTextsReadAgain → (form : Form) (es : List Entry) → All (HasSpelling form) es → payload_of (payload_spelling form es) ≡ Some es
+all_spelled_again texts form es h = payload_again form es (each_again texts form es (recursion_from_All (HasSpelling form) es h))

@@ -21,16 +21,18 @@ use Rattle.nsi_base.specs.declared.words.Blanks.TheVariants.{Space}
 use Rattle.ask_text.specs.Asks.{ask_text}
 use Rattle.ask_text.specs.Reading.{ask_in, as_spelled as ask_spelled, ask_of}
 use Rattle.json_primitives.specs.Lines.{object_of}
-use Rattle.json_primitives.specs.Spelling.{spelling, parcel_spelling}
+use Rattle.json_primitives.specs.Spelling.{spelling_in, parcel_spelling_in, parcel_spelling}
 use Rattle.nsi_base.specs.Options.{◌>>=◌}
 use Rattle.journal_entry.specs.declared.fault.EntryFault.{EntryFault}
 use Rattle.journal_entry.specs.declared.fault.PayloadFault.{PayloadFault}
 use Rattle.journal_entry.specs.Faults.{Gives, GivesAll}
+use Rattle.journal_entry.specs.Forms.{times_of, form_byte, form_of}
+use Rattle.journal_entry.specs.declared.form.Form.{Form}
 use Rattle.journal_entry.specs.Fields.{IsByte, number_at, bounded_at, text_at, text_field}
 use Rattle.journal_entry.specs.Lines.{what_is_read, as_spelled, parcel_in, if_message, if_ack, message_in, ack_in}
 use Rattle.journal_entry.specs.Entries.{machine_of, ask_at, got_at, machine_at, work_at, force_at, acked_at, input_at, entry_at}
 use Rattle.journal_entry.specs.Spelling.{machine_byte, tag_of, body_of, entry_spelling}
-use Rattle.journal_entry.specs.Payloads.{onto, entries_in, payload_of, payload_spelling}
+use Rattle.journal_entry.specs.Payloads.{onto, entries_in, payload_of, IsSpelledPayload}
 use Rattle.journal_entry.proofs.Parts.{IsBytes, IsBytes-rest, bind_some, test_some, some_is, Takes, Takes-then, wide32, wide64, number_takes, bounded_takes, text_takes}
 
 -- ---- lines and asks
@@ -43,12 +45,12 @@ ask_is_spelled text a e =
     let t = test_some (bytes_eq (ask_text b.0) text) b.0 a b.2 in
     ap ask_text (sym t.1) ∙ (bytes_eq-Decides (ask_text b.0) text).0 t.0
 
-parcel_is_spelled : (text : List ℕ) (p : Parcel) → parcel_in text ≡ Some p → parcel_spelling p ≡ text
+parcel_is_spelled : (form : Form) (text : List ℕ) (p : Parcel) → parcel_in form text ≡ Some p → parcel_spelling_in (times_of form) p ≡ text
 unfolding parcel_in
-parcel_is_spelled text p e =
-    let b = bind_some (what_is_read (object_of text)) (as_spelled text) p e in
-    let t = test_some (bytes_eq (parcel_spelling b.0) text) b.0 p b.2 in
-    ap parcel_spelling (sym t.1) ∙ (bytes_eq-Decides (parcel_spelling b.0) text).0 t.0
+parcel_is_spelled form text p e =
+    let b = bind_some (what_is_read (object_of text)) (as_spelled form text) p e in
+    let t = test_some (bytes_eq (parcel_spelling_in (times_of form) b.0) text) b.0 p b.2 in
+    ap (parcel_spelling_in (times_of form)) (sym t.1) ∙ (bytes_eq-Decides (parcel_spelling_in (times_of form) b.0) text).0 t.0
 
 from_message : (p : Parcel) (m : Message) → if_message p ≡ Some m → p ≡ Parcel.Message m
 from_message (Parcel.Message n) m e = ap (λ k. Parcel.Message k) (some_is n m e)
@@ -58,61 +60,61 @@ from_ack : (p : Parcel) (i : Identity) → if_ack p ≡ Some i → p ≡ Parcel.
 from_ack (Parcel.Message n) i e = absurd cc
 from_ack (Parcel.Ack j) i e = ap (λ k. Parcel.Ack k) (some_is j i e)
 
-message_is_spelled : (text : List ℕ) (m : Message) → message_in text ≡ Some m → spelling m ≡ text
+message_is_spelled : (form : Form) (text : List ℕ) (m : Message) → message_in form text ≡ Some m → spelling_in (times_of form) m ≡ text
 unfolding message_in
-message_is_spelled text m e =
-    let b = bind_some (parcel_in text) if_message m e in
-    ap parcel_spelling (sym (from_message b.0 m b.2)) ∙ parcel_is_spelled text b.0 b.1
+message_is_spelled form text m e =
+    let b = bind_some (parcel_in form text) if_message m e in
+    ap (parcel_spelling_in (times_of form)) (sym (from_message b.0 m b.2)) ∙ parcel_is_spelled form text b.0 b.1
 
-ack_is_spelled : (text : List ℕ) (i : Identity) → ack_in text ≡ Some i → parcel_spelling (Parcel.Ack i) ≡ text
+ack_is_spelled : (form : Form) (text : List ℕ) (i : Identity) → ack_in form text ≡ Some i → parcel_spelling (Parcel.Ack i) ≡ text
 unfolding ack_in
-ack_is_spelled text i e =
-    let b = bind_some (parcel_in text) if_ack i e in
-    ap parcel_spelling (sym (from_ack b.0 i b.2)) ∙ parcel_is_spelled text b.0 b.1
+ack_is_spelled form text i e =
+    let b = bind_some (parcel_in form text) if_ack i e in
+    ap (parcel_spelling_in (times_of form)) (sym (from_ack b.0 i b.2)) ∙ parcel_is_spelled form text b.0 b.1
 
 -- ---- inputs
 
 -- an input of this tag stands at the front
-abbrev Stands : ℕ → List ℕ → Input × List ℕ → Type 0
-Stands tag bytes x = (tag_of x.0 ≡ tag) × Takes bytes (body_of x.0) x.1
+abbrev Stands : Form → ℕ → List ℕ → Input × List ℕ → Type 0
+Stands form tag bytes x = (tag_of x.0 ≡ tag) × Takes bytes (body_of form x.0) x.1
 
-stands_in : (bytes : List ℕ) (i : Input) (rest : List ℕ) (x : Input × List ℕ) → Some (i, rest) ≡ Some x → Takes bytes (body_of i) rest → Stands (tag_of i) bytes x
-stands_in bytes i rest x e t = subst (Stands (tag_of i) bytes) (some_is (i, rest) x e) (refl, t)
+stands_in : (form : Form) (bytes : List ℕ) (i : Input) (rest : List ℕ) (x : Input × List ℕ) → Some (i, rest) ≡ Some x → Takes bytes (body_of form i) rest → Stands form (tag_of i) bytes x
+stands_in form bytes i rest x e t = subst (Stands form (tag_of i) bytes) (some_is (i, rest) x e) (refl, t)
 
 -- a text that is a spelling
 spelled_field : (bytes text spelled rest : List ℕ) → IsBytes bytes → text_at bytes ≡ Some (text, rest) → spelled ≡ text → Takes bytes (text_field spelled) rest
 spelled_field bytes text spelled rest fits e s = subst (λ t. Takes bytes (text_field t) rest) (sym s) (text_takes bytes text rest fits e)
 
-ask_takes : (bytes : List ℕ) (x : Input × List ℕ) → IsBytes bytes → ask_at bytes ≡ Some x → Stands 1 bytes x
+ask_takes : (form : Form) (bytes : List ℕ) (x : Input × List ℕ) → IsBytes bytes → ask_at bytes ≡ Some x → Stands form 1 bytes x
 unfolding ask_at
-ask_takes bytes x fits e =
+ask_takes form bytes x fits e =
     let a = bind_some (number_at w32 bytes) (λ number. text_at number.1 >>= λ text. ask_of text.0 >>= λ ask. Some (Input.Ask number.0 ask, text.1)) x e in
     let b = bind_some (text_at a.0.1) (λ text. ask_of text.0 >>= λ ask. Some (Input.Ask a.0.0 ask, text.1)) x a.2 in
     let c = bind_some (ask_of b.0.0) (λ ask. Some (Input.Ask a.0.0 ask, b.0.1)) x b.2 in
     let t0 = number_takes w32 (2 ^ 32) wide32 bytes a.0.0 a.0.1 fits a.1 in
     let t1 = spelled_field a.0.1 b.0.0 (ask_text c.0) b.0.1 t0.rest_fits b.1 (ask_is_spelled b.0.0 c.0 c.1) in
-    stands_in bytes (Input.Ask a.0.0 c.0) b.0.1 x c.2 (Takes-then bytes (to_be_bytes w32 a.0.0) a.0.1 (text_field (ask_text c.0)) b.0.1 t0 t1)
+    stands_in form bytes (Input.Ask a.0.0 c.0) b.0.1 x c.2 (Takes-then bytes (to_be_bytes w32 a.0.0) a.0.1 (text_field (ask_text c.0)) b.0.1 t0 t1)
 
-got_takes : (bytes : List ℕ) (x : Input × List ℕ) → IsBytes bytes → got_at bytes ≡ Some x → Stands 2 bytes x
+got_takes : (form : Form) (bytes : List ℕ) (x : Input × List ℕ) → IsBytes bytes → got_at form bytes ≡ Some x → Stands form 2 bytes x
 unfolding got_at
-got_takes bytes x fits e =
-    let a = bind_some (text_at bytes) (λ text. message_in text.0 >>= λ message. Some (Input.Got message, text.1)) x e in
-    let b = bind_some (message_in a.0.0) (λ message. Some (Input.Got message, a.0.1)) x a.2 in
-    stands_in bytes (Input.Got b.0) a.0.1 x b.2 (spelled_field bytes a.0.0 (spelling b.0) a.0.1 fits a.1 (message_is_spelled a.0.0 b.0 b.1))
+got_takes form bytes x fits e =
+    let a = bind_some (text_at bytes) (λ text. message_in form text.0 >>= λ message. Some (Input.Got message, text.1)) x e in
+    let b = bind_some (message_in form a.0.0) (λ message. Some (Input.Got message, a.0.1)) x a.2 in
+    stands_in form bytes (Input.Got b.0) a.0.1 x b.2 (spelled_field bytes a.0.0 (spelling_in (times_of form) b.0) a.0.1 fits a.1 (message_is_spelled form a.0.0 b.0 b.1))
 
-acked_takes : (bytes : List ℕ) (x : Input × List ℕ) → IsBytes bytes → acked_at bytes ≡ Some x → Stands 6 bytes x
+acked_takes : (form : Form) (bytes : List ℕ) (x : Input × List ℕ) → IsBytes bytes → acked_at form bytes ≡ Some x → Stands form 6 bytes x
 unfolding acked_at
-acked_takes bytes x fits e =
-    let a = bind_some (text_at bytes) (λ text. ack_in text.0 >>= λ identity. Some (Input.Acked identity, text.1)) x e in
-    let b = bind_some (ack_in a.0.0) (λ identity. Some (Input.Acked identity, a.0.1)) x a.2 in
-    stands_in bytes (Input.Acked b.0) a.0.1 x b.2 (spelled_field bytes a.0.0 (parcel_spelling (Parcel.Ack b.0)) a.0.1 fits a.1 (ack_is_spelled a.0.0 b.0 b.1))
+acked_takes form bytes x fits e =
+    let a = bind_some (text_at bytes) (λ text. ack_in form text.0 >>= λ identity. Some (Input.Acked identity, text.1)) x e in
+    let b = bind_some (ack_in form a.0.0) (λ identity. Some (Input.Acked identity, a.0.1)) x a.2 in
+    stands_in form bytes (Input.Acked b.0) a.0.1 x b.2 (spelled_field bytes a.0.0 (parcel_spelling (Parcel.Ack b.0)) a.0.1 fits a.1 (ack_is_spelled form a.0.0 b.0 b.1))
 
-force_takes : (bytes : List ℕ) (x : Input × List ℕ) → IsBytes bytes → force_at bytes ≡ Some x → Stands 5 bytes x
+force_takes : (form : Form) (bytes : List ℕ) (x : Input × List ℕ) → IsBytes bytes → force_at bytes ≡ Some x → Stands form 5 bytes x
 unfolding force_at
-force_takes bytes x fits e =
+force_takes form bytes x fits e =
     let a = bind_some (bounded_at w32 greatest_record bytes) (λ number. Some (Input.Force number.0, number.1)) x e in
     let t = bounded_takes w32 (2 ^ 32) wide32 greatest_record bytes a.0.0 a.0.1 fits a.1 in
-    stands_in bytes (Input.Force a.0.0) a.0.1 x a.2 t
+    stands_in form bytes (Input.Force a.0.0) a.0.1 x a.2 t
 
 by_tag : {A : Type 0} (tag n : ℕ) (a b : Option A) (x : A) (P : ℕ → Type 0) → cond (eqb tag n) a b ≡ Some x → (a ≡ Some x → P n) → (b ≡ Some x → P tag) → P tag
 by_tag tag n a b x P e f g = by_test (eqb tag n) refl e
@@ -141,42 +143,42 @@ machine_takes (b ∷ bytes) x fits e =
     let m = mapped (machine_of b) bytes x e in
     record { parts = ap (λ k. k ∷ bytes) (sym (named_byte b x.0 m.0)) ∙ ap (λ r. machine_byte x.0 ∷ r) m.1; rest_fits = subst IsBytes m.1 (IsBytes-rest b bytes fits) }
 
-work_takes : (bytes : List ℕ) (x : Input × List ℕ) → IsBytes bytes → work_at bytes ≡ Some x → Stands 3 bytes x
+work_takes : (form : Form) (bytes : List ℕ) (x : Input × List ℕ) → IsBytes bytes → work_at bytes ≡ Some x → Stands form 3 bytes x
 unfolding work_at
-work_takes bytes x fits e =
+work_takes form bytes x fits e =
     let a = bind_some (bounded_at w32 greatest_record bytes) (λ number. machine_at number.1 >>= λ machine. Some (Input.Work number.0 machine.0, machine.1)) x e in
     let b = bind_some (machine_at a.0.1) (λ machine. Some (Input.Work a.0.0 machine.0, machine.1)) x a.2 in
     let t0 = bounded_takes w32 (2 ^ 32) wide32 greatest_record bytes a.0.0 a.0.1 fits a.1 in
     let t1 = machine_takes a.0.1 b.0 t0.rest_fits b.1 in
-    stands_in bytes (Input.Work a.0.0 b.0.0) b.0.1 x b.2 (Takes-then bytes (to_be_bytes w32 a.0.0) a.0.1 (machine_byte b.0.0 ∷ []) b.0.1 t0 t1)
+    stands_in form bytes (Input.Work a.0.0 b.0.0) b.0.1 x b.2 (Takes-then bytes (to_be_bytes w32 a.0.0) a.0.1 (machine_byte b.0.0 ∷ []) b.0.1 t0 t1)
 
-tick_takes : (bytes : List ℕ) (x : Input × List ℕ) → IsBytes bytes → Some (Input.Tick, bytes) ≡ Some x → Stands 4 bytes x
-tick_takes bytes x fits e = stands_in bytes Input.Tick bytes x e (record { parts = refl; rest_fits = fits })
+tick_takes : (form : Form) (bytes : List ℕ) (x : Input × List ℕ) → IsBytes bytes → Some (Input.Tick, bytes) ≡ Some x → Stands form 4 bytes x
+tick_takes form bytes x fits e = stands_in form bytes Input.Tick bytes x e (record { parts = refl; rest_fits = fits })
 
-input_takes : (tag : ℕ) (bytes : List ℕ) (x : Input × List ℕ) → IsBytes bytes → input_at tag bytes ≡ Some x → Stands tag bytes x
+input_takes : (form : Form) (tag : ℕ) (bytes : List ℕ) (x : Input × List ℕ) → IsBytes bytes → input_at form tag bytes ≡ Some x → Stands form tag bytes x
 unfolding input_at
-input_takes tag bytes x fits e =
-    by_tag tag 1 (ask_at bytes) _ x (λ t. Stands t bytes x) e (ask_takes bytes x fits)
-    (λ e2. by_tag tag 2 (got_at bytes) _ x (λ t. Stands t bytes x) e2 (got_takes bytes x fits)
-    (λ e3. by_tag tag 3 (work_at bytes) _ x (λ t. Stands t bytes x) e3 (work_takes bytes x fits)
-    (λ e4. by_tag tag 4 (Some (Input.Tick, bytes)) _ x (λ t. Stands t bytes x) e4 (tick_takes bytes x fits)
-    (λ e5. by_tag tag 5 (force_at bytes) _ x (λ t. Stands t bytes x) e5 (force_takes bytes x fits)
-    (λ e6. by_tag tag 6 (acked_at bytes) None x (λ t. Stands t bytes x) e6 (acked_takes bytes x fits) (λ e7. absurd cc))))))
+input_takes form tag bytes x fits e =
+    by_tag tag 1 (ask_at bytes) _ x (λ t. Stands form t bytes x) e (ask_takes form bytes x fits)
+    (λ e2. by_tag tag 2 (got_at form bytes) _ x (λ t. Stands form t bytes x) e2 (got_takes form bytes x fits)
+    (λ e3. by_tag tag 3 (work_at bytes) _ x (λ t. Stands form t bytes x) e3 (work_takes form bytes x fits)
+    (λ e4. by_tag tag 4 (Some (Input.Tick, bytes)) _ x (λ t. Stands form t bytes x) e4 (tick_takes form bytes x fits)
+    (λ e5. by_tag tag 5 (force_at bytes) _ x (λ t. Stands form t bytes x) e5 (force_takes form bytes x fits)
+    (λ e6. by_tag tag 6 (acked_at form bytes) None x (λ t. Stands form t bytes x) e6 (acked_takes form bytes x fits) (λ e7. absurd cc))))))
 
 -- ---- entries
 
-pub entry_takes : (bytes : List ℕ) (x : Entry × List ℕ) → IsBytes bytes → entry_at bytes ≡ Some x → Takes bytes (entry_spelling x.0) x.1
+pub entry_takes : (form : Form) (bytes : List ℕ) (x : Entry × List ℕ) → IsBytes bytes → entry_at form bytes ≡ Some x → Takes bytes (entry_spelling form x.0) x.1
 unfolding entry_at
-entry_takes [] x fits e = absurd cc
-entry_takes (tag ∷ bytes) x fits e =
-    let a = bind_some (bounded_at w64 greatest_second bytes) (λ second. input_at tag second.1 >>= λ input. Some (record { second = second.0; input = input.0 }, input.1)) x e in
-    let b = bind_some (input_at tag a.0.1) (λ input. Some (record { second = a.0.0; input = input.0 }, input.1)) x a.2 in
+entry_takes form [] x fits e = absurd cc
+entry_takes form (tag ∷ bytes) x fits e =
+    let a = bind_some (bounded_at w64 greatest_second bytes) (λ second. input_at form tag second.1 >>= λ input. Some (record { second = second.0; input = input.0 }, input.1)) x e in
+    let b = bind_some (input_at form tag a.0.1) (λ input. Some (record { second = a.0.0; input = input.0 }, input.1)) x a.2 in
     let t0 = bounded_takes w64 (2 ^ 64) wide64 greatest_second bytes a.0.0 a.0.1 (IsBytes-rest tag bytes fits) a.1 in
-    let t1 = input_takes tag a.0.1 b.0 t0.rest_fits b.1 in
-    let t2 = Takes-then bytes (to_be_bytes w64 a.0.0) a.0.1 (body_of b.0.0) b.0.1 t0 t1.1 in
+    let t1 = input_takes form tag a.0.1 b.0 t0.rest_fits b.1 in
+    let t2 = Takes-then bytes (to_be_bytes w64 a.0.0) a.0.1 (body_of form b.0.0) b.0.1 t0 t1.1 in
     let made : Entry × List ℕ = (record { second = a.0.0; input = b.0.0 }, b.0.1) in
-    subst (λ (y : Entry × List ℕ). Takes (tag ∷ bytes) (entry_spelling y.0) y.1) (some_is made x b.2)
-    (record { parts = ap (λ (t : List ℕ). tag ∷ t) t2.parts ∙ ap (λ k. k ∷ ((to_be_bytes w64 a.0.0 ++ body_of b.0.0) ++ b.0.1)) (sym t1.0); rest_fits = t2.rest_fits })
+    subst (λ (y : Entry × List ℕ). Takes (tag ∷ bytes) (entry_spelling form y.0) y.1) (some_is made x b.2)
+    (record { parts = ap (λ (t : List ℕ). tag ∷ t) t2.parts ∙ ap (λ k. k ∷ ((to_be_bytes w64 a.0.0 ++ body_of form b.0.0) ++ b.0.1)) (sym t1.0); rest_fits = t2.rest_fits })
 
 -- the front of the bytes, as long as what was read
 pub front_is : (bytes text rest : List ℕ) → bytes ≡ text ++ rest → take (length bytes - length rest) bytes ≡ text
@@ -184,8 +186,8 @@ front_is bytes text rest e =
     let l : length bytes - length rest ≡ length text = omega (arith, ap length e, length-append text rest) in
     ap (λ n. take n bytes) l ∙ (ap (take (length text)) e ∙ take_at text rest (length text) refl)
 
-pub some_bytes : (e : Entry) → 0 < length (entry_spelling e)
-some_bytes e = omega arith
+pub some_bytes : (form : Form) (e : Entry) → 0 < length (entry_spelling form e)
+some_bytes form e = omega arith
 
 -- ---- payloads
 
@@ -193,24 +195,29 @@ onto_some : (e : Entry) (o : Option (List Entry)) (es : List Entry) → onto e o
 onto_some e None es h = absurd cc
 onto_some e (Some more) es h = (more, refl, some_is (e ∷ more) es h)
 
-entries_take : (fuel : ℕ) (bytes : List ℕ) (es : List Entry) → IsBytes bytes → entries_in fuel bytes ≡ Some es → bytes ≡ flat_map entry_spelling es
+entries_take : (form : Form) (fuel : ℕ) (bytes : List ℕ) (es : List Entry) → IsBytes bytes → entries_in form fuel bytes ≡ Some es → bytes ≡ flat_map (entry_spelling form) es
 unfolding entries_in
-entries_take fuel [] es fits e = ap (flat_map entry_spelling) (some_is [] es e)
-entries_take zero (b ∷ bytes) es fits e = absurd cc
-entries_take (suc fuel) (b ∷ bytes) es fits e =
-    let a = bind_some (entry_at (b ∷ bytes)) (λ x. onto x.0 (entries_in fuel x.1)) es e in
-    let o = onto_some a.0.0 (entries_in fuel a.0.1) es a.2 in
-    let t = entry_takes (b ∷ bytes) a.0 fits a.1 in
-    t.parts ∙ (ap (λ r. entry_spelling a.0.0 ++ r) (entries_take fuel a.0.1 o.0 t.rest_fits o.1) ∙ ap (flat_map entry_spelling) o.2)
+entries_take form fuel [] es fits e = ap (flat_map (entry_spelling form)) (some_is [] es e)
+entries_take form zero (b ∷ bytes) es fits e = absurd cc
+entries_take form (suc fuel) (b ∷ bytes) es fits e =
+    let a = bind_some (entry_at form (b ∷ bytes)) (λ x. onto x.0 (entries_in form fuel x.1)) es e in
+    let o = onto_some a.0.0 (entries_in form fuel a.0.1) es a.2 in
+    let t = entry_takes form (b ∷ bytes) a.0 fits a.1 in
+    t.parts ∙ (ap (λ r. entry_spelling form a.0.0 ++ r) (entries_take form fuel a.0.1 o.0 t.rest_fits o.1) ∙ ap (flat_map (entry_spelling form)) o.2)
 
-pub payload_takes : (bytes : List ℕ) (es : List Entry) → IsBytes bytes → payload_of bytes ≡ Some es → bytes ≡ payload_spelling es
+-- the byte of the form that it says
+said_byte : (b : ℕ) (form : Form) → form_of b ≡ Some form → form_byte form ≡ b
+said_byte b form e =
+    by_tag b 1 (Some Form.One) _ form (λ t. form_byte form ≡ t) e (λ q. ap form_byte (sym (some_is Form.One form q)))
+    (λ e2. by_tag b 2 (Some Form.Two) None form (λ t. form_byte form ≡ t) e2 (λ q. ap form_byte (sym (some_is Form.Two form q))) (λ e3. absurd cc))
+
+pub payload_takes : (bytes : List ℕ) (es : List Entry) → IsBytes bytes → payload_of bytes ≡ Some es → IsSpelledPayload bytes es
 unfolding payload_of
 payload_takes [] es fits e = absurd cc
-payload_takes (form ∷ bytes) es fits e = by_test (eqb form 1) refl e
-  where
-    by_test : (t : Bool) → eqb form 1 ≡ t → cond t (entries_in (length bytes) bytes) None ≡ Some es → form ∷ bytes ≡ payload_spelling es
-    by_test true q h = ap (λ k. k ∷ bytes) (eqb-true form 1 q) ∙ ap (λ (t : List ℕ). 1 ∷ t) (entries_take (length bytes) bytes es (IsBytes-rest form bytes fits) h)
-    by_test false q h = absurd cc
+payload_takes (b ∷ bytes) es fits e =
+    let a = bind_some (form_of b) (λ form. entries_in form (length bytes) bytes) es e in
+    let taken = entries_take a.0 (length bytes) bytes es (IsBytes-rest b bytes fits) a.2 in
+    record { form = a.0; spelled = ap (λ k. k ∷ bytes) (sym (said_byte b a.0 a.1)) ∙ ap (λ (t : List ℕ). form_byte a.0 ∷ t) taken }
 
 -- ---- bytes, each by itself
 
@@ -219,18 +226,18 @@ each_fits [] h i = omega arith
 each_fits (b ∷ bytes) h zero = h.0
 each_fits (b ∷ bytes) h (suc i) = each_fits bytes h.1 i
 
-pub entry_spelled : (bytes rest : List ℕ) (e : Entry) → All IsByte bytes → entry_at bytes ≡ Some (e, rest) → bytes ≡ entry_spelling e ++ rest
-entry_spelled bytes rest e fits h = (entry_takes bytes (e, rest) (each_fits bytes (recursion_from_All IsByte bytes fits)) h).parts
+pub entry_spelled : (form : Form) (bytes rest : List ℕ) (e : Entry) → All IsByte bytes → entry_at form bytes ≡ Some (e, rest) → bytes ≡ entry_spelling form e ++ rest
+entry_spelled form bytes rest e fits h = (entry_takes form bytes (e, rest) (each_fits bytes (recursion_from_All IsByte bytes fits)) h).parts
 
-pub payload_spelled : (bytes : List ℕ) (es : List Entry) → All IsByte bytes → payload_of bytes ≡ Some es → bytes ≡ payload_spelling es
+pub payload_spelled : (bytes : List ℕ) (es : List Entry) → All IsByte bytes → payload_of bytes ≡ Some es → IsSpelledPayload bytes es
 payload_spelled bytes es fits h = payload_takes bytes es (each_fits bytes (recursion_from_All IsByte bytes fits)) h
 
 -- ---- what a reader returned
 
-pub entry_found : (bytes : List ℕ) (r : Result (Entry × Bor (List ℕ)) EntryFault) → IsBytes bytes → Gives (λ x. (x.0, x.1.now)) r (entry_at bytes) → IfOk r (λ x. bytes ≡ entry_spelling x.0 ++ x.1.now)
-entry_found bytes (Ok x) fits g = (entry_takes bytes (x.0, x.1.now) fits g).parts
-entry_found bytes (Err fault) fits g = tt
+pub entry_found : (form : Form) (bytes : List ℕ) (r : Result (Entry × Bor (List ℕ)) EntryFault) → IsBytes bytes → Gives (λ x. (x.0, x.1.now)) r (entry_at form bytes) → IfOk r (λ x. bytes ≡ entry_spelling form x.0 ++ x.1.now)
+entry_found form bytes (Ok x) fits g = (entry_takes form bytes (x.0, x.1.now) fits g).parts
+entry_found form bytes (Err fault) fits g = tt
 
-pub payload_found : (bytes : List ℕ) (r : Result (Vec Entry) PayloadFault) → IsBytes bytes → GivesAll (λ v. v.items) r (payload_of bytes) → IfOk r (λ v. bytes ≡ payload_spelling v.items)
+pub payload_found : (bytes : List ℕ) (r : Result (Vec Entry) PayloadFault) → IsBytes bytes → GivesAll (λ v. v.items) r (payload_of bytes) → IfOk r (λ v. IsSpelledPayload bytes v.items)
 payload_found bytes (Ok v) fits g = payload_takes bytes v.items fits g
 payload_found bytes (Err fault) fits g = tt

@@ -7,6 +7,7 @@ use Rattle.nsi_primitive.specs.declared.entry.Entry.{Entry}
 use Rattle.nsi_primitive.specs.declared.entry.Input.{Input}
 use Rattle.nsi_primitive.specs.declared.state.Machine.{Machine}
 use Rattle.ask_text.specs.Reading.{ask_of}
+use Rattle.journal_entry.specs.declared.form.Form.{Form}
 use Rattle.journal_entry.specs.Fields.{number_at, bounded_at, text_at}
 use Rattle.journal_entry.specs.Lines.{message_in, ack_in}
 
@@ -25,10 +26,10 @@ ask_at bytes = do
   ask ← ask_of text.0
   Some (Input.Ask number.0 ask, text.1)
 
-unfoldable pub got_at : List ℕ → Option (Input × List ℕ)
-got_at bytes = do
+unfoldable pub got_at : Form → List ℕ → Option (Input × List ℕ)
+got_at form bytes = do
   text ← text_at bytes
-  message ← message_in text.0
+  message ← message_in form text.0
   Some (Input.Got message, text.1)
 
 unfoldable pub machine_at : List ℕ → Option (Machine × List ℕ)
@@ -46,27 +47,27 @@ force_at bytes = do
   number ← bounded_at w32 greatest_record bytes
   Some (Input.Force number.0, number.1)
 
-unfoldable pub acked_at : List ℕ → Option (Input × List ℕ)
-acked_at bytes = do
+unfoldable pub acked_at : Form → List ℕ → Option (Input × List ℕ)
+acked_at form bytes = do
   text ← text_at bytes
-  identity ← ack_in text.0
+  identity ← ack_in form text.0
   Some (Input.Acked identity, text.1)
 
 -- by the tag
-unfoldable pub input_at : ℕ → List ℕ → Option (Input × List ℕ)
-input_at tag bytes =
+unfoldable pub input_at : Form → ℕ → List ℕ → Option (Input × List ℕ)
+input_at form tag bytes =
     if tag == 1 then ask_at bytes
-    else if tag == 2 then got_at bytes
+    else if tag == 2 then got_at form bytes
     else if tag == 3 then work_at bytes
     else if tag == 4 then Some (Input.Tick, bytes)
     else if tag == 5 then force_at bytes
-    else if tag == 6 then acked_at bytes
+    else if tag == 6 then acked_at form bytes
     else None
 
 -- the entry at the front, and the bytes behind it
-unfoldable pub entry_at : List ℕ → Option (Entry × List ℕ)
-entry_at [] = None
-entry_at (tag ∷ bytes) = do
+unfoldable pub entry_at : Form → List ℕ → Option (Entry × List ℕ)
+entry_at form [] = None
+entry_at form (tag ∷ bytes) = do
   second ← bounded_at w64 greatest_second bytes
-  input ← input_at tag second.1
+  input ← input_at form tag second.1
   Some (record { second = second.0; input = input.0 }, input.1)

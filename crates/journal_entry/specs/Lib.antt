@@ -1,5 +1,6 @@
 pub mod Faults
 pub mod Fields
+pub mod Forms
 pub mod Lines
 pub mod Entries
 pub mod Spelling

@@ -1,4 +1,4 @@
--- The lines of messages and acknowledgements, in their one spelling.
+-- The lines of messages and acknowledgements, in the one spelling of a form.
 use Rattle.std.specs.Prelude.{ℕ, List, if◌then◌else◌, Option, Some, None, Result, Ok, Err}
 use Rattle.std.specs.Str.{bytes_eq}
 use Rattle.nsi_primitive.specs.declared.message.Identity.{Identity}
@@ -6,20 +6,22 @@ use Rattle.nsi_primitive.specs.declared.message.Message.{Message}
 use Rattle.nsi_primitive.specs.declared.message.Parcel.{Parcel}
 use Rattle.json_fields.specs.declared.fault.LineFault.{LineFault}
 use Rattle.json_primitives.specs.Lines.{object_of}
-use Rattle.json_primitives.specs.Spelling.{parcel_spelling}
+use Rattle.json_primitives.specs.Spelling.{parcel_spelling_in}
 use Rattle.nsi_base.specs.Options.{◌>>=◌}
+use Rattle.journal_entry.specs.Forms.{times_of}
+use Rattle.journal_entry.specs.declared.form.Form.{Form}
 
 abbrev pub what_is_read : Result Parcel LineFault → Option Parcel
 what_is_read (Ok parcel) = Some parcel
 what_is_read (Err fault) = None
 
 -- the parcel, where these bytes are its spelling
-abbrev pub as_spelled : List ℕ → Parcel → Option Parcel
-as_spelled text parcel = if bytes_eq (parcel_spelling parcel) text then Some parcel else None
+abbrev pub as_spelled : Form → List ℕ → Parcel → Option Parcel
+as_spelled form text parcel = if bytes_eq (parcel_spelling_in (times_of form) parcel) text then Some parcel else None
 
 -- the parcel that a line is the one spelling of
-unfoldable pub parcel_in : List ℕ → Option Parcel
-parcel_in text = what_is_read (object_of text) >>= as_spelled text
+unfoldable pub parcel_in : Form → List ℕ → Option Parcel
+parcel_in form text = what_is_read (object_of text) >>= as_spelled form text
 
 abbrev pub if_message : Parcel → Option Message
 if_message (Parcel.Message message) = Some message
@@ -30,8 +32,8 @@ if_ack (Parcel.Message message) = None
 if_ack (Parcel.Ack identity) = Some identity
 
 -- the message, or the message that is acknowledged
-unfoldable pub message_in : List ℕ → Option Message
-message_in text = parcel_in text >>= if_message
+unfoldable pub message_in : Form → List ℕ → Option Message
+message_in form text = parcel_in form text >>= if_message
 
-unfoldable pub ack_in : List ℕ → Option Identity
-ack_in text = parcel_in text >>= if_ack
+unfoldable pub ack_in : Form → List ℕ → Option Identity
+ack_in form text = parcel_in form text >>= if_ack

@@ -10,7 +10,9 @@ use Rattle.nsi_primitive.specs.declared.state.Machine.{Machine}
 use Rattle.ask_text.specs.Asks.{ask_text}
 use Rattle.ask_text.specs.Reading.{ask_of}
 use Rattle.json_primitives.specs.Lines.{object_of}
-use Rattle.json_primitives.specs.Spelling.{spelling, parcel_spelling}
+use Rattle.json_primitives.specs.Spelling.{spelling_in, parcel_spelling}
+use Rattle.journal_entry.specs.Forms.{times_of}
+use Rattle.journal_entry.specs.declared.form.Form.{Form}
 use Rattle.journal_entry.specs.Fields.{text_field}
 use Rattle.journal_entry.specs.Entries.{entry_at}
 
@@ -30,36 +32,36 @@ tag_of (Input.Force number) = 5
 tag_of (Input.Acked identity) = 6
 
 -- what stands behind the second
-abbrev pub body_of : Input → List ℕ
-body_of (Input.Ask number ask) = to_be_bytes w32 number ++ text_field (ask_text ask)
-body_of (Input.Got message) = text_field (spelling message)
-body_of (Input.Work number machine) = to_be_bytes w32 number ++ machine_byte machine ∷ []
-body_of Input.Tick = []
-body_of (Input.Force number) = to_be_bytes w32 number
-body_of (Input.Acked identity) = text_field (parcel_spelling (Parcel.Ack identity))
+abbrev pub body_of : Form → Input → List ℕ
+body_of form (Input.Ask number ask) = to_be_bytes w32 number ++ text_field (ask_text ask)
+body_of form (Input.Got message) = text_field (spelling_in (times_of form) message)
+body_of form (Input.Work number machine) = to_be_bytes w32 number ++ machine_byte machine ∷ []
+body_of form Input.Tick = []
+body_of form (Input.Force number) = to_be_bytes w32 number
+body_of form (Input.Acked identity) = text_field (parcel_spelling (Parcel.Ack identity))
 
 -- an entry: a tag, the second in 8 bytes, and a body
-abbrev pub entry_spelling : Entry → List ℕ
-entry_spelling e = tag_of e.input ∷ (to_be_bytes w64 e.second ++ body_of e.input)
+abbrev pub entry_spelling : Form → Entry → List ℕ
+entry_spelling form e = tag_of e.input ∷ (to_be_bytes w64 e.second ++ body_of form e.input)
 
 -- the entry at the front, and its length
-abbrev pub entry_of : List ℕ → Option (Entry × ℕ)
-entry_of bytes = option_map (λ x. (x.0, length bytes - length x.1)) (entry_at bytes)
+abbrev pub entry_of : Form → List ℕ → Option (Entry × ℕ)
+entry_of form bytes = option_map (λ x. (x.0, length bytes - length x.1)) (entry_at form bytes)
 
 -- the entry has a spelling: it is one that the types hold, and each text's length fits its 8 bytes
-pub record HasSpelling (e : Entry) : Type 0 where
+pub record HasSpelling (form : Form) (e : Entry) : Type 0 where
   pub spellable : IsSpellableEntry e
-  pub short : length (entry_spelling e) < 2 ^ 64
+  pub short : length (entry_spelling form e) < 2 ^ 64
 
 -- what is written of the entry is read again, whatever follows it
-abbrev pub IsReadAgain : Entry → Type 0
-IsReadAgain e = (rest : List ℕ) → entry_at (entry_spelling e ++ rest) ≡ Some (e, rest)
+abbrev pub IsReadAgain : Form → Entry → Type 0
+IsReadAgain form e = (rest : List ℕ) → entry_at form (entry_spelling form e ++ rest) ≡ Some (e, rest)
 
 -- what the types and the texts of an input say to that
-abbrev pub HasParts : Input → Type 0
-HasParts (Input.Ask number ask) = (number < 2 ^ 32) × (ask_of (ask_text ask) ≡ Some ask) × (length (ask_text ask) < 2 ^ 64)
-HasParts (Input.Got message) = (object_of (spelling message) ≡ Ok (Parcel.Message message)) × (length (spelling message) < 2 ^ 64)
-HasParts (Input.Work number machine) = number ≤ greatest_record
-HasParts Input.Tick = Unit {0}
-HasParts (Input.Force number) = number ≤ greatest_record
-HasParts (Input.Acked identity) = (object_of (parcel_spelling (Parcel.Ack identity)) ≡ Ok (Parcel.Ack identity)) × (length (parcel_spelling (Parcel.Ack identity)) < 2 ^ 64)
+abbrev pub HasParts : Form → Input → Type 0
+HasParts form (Input.Ask number ask) = (number < 2 ^ 32) × (ask_of (ask_text ask) ≡ Some ask) × (length (ask_text ask) < 2 ^ 64)
+HasParts form (Input.Got message) = (object_of (spelling_in (times_of form) message) ≡ Ok (Parcel.Message message)) × (length (spelling_in (times_of form) message) < 2 ^ 64)
+HasParts form (Input.Work number machine) = number ≤ greatest_record
+HasParts form Input.Tick = Unit {0}
+HasParts form (Input.Force number) = number ≤ greatest_record
+HasParts form (Input.Acked identity) = (object_of (parcel_spelling (Parcel.Ack identity)) ≡ Ok (Parcel.Ack identity)) × (length (parcel_spelling (Parcel.Ack identity)) < 2 ^ 64)

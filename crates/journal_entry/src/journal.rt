@@ -83,7 +83,8 @@ pub trait Journal {
         ensures cause { HasJournalCause (meter self.old) (meter self.new) result }
         ensures same_disk { IsErrOf result NoRoom → history self.new ≡ history self.old }
         ensures same { IsErrOf result NoRoom → kept self.new ≡ kept self.old }
-        ensures same_counts { IsErrOf result NoRoom → HasSameCounts (meter self.old) (meter self.new) }
+        ensures same_counts { IsErrOf result NoRoom
+            → HasSameCounts (meter self.old) (meter self.new) }
         ensures usable { IsErrOf result NoRoom → (waits self.new ≡ false) × is_ready self.new }
         ensures untold { history self.old ≡ None → history self.new ≡ None };
 

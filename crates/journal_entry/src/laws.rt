@@ -5,7 +5,7 @@ ghost use Rattle.journal_entry.specs.Laws.{EntriesAreReadAgain, PayloadsAreReadA
 use ask_text::laws::asks_are_read_again;
 use json_primitives::laws::lines_are_read_again;
 
-/// The bytes of each entry that has a spelling are read as it, whatever follows them.
+/// The bytes of each entry that has a spelling in a form are read in it as the entry, whatever follows them.
 pub fn entries_are_read_again()
     ensures { EntriesAreReadAgain }
 {
@@ -13,7 +13,7 @@ pub fn entries_are_read_again()
     lines_are_read_again();
 }
 
-/// The bytes of entries behind a form byte are read as them.
+/// The bytes of entries in a form, behind its byte, are read as them.
 pub fn payloads_are_read_again()
     ensures { PayloadsAreReadAgain }
 {
@@ -21,7 +21,8 @@ pub fn payloads_are_read_again()
     lines_are_read_again();
 }
 
-/// Bytes that are read as an entry begin with its spelling, and bytes that are a payload are the spelling of its entries.
+/// Bytes that are read as an entry of a form begin with its spelling in it, and bytes that are a payload are the
+/// spelling of its entries in one of the forms.
 pub fn what_is_read_is_spelled()
     ensures entries { EntriesAreSpelled }
     ensures payloads { PayloadsAreSpelled }

@@ -3,6 +3,7 @@
 
 pub mod fault;
 pub mod fields;
+pub mod form;
 pub mod journal;
 pub mod laws;
 pub mod lines;
@@ -11,6 +12,7 @@ pub mod reading;
 pub mod writing;
 
 pub use fault::{EntryFault, PayloadFault};
+pub use form::Form;
 pub use journal::{Journal, JournalFault, keep};
 pub use payloads::{read_batch, read_payload, write_payload};
 pub use reading::read_entry;

@@ -1,4 +1,4 @@
-//! The lines of messages and acknowledgements, in their one spelling.
+//! The lines of messages and acknowledgements, in the one spelling of a form.
 
 ghost use Rattle.std.specs.Prelude.{IfOk};
 ghost use Rattle.nsi_primitive.specs.Printable.{IsPrintable, IsPrintableParcel};
@@ -7,7 +7,8 @@ ghost use Rattle.journal_entry.specs.Faults.{Gives};
 ghost use Rattle.journal_entry.specs.Lines.{what_is_read, parcel_in, message_in, ack_in};
 
 use crate::fault::EntryFault;
-use json_primitives::{LineFault, print_line, read_object};
+use crate::form::Form;
+use json_primitives::{LineFault, print_line_in, read_object};
 use nsi_primitive::{Identity, Message, Parcel};
 use std::alloc::Global;
 
@@ -23,12 +24,12 @@ fn parcel_of(alloc: Global, text: &[u8]) -> Result<Parcel, EntryFault>
 }
 
 #[tactic(auto, unfolding(crate::specs::Lines::parcel_in))]
-fn parcel_in(alloc: Global, text: &[u8]) -> Result<Parcel, EntryFault>
-    ensures gives { Gives (λ p. p) result (parcel_in text.now) }
+fn parcel_in(alloc: Global, form: Form, text: &[u8]) -> Result<Parcel, EntryFault>
+    ensures gives { Gives (λ p. p) result (parcel_in form text.now) }
     ensures printable { IfOk result IsPrintableParcel }
 {
     let parcel = parcel_of(alloc, text)?;
-    let spelling = print_line(alloc, &parcel)?;
+    let spelling = print_line_in(alloc, form.times(), &parcel)?;
     if spelling.as_slice() == text {
         Ok(parcel)
     } else {
@@ -37,21 +38,21 @@ fn parcel_in(alloc: Global, text: &[u8]) -> Result<Parcel, EntryFault>
 }
 
 #[tactic(auto, unfolding(crate::specs::Lines::message_in))]
-pub(crate) fn message_in(alloc: Global, text: &[u8]) -> Result<Message, EntryFault>
-    ensures gives { Gives (λ m. m) result (message_in text.now) }
+pub(crate) fn message_in(alloc: Global, form: Form, text: &[u8]) -> Result<Message, EntryFault>
+    ensures gives { Gives (λ m. m) result (message_in form text.now) }
     ensures printable { IfOk result IsPrintable }
 {
-    match parcel_in(alloc, text)? {
+    match parcel_in(alloc, form, text)? {
         Parcel::Message(message) => Ok(message),
         Parcel::Ack(_) => Err(EntryFault::NotAnEntry),
     }
 }
 
 #[tactic(auto, unfolding(crate::specs::Lines::ack_in))]
-pub(crate) fn ack_in(alloc: Global, text: &[u8]) -> Result<Identity, EntryFault>
-    ensures { Gives (λ i. i) result (ack_in text.now) }
+pub(crate) fn ack_in(alloc: Global, form: Form, text: &[u8]) -> Result<Identity, EntryFault>
+    ensures { Gives (λ i. i) result (ack_in form text.now) }
 {
-    match parcel_in(alloc, text)? {
+    match parcel_in(alloc, form, text)? {
         Parcel::Message(_) => Err(EntryFault::NotAnEntry),
         Parcel::Ack(identity) => Ok(identity),
     }

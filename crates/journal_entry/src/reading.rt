@@ -9,36 +9,41 @@ ghost use Rattle.journal_entry.specs.Spelling.{entry_spelling, entry_of};
 
 use crate::fault::EntryFault;
 use crate::fields::{record_at, second_at, text_at, u32_at};
+use crate::form::Form;
 use crate::lines::{ack_in, message_in};
 use ask_text::{AskTextFault, read_ask};
 use nsi_primitive::{Ask, Entry, Input, Machine};
 use std::alloc::Global;
 
-/// Reads the entry at the front, and answers its length. Anything may follow it.
-pub fn read_entry(alloc: Global, bytes: &[u8]) -> Result<(Entry, usize), EntryFault>
-    ensures gives { Gives (λ x. x) result (entry_of bytes.now) }
+/// Reads the entry of a form at the front, and answers its length. Anything may follow it.
+pub fn read_entry(alloc: Global, form: Form, bytes: &[u8]) -> Result<(Entry, usize), EntryFault>
+    ensures gives { Gives (λ x. x) result (entry_of form bytes.now) }
     ensures printable { IfOk result (λ x. IsPrintableEntry x.0) }
-    ensures spelled { IfOk result (λ x. take x.1 bytes.now ≡ entry_spelling x.0) }
+    ensures spelled { IfOk result (λ x. take x.1 bytes.now ≡ entry_spelling form x.0) }
     ensures within { IfOk result (λ x. (0 < x.1) × (x.1 ≤ length bytes.now)) }
 {
-    match entry_at(alloc, bytes) {
+    match entry_at(alloc, form, bytes) {
         Ok((entry, rest)) => Ok((entry, bytes.len() - rest.len())),
         Err(fault) => Err(fault),
     }
 }
 
 /// The entry at the front, and the bytes behind it.
-pub(crate) fn entry_at(alloc: Global, bytes: &[u8]) -> Result<(Entry, &[u8]), EntryFault>
-    ensures gives { Gives (λ x. (x.0, x.1.now)) result (entry_at bytes.now) }
+pub(crate) fn entry_at(
+    alloc: Global,
+    form: Form,
+    bytes: &[u8],
+) -> Result<(Entry, &[u8]), EntryFault>
+    ensures gives { Gives (λ x. (x.0, x.1.now)) result (entry_at form bytes.now) }
     ensures printable { IfOk result (λ x. IsPrintableEntry x.0) }
-    ensures spelled { IfOk result (λ x. bytes.now ≡ entry_spelling x.0 ++ x.1.now) }
+    ensures spelled { IfOk result (λ x. bytes.now ≡ entry_spelling form x.0 ++ x.1.now) }
 {
-    parts_at(alloc, bytes)
+    parts_at(alloc, form, bytes)
 }
 
 #[tactic(auto, unfolding(crate::specs::Entries::entry_at))]
-fn parts_at(alloc: Global, bytes: &[u8]) -> Result<(Entry, &[u8]), EntryFault>
-    ensures gives { Gives (λ x. (x.0, x.1.now)) result (entry_at bytes.now) }
+fn parts_at(alloc: Global, form: Form, bytes: &[u8]) -> Result<(Entry, &[u8]), EntryFault>
+    ensures gives { Gives (λ x. (x.0, x.1.now)) result (entry_at form bytes.now) }
     ensures printable { IfOk result (λ x. IsPrintableEntry x.0) }
 {
     let Some((tag, rest)) = bytes.split_first() else {
@@ -48,24 +53,24 @@ fn parts_at(alloc: Global, bytes: &[u8]) -> Result<(Entry, &[u8]), EntryFault>
         Ok(found) => found,
         Err(fault) => return Err(fault),
     };
-    match input_at(alloc, *tag, rest) {
+    match input_at(alloc, form, *tag, rest) {
         Ok((input, rest)) => Ok((Entry { second, input }, rest)),
         Err(fault) => Err(fault),
     }
 }
 
 #[tactic(auto, unfolding(crate::specs::Entries::input_at))]
-fn input_at(alloc: Global, tag: u8, bytes: &[u8]) -> Result<(Input, &[u8]), EntryFault>
-    ensures gives { Gives (λ x. (x.0, x.1.now)) result (input_at tag bytes.now) }
+fn input_at(alloc: Global, form: Form, tag: u8, bytes: &[u8]) -> Result<(Input, &[u8]), EntryFault>
+    ensures gives { Gives (λ x. (x.0, x.1.now)) result (input_at form tag bytes.now) }
     ensures printable { IfOk result (λ x. IsPrintableInput x.0) }
 {
     match tag {
         1 => ask_at(alloc, bytes),
-        2 => got_at(alloc, bytes),
+        2 => got_at(alloc, form, bytes),
         3 => work_at(bytes),
         4 => Ok((Input::Tick, bytes)),
         5 => force_at(bytes),
-        6 => acked_at(alloc, bytes),
+        6 => acked_at(alloc, form, bytes),
         _ => Err(EntryFault::NotAnEntry),
     }
 }
@@ -93,12 +98,12 @@ fn ask_at(alloc: Global, bytes: &[u8]) -> Result<(Input, &[u8]), EntryFault>
 }
 
 #[tactic(auto, unfolding(crate::specs::Entries::got_at))]
-fn got_at(alloc: Global, bytes: &[u8]) -> Result<(Input, &[u8]), EntryFault>
-    ensures gives { Gives (λ x. (x.0, x.1.now)) result (got_at bytes.now) }
+fn got_at(alloc: Global, form: Form, bytes: &[u8]) -> Result<(Input, &[u8]), EntryFault>
+    ensures gives { Gives (λ x. (x.0, x.1.now)) result (got_at form bytes.now) }
     ensures printable { IfOk result (λ x. IsPrintableInput x.0) }
 {
     let (text, rest) = text_at(bytes)?;
-    let message = message_in(alloc, text)?;
+    let message = message_in(alloc, form, text)?;
     Ok((Input::Got(message), rest))
 }
 
@@ -151,11 +156,11 @@ fn force_at(bytes: &[u8]) -> Result<(Input, &[u8]), EntryFault>
 }
 
 #[tactic(auto, unfolding(crate::specs::Entries::acked_at))]
-fn acked_at(alloc: Global, bytes: &[u8]) -> Result<(Input, &[u8]), EntryFault>
-    ensures gives { Gives (λ x. (x.0, x.1.now)) result (acked_at bytes.now) }
+fn acked_at(alloc: Global, form: Form, bytes: &[u8]) -> Result<(Input, &[u8]), EntryFault>
+    ensures gives { Gives (λ x. (x.0, x.1.now)) result (acked_at form bytes.now) }
     ensures printable { IfOk result (λ x. IsPrintableInput x.0) }
 {
     let (text, rest) = text_at(bytes)?;
-    let identity = ack_in(alloc, text)?;
+    let identity = ack_in(alloc, form, text)?;
     Ok((Input::Acked(identity), rest))
 }

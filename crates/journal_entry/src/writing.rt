@@ -5,6 +5,7 @@ ghost use Rattle.std.specs.Int.{w32, to_be_bytes};
 ghost use Rattle.nsi_base.specs.Range.{greatest_record};
 ghost use Rattle.nsi_primitive.specs.Printable.{IsPrintable, IsPrintableAsk, IsPrintableInput, IsPrintableEntry};
 ghost use Rattle.nsi_primitive.specs.declared.entry.Input.{Input};
+ghost use Rattle.journal_entry.specs.declared.form.Form.{Form};
 ghost use Rattle.journal_entry.specs.Spelling.{entry_spelling, tag_of, machine_byte, body_of, entry_of, IsReadAgain, HasParts};
 
 use crate::fields::{push_text, push_u32, push_u64};
@@ -14,12 +15,12 @@ use nsi_base::RecordNo;
 use nsi_primitive::{Ask, Entry, Identity, Input, Machine, Message};
 use std::alloc::{AllocError, Global};
 
-/// Writes an entry.
+/// Writes an entry in the second form.
 pub fn write_entry(alloc: Global, entry: &Entry) -> Result<Vec<u8>, AllocError>
     requires { IsPrintableEntry entry.now }
-    ensures spelled { IfOk result (λ b. b.items ≡ entry_spelling entry.now) }
+    ensures spelled { IfOk result (λ b. b.items ≡ entry_spelling Form.Two entry.now) }
     ensures again { IfOk result (λ b. (rest : List ℕ) →
-        entry_of (b.items ++ rest) ≡ Some (entry.now, length b.items)) }
+        entry_of Form.Two (b.items ++ rest) ≡ Some (entry.now, length b.items)) }
 {
     let mut out = Vec::new(alloc);
     push_entry(alloc, &mut out, entry)?;
@@ -28,8 +29,8 @@ pub fn write_entry(alloc: Global, entry: &Entry) -> Result<Vec<u8>, AllocError>
 
 pub(crate) fn push_entry(alloc: Global, out: &mut Vec<u8>, entry: &Entry) -> Result<(), AllocError>
     requires { IsPrintableEntry entry.now }
-    ensures put { OnOk result (out.new.items ≡ out.old.items ++ entry_spelling entry.now) }
-    ensures again { OnOk result (IsReadAgain entry.now) }
+    ensures put { OnOk result (out.new.items ≡ out.old.items ++ entry_spelling Form.Two entry.now) }
+    ensures again { OnOk result (IsReadAgain Form.Two entry.now) }
 {
     out.push(tag(&entry.input))?;
     push_u64(out, entry.second.get())?;
@@ -51,8 +52,8 @@ fn tag(input: &Input) -> u8
 
 fn push_body(alloc: Global, out: &mut Vec<u8>, input: &Input) -> Result<(), AllocError>
     requires { IsPrintableInput input.now }
-    ensures put { OnOk result (out.new.items ≡ out.old.items ++ body_of input.now) }
-    ensures parts { OnOk result (HasParts input.now) }
+    ensures put { OnOk result (out.new.items ≡ out.old.items ++ body_of Form.Two input.now) }
+    ensures parts { OnOk result (HasParts Form.Two input.now) }
 {
     match input {
         Input::Ask { number, ask } => push_ask(alloc, out, *number, ask),
@@ -67,8 +68,8 @@ fn push_body(alloc: Global, out: &mut Vec<u8>, input: &Input) -> Result<(), Allo
 fn push_ask(alloc: Global, out: &mut Vec<u8>, number: u32, ask: &Ask) -> Result<(), AllocError>
     requires { IsPrintableAsk ask.now }
     ensures put { OnOk result
-        (out.new.items ≡ out.old.items ++ body_of (Input.Ask number ask.now)) }
-    ensures parts { OnOk result (HasParts (Input.Ask number ask.now)) }
+        (out.new.items ≡ out.old.items ++ body_of Form.Two (Input.Ask number ask.now)) }
+    ensures parts { OnOk result (HasParts Form.Two (Input.Ask number ask.now)) }
 {
     let text = print_ask(alloc, ask)?;
     push_u32(out, number)?;
@@ -77,8 +78,9 @@ fn push_ask(alloc: Global, out: &mut Vec<u8>, number: u32, ask: &Ask) -> Result<
 
 fn push_message(alloc: Global, out: &mut Vec<u8>, message: &Message) -> Result<(), AllocError>
     requires { IsPrintable message.now }
-    ensures put { OnOk result (out.new.items ≡ out.old.items ++ body_of (Input.Got message.now)) }
-    ensures parts { OnOk result (HasParts (Input.Got message.now)) }
+    ensures put { OnOk result
+        (out.new.items ≡ out.old.items ++ body_of Form.Two (Input.Got message.now)) }
+    ensures parts { OnOk result (HasParts Form.Two (Input.Got message.now)) }
 {
     let line = print_message(alloc, message)?;
     push_text(out, &line)
@@ -86,8 +88,8 @@ fn push_message(alloc: Global, out: &mut Vec<u8>, message: &Message) -> Result<(
 
 fn push_ack(alloc: Global, out: &mut Vec<u8>, identity: &Identity) -> Result<(), AllocError>
     ensures put { OnOk result
-        (out.new.items ≡ out.old.items ++ body_of (Input.Acked identity.now)) }
-    ensures parts { OnOk result (HasParts (Input.Acked identity.now)) }
+        (out.new.items ≡ out.old.items ++ body_of Form.Two (Input.Acked identity.now)) }
+    ensures parts { OnOk result (HasParts Form.Two (Input.Acked identity.now)) }
 {
     let line = print_ack(alloc, identity)?;
     push_text(out, &line)

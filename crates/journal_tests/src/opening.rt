@@ -13,8 +13,8 @@ use std::test::Fail;
 
 /// A batch of a tick at second 7, one of ticks at seconds 8 and 9, and a closed gate.
 const TWO_BATCHES: [u8; 48] = [
-    1, 0, 0, 0, 0, 0, 0, 0, 10, 1, 4, 0, 0, 0, 0, 0, 0, 0, 7, // the second gate is at place 19
-    1, 0, 0, 0, 0, 0, 0, 0, 19, 1, 4, 0, 0, 0, 0, 0, 0, 0, 8, 4, 0, 0, 0, 0, 0, 0, 0, 9, 0,
+    1, 0, 0, 0, 0, 0, 0, 0, 10, 2, 4, 0, 0, 0, 0, 0, 0, 0, 7, // the second gate is at place 19
+    1, 0, 0, 0, 0, 0, 0, 0, 19, 2, 4, 0, 0, 0, 0, 0, 0, 0, 8, 4, 0, 0, 0, 0, 0, 0, 0, 9, 0,
 ];
 
 /// A disk of these bytes.

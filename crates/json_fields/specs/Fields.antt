@@ -1,9 +1,11 @@
 -- The forms of values, and what stands at a key.
 use Rattle.std.specs.Prelude.{ℕ, List, codes, Bool, length, nat_le, if◌then◌else◌, Option, Some, None, option_and_then, Result, Ok, Err}
+use Rattle.std.specs.Option.{option_or}
 use Rattle.std.specs.Str.{is_utf8, bytes_eq}
 use Rattle.serde_json.specs.Data.{Data, Items, no_items, item}
 use Rattle.serde_json.specs.Find.{get, as_bool, as_number, as_str, as_u64, as_array}
 use Rattle.serde_json.specs.Read.{read}
+use Rattle.date_time.specs.Reading.{second_of}
 use Rattle.nsi_base.specs.Range.{within}
 use Rattle.nsi_base.specs.Bytes.{is_name}
 use Rattle.nsi_base.specs.declared.flow.Flow.{Flow}
@@ -54,9 +56,13 @@ capacity_from d = number_from 1 1099511627776 d
 abbrev pub second_from : Data → Option ℕ
 second_from d = number_from 0 253370764799 d
 
--- when a schedule starts or ends
+-- a text that is a date-time
+abbrev pub date_time_from : Data → Option ℕ
+date_time_from d = option_and_then second_of (as_str d)
+
+-- when a schedule starts or ends: a number of seconds, or a date-time
 unfoldable pub time_from : Data → Option ℕ
-time_from d = second_from d
+time_from d = option_or (second_from d) (date_time_from d)
 
 abbrev pub version_from : Data → Option ℕ
 version_from d = number_from 0 2147483647 d

@@ -5,8 +5,11 @@ use Rattle.serde_json.specs.Written.{has_float, members_have_float}
 use Rattle.nsi_primitive.specs.Ids.{id_text}
 use Rattle.nsi_primitive.specs.Kinds.{direction_text}
 use Rattle.nsi_primitive.specs.declared.kind.Directionality.{Directionality}
+use Rattle.date_time.specs.Text.{text_of}
 use Rattle.json_fields.specs.Keys.{name_of}
+use Rattle.json_fields.specs.Fields.{time_from}
 use Rattle.json_fields.specs.declared.key.Key.{Key}
+use Rattle.json_fields.specs.declared.time_form.TimeForm.{TimeForm}
 
 -- what stands at a key: a number in digits, a text, or true or false
 pub data Scalar : Type 0 where
@@ -24,8 +27,9 @@ abbrev pub id_scalar : ℕ → Scalar
 id_scalar id = words (id_text id)
 
 -- when a schedule starts or ends, as it is written
-unfoldable pub time_value : ℕ → Scalar
-time_value second = digits second
+unfoldable pub time_value : TimeForm → ℕ → Scalar
+time_value TimeForm.Number second = digits second
+time_value TimeForm.DateTime second = words (text_of second)
 
 abbrev pub directionality_scalar : Directionality → Scalar
 directionality_scalar d = words (direction_text d)
@@ -47,6 +51,10 @@ with_fields ms (f ∷ fs) = with_fields (with_value f.0 f.1 ms) fs
 -- what is written for a value reads as it
 abbrev pub IsReadBack : {A : Type 0} → (Data → Option A) → Scalar → A → Type 0
 IsReadBack form s x = form (scalar_data s) ≡ Some x
+
+-- what is written for a time reads as it, whichever form it is written in
+unfoldable pub IsReadInEachForm : ℕ → Type 0
+IsReadInEachForm time = (form : TimeForm) → IsReadBack time_from (time_value form time) time
 
 -- an object with nothing but numbers, texts and flags in it
 pub record IsFlatRow (d : Data) : Type 0 where

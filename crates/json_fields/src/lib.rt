@@ -7,8 +7,10 @@ pub mod object;
 pub mod reading;
 pub mod row_fields;
 pub mod rows;
+pub mod time_form;
 
 pub use fault::LineFault;
 pub use key::Key;
 pub use object::JsonObject;
 pub use rows::JsonRows;
+pub use time_form::TimeForm;

@@ -7,10 +7,11 @@ ghost use Rattle.nsi_primitive.specs.Ids.{id_from_text};
 ghost use Rattle.nsi_primitive.specs.Printable.{has_further_keys};
 ghost use Rattle.json_fields.specs.Keys.{name_of};
 ghost use Rattle.json_fields.specs.Faults.{Gives};
-ghost use Rattle.json_fields.specs.Fields.{json_of, formed, required, optional, id_from, name_from, text_from, capacity_from, second_from, time_from, version_from, hold_from, count_from, flag_from, kind_from, error_from, plain_error_from, event_from, flow_named, flow_from, directionality_from, empty_list_from};
+ghost use Rattle.json_fields.specs.Fields.{json_of, formed, required, optional, id_from, name_from, text_from, capacity_from, second_from, date_time_from, time_from, version_from, hold_from, count_from, flag_from, kind_from, error_from, plain_error_from, event_from, flow_named, flow_from, directionality_from, empty_list_from};
 
 use crate::fault::LineFault;
 use crate::key::Key;
+use date_time::read_second;
 use nsi_base::{Flow, HoldTime, Mbps, Name, NameFault, Second, Text, Version};
 use nsi_primitive::{Directionality, ErrorName, FaultEvent, Id, Kind, read_id};
 use serde_json::Value;
@@ -73,7 +74,16 @@ fn second_from(value: &Value) -> Option<Second>
 pub(crate) fn time_from(value: &Value) -> Option<Second>
     ensures { result ≡ time_from (view value.now) }
 {
-    second_from(value)
+    match second_from(value) {
+        Some(second) => Some(second),
+        None => date_time_from(value),
+    }
+}
+
+fn date_time_from(value: &Value) -> Option<Second>
+    ensures { result ≡ date_time_from (view value.now) }
+{
+    read_second(value.as_str()?.as_bytes())
 }
 
 fn version_from(value: &Value) -> Option<Version>

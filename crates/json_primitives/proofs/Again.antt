@@ -17,8 +17,10 @@ use Rattle.json_fields.specs.Keys.{name_of}
 use Rattle.json_fields.specs.Fields.{wrapped, id_from, name_from, text_from, capacity_from, time_from, version_from, count_from, flag_from, directionality_from, empty_list_from, kind_from}
 use Rattle.json_fields.specs.Objects.{Field, digits, words, flag, id_scalar, time_value, directionality_scalar, scalar_data, with_fields, IsReadBack}
 use Rattle.json_fields.specs.declared.key.Key.{Key}
+use Rattle.json_fields.specs.declared.time_form.TimeForm.{TimeForm}
 use Rattle.json_fields.proofs.Members.{field_at, is_absent, are_apart, get_member-with_fields}
 use Rattle.json_fields.proofs.Again.{required_again, optional_again, absent_again, text_again, count_again, flag_again, directionality_again, kind_again}
+use Rattle.json_fields.proofs.Times.{in_form}
 use Rattle.json_primitives.specs.Headers.{header_from}
 use Rattle.json_primitives.specs.Requests.{point_from, is_one_point, reserve_from}
 use Rattle.json_primitives.specs.Connected.{connected_from, about}
@@ -58,29 +60,29 @@ dest_given None source dest both = both.1
 dest_given (Some n) source dest both = tt
 
 -- what stands at a key of a written reserve
-at : (h : Header) (r : ReserveRequest) (key : Key) → get (name_of key) (data_of (reserve_of h r)) ≡ option_map scalar_data (field_at (name_of key) (fields_of (reserve_of h r)))
+at : (form : TimeForm) (h : Header) (r : ReserveRequest) (key : Key) → get (name_of key) (data_of form (reserve_of h r)) ≡ option_map scalar_data (field_at (name_of key) (fields_of form (reserve_of h r)))
 unfolding rows_in name_of field_at is_absent are_apart
-at h r key = found_at (reserve_of h r) key refl refl
+at form h r key = found_at form (reserve_of h r) key refl refl
 
-reserve_again : (h : Header) (r : ReserveRequest) → IsValidHeader h → IsValidReserve r → IsPrintableReserve r → reserve_from (data_of (reserve_of h r)) ≡ Ok (reserve_of h r)
+reserve_again : (form : TimeForm) (h : Header) (r : ReserveRequest) → IsValidHeader h → IsValidReserve r → IsPrintableReserve r → reserve_from (data_of form (reserve_of h r)) ≡ Ok (reserve_of h r)
 unfolding reserve_from name_of field_at header_from
-reserve_again h r vh v p =
-    let d = data_of (reserve_of h r) in
-    let capacity = required_again capacity_from Key.Capacity d (digits r.capacity) r.capacity (at h r Key.Capacity) v.capacity in
-    let connection = optional_again id_from Key.ConnectionId d id_scalar r.connection (at h r Key.ConnectionId) v.connection in
-    let correlation = required_again id_from Key.CorrelationId d (id_scalar h.correlation) h.correlation (at h r Key.CorrelationId) vh.correlation in
-    let description = optional_again (text_from 256) Key.Description d words r.description (at h r Key.Description) (text_again 256 r.description p.description) in
-    let dest = point_again r.connection Key.DestStp d r.dest (at h r Key.DestStp) v.dest (dest_given r.connection r.source r.dest p.complete) in
-    let directionality = optional_again directionality_from Key.Directionality d directionality_scalar r.directionality (at h r Key.Directionality) (directionality_again r.directionality) in
-    let end = required_again time_from Key.EndTime d (time_value r.end) r.end (at h r Key.EndTime) v.end in
-    let ero = absent_again empty_list_from Key.Ero d (at h r Key.Ero) in
-    let global = optional_again (text_from 128) Key.GlobalReservationId d words r.global (at h r Key.GlobalReservationId) (text_again 128 r.global p.global) in
-    let provider = required_again name_from Key.ProviderNsa d (words h.provider) h.provider (at h r Key.ProviderNsa) vh.provider in
-    let requester = required_again name_from Key.RequesterNsa d (words h.requester) h.requester (at h r Key.RequesterNsa) vh.requester in
-    let source = point_again r.connection Key.SourceStp d r.source (at h r Key.SourceStp) v.source (source_given r.connection r.source r.dest p.complete) in
-    let start = required_again time_from Key.StartTime d (time_value r.start) r.start (at h r Key.StartTime) v.start in
-    let symmetric = optional_again flag_from Key.SymmetricPath d flag r.symmetric (at h r Key.SymmetricPath) (flag_again r.symmetric) in
-    let version = optional_again version_from Key.Version d digits r.version (at h r Key.Version) v.version in
+reserve_again form h r vh v p =
+    let d = data_of form (reserve_of h r) in
+    let capacity = required_again capacity_from Key.Capacity d (digits r.capacity) r.capacity (at form h r Key.Capacity) v.capacity in
+    let connection = optional_again id_from Key.ConnectionId d id_scalar r.connection (at form h r Key.ConnectionId) v.connection in
+    let correlation = required_again id_from Key.CorrelationId d (id_scalar h.correlation) h.correlation (at form h r Key.CorrelationId) vh.correlation in
+    let description = optional_again (text_from 256) Key.Description d words r.description (at form h r Key.Description) (text_again 256 r.description p.description) in
+    let dest = point_again r.connection Key.DestStp d r.dest (at form h r Key.DestStp) v.dest (dest_given r.connection r.source r.dest p.complete) in
+    let directionality = optional_again directionality_from Key.Directionality d directionality_scalar r.directionality (at form h r Key.Directionality) (directionality_again r.directionality) in
+    let end = required_again time_from Key.EndTime d (time_value form r.end) r.end (at form h r Key.EndTime) (in_form form r.end v.end) in
+    let ero = absent_again empty_list_from Key.Ero d (at form h r Key.Ero) in
+    let global = optional_again (text_from 128) Key.GlobalReservationId d words r.global (at form h r Key.GlobalReservationId) (text_again 128 r.global p.global) in
+    let provider = required_again name_from Key.ProviderNsa d (words h.provider) h.provider (at form h r Key.ProviderNsa) vh.provider in
+    let requester = required_again name_from Key.RequesterNsa d (words h.requester) h.requester (at form h r Key.RequesterNsa) vh.requester in
+    let source = point_again r.connection Key.SourceStp d r.source (at form h r Key.SourceStp) v.source (source_given r.connection r.source r.dest p.complete) in
+    let start = required_again time_from Key.StartTime d (time_value form r.start) r.start (at form h r Key.StartTime) (in_form form r.start v.start) in
+    let symmetric = optional_again flag_from Key.SymmetricPath d flag r.symmetric (at form h r Key.SymmetricPath) (flag_again r.symmetric) in
+    let version = optional_again version_from Key.Version d digits r.version (at form h r Key.Version) v.version in
     let apart = apart_again r.source r.dest p.apart in
     rw (capacity, connection, correlation, description, dest, directionality, end, ero, global, provider, requester, source, start, symmetric, version, apart) refl
 
@@ -187,65 +189,65 @@ about_again kind body h connection vh v = rw (connected_again kind h connection 
 abbrev parcel_of : Header → Body → Parcel
 parcel_of h b = Parcel.Message (record { header = h; body = b })
 
-body_again : (h : Header) (b : Body) → IsValidHeader h → IsValidBody b → IsValidRows b → IsPrintableBody b → parcel_from (data_of (record { header = h; body = b })) ≡ Ok (parcel_of h b)
+body_again : (form : TimeForm) (h : Header) (b : Body) → IsValidHeader h → IsValidBody b → IsValidRows b → IsPrintableBody b → parcel_from (data_of form (record { header = h; body = b })) ≡ Ok (parcel_of h b)
 unfolding data_of rows_in name_of field_at kind_name kind_named first_named notifications_from results_from failed_from commit_failed_from error_message_from
-body_again h (Body.Reserve r) vh v rows_valid p = ap (with_kind (data_of (reserve_of h r))) (at h r Key.Kind) ∙ ap as_parcel (reserve_again h r vh v p)
-body_again h (Body.ReserveResponse c) vh v rows_valid p =
+body_again form h (Body.Reserve r) vh v rows_valid p = ap (with_kind (data_of form (reserve_of h r))) (at form h r Key.Kind) ∙ ap as_parcel (reserve_again form h r vh v p)
+body_again form h (Body.ReserveResponse c) vh v rows_valid p =
     ap (with_kind (connected_data Kind.ReserveResponse h c)) (connected_at Kind.ReserveResponse h c Key.Kind) ∙ ap as_parcel (about_again Kind.ReserveResponse Body.ReserveResponse h c vh v)
-body_again h (Body.ReserveCommit c) vh v rows_valid p =
+body_again form h (Body.ReserveCommit c) vh v rows_valid p =
     ap (with_kind (connected_data Kind.ReserveCommit h c)) (connected_at Kind.ReserveCommit h c Key.Kind) ∙ ap as_parcel (about_again Kind.ReserveCommit Body.ReserveCommit h c vh v)
-body_again h (Body.ReserveCommitConfirmed c) vh v rows_valid p =
+body_again form h (Body.ReserveCommitConfirmed c) vh v rows_valid p =
     ap (with_kind (connected_data Kind.ReserveCommitConfirmed h c)) (connected_at Kind.ReserveCommitConfirmed h c Key.Kind) ∙ ap as_parcel (about_again Kind.ReserveCommitConfirmed Body.ReserveCommitConfirmed h c vh v)
-body_again h (Body.ReserveAbort c) vh v rows_valid p =
+body_again form h (Body.ReserveAbort c) vh v rows_valid p =
     ap (with_kind (connected_data Kind.ReserveAbort h c)) (connected_at Kind.ReserveAbort h c Key.Kind) ∙ ap as_parcel (about_again Kind.ReserveAbort Body.ReserveAbort h c vh v)
-body_again h (Body.ReserveAbortConfirmed c) vh v rows_valid p =
+body_again form h (Body.ReserveAbortConfirmed c) vh v rows_valid p =
     ap (with_kind (connected_data Kind.ReserveAbortConfirmed h c)) (connected_at Kind.ReserveAbortConfirmed h c Key.Kind) ∙ ap as_parcel (about_again Kind.ReserveAbortConfirmed Body.ReserveAbortConfirmed h c vh v)
-body_again h (Body.Provision c) vh v rows_valid p =
+body_again form h (Body.Provision c) vh v rows_valid p =
     ap (with_kind (connected_data Kind.Provision h c)) (connected_at Kind.Provision h c Key.Kind) ∙ ap as_parcel (about_again Kind.Provision Body.Provision h c vh v)
-body_again h (Body.ProvisionConfirmed c) vh v rows_valid p =
+body_again form h (Body.ProvisionConfirmed c) vh v rows_valid p =
     ap (with_kind (connected_data Kind.ProvisionConfirmed h c)) (connected_at Kind.ProvisionConfirmed h c Key.Kind) ∙ ap as_parcel (about_again Kind.ProvisionConfirmed Body.ProvisionConfirmed h c vh v)
-body_again h (Body.Release c) vh v rows_valid p =
+body_again form h (Body.Release c) vh v rows_valid p =
     ap (with_kind (connected_data Kind.Release h c)) (connected_at Kind.Release h c Key.Kind) ∙ ap as_parcel (about_again Kind.Release Body.Release h c vh v)
-body_again h (Body.ReleaseConfirmed c) vh v rows_valid p =
+body_again form h (Body.ReleaseConfirmed c) vh v rows_valid p =
     ap (with_kind (connected_data Kind.ReleaseConfirmed h c)) (connected_at Kind.ReleaseConfirmed h c Key.Kind) ∙ ap as_parcel (about_again Kind.ReleaseConfirmed Body.ReleaseConfirmed h c vh v)
-body_again h (Body.Terminate c) vh v rows_valid p =
+body_again form h (Body.Terminate c) vh v rows_valid p =
     ap (with_kind (connected_data Kind.Terminate h c)) (connected_at Kind.Terminate h c Key.Kind) ∙ ap as_parcel (about_again Kind.Terminate Body.Terminate h c vh v)
-body_again h (Body.TerminateConfirmed c) vh v rows_valid p =
+body_again form h (Body.TerminateConfirmed c) vh v rows_valid p =
     ap (with_kind (connected_data Kind.TerminateConfirmed h c)) (connected_at Kind.TerminateConfirmed h c Key.Kind) ∙ ap as_parcel (about_again Kind.TerminateConfirmed Body.TerminateConfirmed h c vh v)
-body_again h (Body.QueryRecursive c) vh v rows_valid p =
+body_again form h (Body.QueryRecursive c) vh v rows_valid p =
     ap (with_kind (connected_data Kind.QueryRecursive h c)) (connected_at Kind.QueryRecursive h c Key.Kind) ∙ ap as_parcel (about_again Kind.QueryRecursive Body.QueryRecursive h c vh v)
-body_again h (Body.ReserveConfirmed r) vh v rows_valid p = ap (with_kind (data_of (record { header = h; body = Body.ReserveConfirmed r }))) (confirmation_at h r Key.Kind) ∙ ap as_parcel (confirmation_again h r vh v p.0 p.1)
-body_again h (Body.ReserveFailed c e) vh v rows_valid p =
+body_again form h (Body.ReserveConfirmed r) vh v rows_valid p = ap (with_kind (data_of form (record { header = h; body = Body.ReserveConfirmed r }))) (confirmation_at form h r Key.Kind) ∙ ap as_parcel (confirmation_again form h r vh v p.0 p.1)
+body_again form h (Body.ReserveFailed c e) vh v rows_valid p =
     let d = refusal_data Kind.ReserveFailed h (Some c) e.nsa e.cause in
     ap (with_kind d) (kind_at Kind.ReserveFailed h (Some c) e.nsa e.cause) ∙ rw (refused_again true Kind.ReserveFailed h (Some c) e vh v.0 refl v.1 p) refl
-body_again h (Body.ReserveCommitFailed c e) vh v rows_valid p =
+body_again form h (Body.ReserveCommitFailed c e) vh v rows_valid p =
     let d = refusal_data Kind.ReserveCommitFailed h (Some c) e.nsa e.cause in
     ap (with_kind d) (kind_at Kind.ReserveCommitFailed h (Some c) e.nsa e.cause) ∙ rw (refused_again true Kind.ReserveCommitFailed h (Some c) e vh v.0 refl v.1 p) refl
-body_again h (Body.Error c e) vh v rows_valid p =
+body_again form h (Body.Error c e) vh v rows_valid p =
     let d = refusal_data Kind.Error h c e.nsa e.cause in
     ap (with_kind d) (kind_at Kind.Error h c e.nsa e.cause) ∙ rw (refused_again false Kind.Error h c e vh v.0 tt v.1 p) refl
-body_again h (Body.ReserveTimeout t) vh v rows_valid p = ap (with_kind (data_of (record { header = h; body = Body.ReserveTimeout t }))) (timeout_at h t Key.Kind) ∙ ap as_parcel (timeout_again h t vh v)
-body_again h (Body.ErrorEvent n) vh v rows_valid p = ap (with_kind (data_of (record { header = h; body = Body.ErrorEvent n }))) (fault_at h n Key.Kind) ∙ ap as_parcel (fault_again h n vh v)
-body_again h (Body.DataPlaneStateChange n) vh v rows_valid p = ap (with_kind (data_of (record { header = h; body = Body.DataPlaneStateChange n }))) (plane_at h n Key.Kind) ∙ ap as_parcel (plane_again h n vh v)
-body_again h (Body.MessageDeliveryTimeout t) vh v rows_valid p = ap (with_kind (data_of (record { header = h; body = Body.MessageDeliveryTimeout t }))) (delivery_at h t Key.Kind) ∙ ap as_parcel (delivery_again h t vh v)
-body_again h (Body.QuerySummary c) vh v rows_valid p = ap (with_kind (summary_data h c)) (summary_at h c Key.Kind) ∙ ap as_parcel (summary_again h c vh v)
-body_again h (Body.QueryNotification r) vh v rows_valid p =
+body_again form h (Body.ReserveTimeout t) vh v rows_valid p = ap (with_kind (data_of form (record { header = h; body = Body.ReserveTimeout t }))) (timeout_at form h t Key.Kind) ∙ ap as_parcel (timeout_again form h t vh v)
+body_again form h (Body.ErrorEvent n) vh v rows_valid p = ap (with_kind (data_of form (record { header = h; body = Body.ErrorEvent n }))) (fault_at form h n Key.Kind) ∙ ap as_parcel (fault_again form h n vh v)
+body_again form h (Body.DataPlaneStateChange n) vh v rows_valid p = ap (with_kind (data_of form (record { header = h; body = Body.DataPlaneStateChange n }))) (plane_at form h n Key.Kind) ∙ ap as_parcel (plane_again form h n vh v)
+body_again form h (Body.MessageDeliveryTimeout t) vh v rows_valid p = ap (with_kind (data_of form (record { header = h; body = Body.MessageDeliveryTimeout t }))) (delivery_at form h t Key.Kind) ∙ ap as_parcel (delivery_again form h t vh v)
+body_again form h (Body.QuerySummary c) vh v rows_valid p = ap (with_kind (summary_data h c)) (summary_at h c Key.Kind) ∙ ap as_parcel (summary_again h c vh v)
+body_again form h (Body.QueryNotification r) vh v rows_valid p =
     let d = ranged_data Kind.QueryNotification Key.EndNotificationId Key.StartNotificationId h r in
     ap (with_kind d) (notifications_at h r Key.Kind) ∙ rw (notifications_again h r vh v) refl
-body_again h (Body.QueryResult r) vh v rows_valid p =
+body_again form h (Body.QueryResult r) vh v rows_valid p =
     let d = ranged_data Kind.QueryResult Key.EndResultId Key.StartResultId h r in
     ap (with_kind d) (results_at h r Key.Kind) ∙ rw (results_again h r vh v) refl
-body_again h (Body.QuerySummaryConfirmed more rows) vh v rows_valid p =
-    ap (with_kind (data_of (record { header = h; body = Body.QuerySummaryConfirmed more rows }))) (summary_kind h more rows) ∙ ap as_parcel (summary_rows_again h more rows vh rows_valid p)
-body_again h (Body.QueryNotificationConfirmed c more rows) vh v rows_valid p =
-    ap (with_kind (data_of (record { header = h; body = Body.QueryNotificationConfirmed c more rows }))) (notice_kind h c more rows) ∙ ap as_parcel (notice_rows_again h c more rows vh v rows_valid)
-body_again h (Body.QueryResultConfirmed c more rows) vh v rows_valid p =
-    ap (with_kind (data_of (record { header = h; body = Body.QueryResultConfirmed c more rows }))) (outcome_kind h c more rows) ∙ ap as_parcel (outcome_rows_again h c more rows vh v rows_valid)
-body_again h (Body.QueryRecursiveConfirmed c more rows) vh v rows_valid p =
-    ap (with_kind (data_of (record { header = h; body = Body.QueryRecursiveConfirmed c more rows }))) (recursive_kind h c more rows) ∙ ap as_parcel (recursive_rows_again h c more rows vh v rows_valid)
+body_again form h (Body.QuerySummaryConfirmed more rows) vh v rows_valid p =
+    ap (with_kind (data_of form (record { header = h; body = Body.QuerySummaryConfirmed more rows }))) (summary_kind form h more rows) ∙ ap as_parcel (summary_rows_again form h more rows vh rows_valid p)
+body_again form h (Body.QueryNotificationConfirmed c more rows) vh v rows_valid p =
+    ap (with_kind (data_of form (record { header = h; body = Body.QueryNotificationConfirmed c more rows }))) (notice_kind form h c more rows) ∙ ap as_parcel (notice_rows_again form h c more rows vh v rows_valid)
+body_again form h (Body.QueryResultConfirmed c more rows) vh v rows_valid p =
+    ap (with_kind (data_of form (record { header = h; body = Body.QueryResultConfirmed c more rows }))) (outcome_kind form h c more rows) ∙ ap as_parcel (outcome_rows_again form h c more rows vh v rows_valid)
+body_again form h (Body.QueryRecursiveConfirmed c more rows) vh v rows_valid p =
+    ap (with_kind (data_of form (record { header = h; body = Body.QueryRecursiveConfirmed c more rows }))) (recursive_kind form h c more rows) ∙ ap as_parcel (recursive_rows_again form h c more rows vh v rows_valid)
 
-pub message_again : (m : Message) → IsValid m → IsValidRows m.body → IsPrintable m → parcel_from (data_of m) ≡ Ok (Parcel.Message m)
-message_again m v rows_valid p = body_again m.header m.body v.0 v.1 rows_valid p
+pub message_again : (form : TimeForm) (m : Message) → IsValid m → IsValidRows m.body → IsPrintable m → parcel_from (data_of form m) ≡ Ok (Parcel.Message m)
+message_again form m v rows_valid p = body_again form m.header m.body v.0 v.1 rows_valid p
 
 ---- Acknowledgements
 

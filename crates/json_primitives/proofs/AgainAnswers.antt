@@ -18,8 +18,10 @@ use Rattle.json_fields.specs.Keys.{name_of}
 use Rattle.json_fields.specs.Fields.{wrapped, optional, id_from, name_from, text_from, capacity_from, second_from, time_from, version_from, count_from, flag_from, directionality_from, error_from, plain_error_from, flow_from}
 use Rattle.json_fields.specs.Objects.{Field, digits, words, flag, id_scalar, time_value, directionality_scalar, scalar_data, IsReadBack}
 use Rattle.json_fields.specs.declared.key.Key.{Key}
+use Rattle.json_fields.specs.declared.time_form.TimeForm.{TimeForm}
 use Rattle.json_fields.proofs.Members.{field_at, is_absent, are_apart}
 use Rattle.json_fields.proofs.Again.{required_again, optional_again, absent_again, text_again, flag_again, one_direction_again, error_again, plain_error_again}
+use Rattle.json_fields.proofs.Times.{in_form}
 use Rattle.json_primitives.specs.Headers.{header_from}
 use Rattle.json_primitives.specs.Answers.{confirmation_from, connection_from, plain_from, lack_from, child_from, flow_or_both, refused_by, refused_from}
 use Rattle.json_primitives.specs.Rows.{rows_in}
@@ -31,28 +33,28 @@ use Rattle.json_primitives.proofs.FoundAt.{data_with, found_with, found_at}
 abbrev confirmation_of : Header → ReserveConfirmation → Message
 confirmation_of h r = record { header = h; body = Body.ReserveConfirmed r }
 
-pub confirmation_at : (h : Header) (r : ReserveConfirmation) (key : Key) → get (name_of key) (data_of (confirmation_of h r)) ≡ option_map scalar_data (field_at (name_of key) (fields_of (confirmation_of h r)))
+pub confirmation_at : (form : TimeForm) (h : Header) (r : ReserveConfirmation) (key : Key) → get (name_of key) (data_of form (confirmation_of h r)) ≡ option_map scalar_data (field_at (name_of key) (fields_of form (confirmation_of h r)))
 unfolding rows_in name_of field_at is_absent are_apart
-confirmation_at h r key = found_at (confirmation_of h r) key refl refl
+confirmation_at form h r key = found_at form (confirmation_of h r) key refl refl
 
-pub confirmation_again : (h : Header) (r : ReserveConfirmation) → IsValidHeader h → IsValidConfirmation r → IsShort 256 r.description → IsShort 128 r.global → confirmation_from (data_of (confirmation_of h r)) ≡ Ok (confirmation_of h r)
+pub confirmation_again : (form : TimeForm) (h : Header) (r : ReserveConfirmation) → IsValidHeader h → IsValidConfirmation r → IsShort 256 r.description → IsShort 128 r.global → confirmation_from (data_of form (confirmation_of h r)) ≡ Ok (confirmation_of h r)
 unfolding confirmation_from name_of field_at header_from
-confirmation_again h r vh v description_short global_short =
-    let d = data_of (confirmation_of h r) in
-    let capacity = required_again capacity_from Key.Capacity d (digits r.capacity) r.capacity (confirmation_at h r Key.Capacity) (v.capacity) in
-    let connection = required_again id_from Key.ConnectionId d (id_scalar r.connection) r.connection (confirmation_at h r Key.ConnectionId) (v.connection) in
-    let correlation = required_again id_from Key.CorrelationId d (id_scalar h.correlation) h.correlation (confirmation_at h r Key.CorrelationId) (vh.correlation) in
-    let description = optional_again (text_from 256) Key.Description d words r.description (confirmation_at h r Key.Description) (text_again 256 r.description description_short) in
-    let dest = required_again name_from Key.DestStp d (words r.dest) r.dest (confirmation_at h r Key.DestStp) (v.dest) in
-    let directionality = required_again directionality_from Key.Directionality d (directionality_scalar r.directionality) r.directionality (confirmation_at h r Key.Directionality) (one_direction_again r.directionality) in
-    let end = required_again time_from Key.EndTime d (time_value r.end) r.end (confirmation_at h r Key.EndTime) (v.end) in
-    let global = optional_again (text_from 128) Key.GlobalReservationId d words r.global (confirmation_at h r Key.GlobalReservationId) (text_again 128 r.global global_short) in
-    let provider = required_again name_from Key.ProviderNsa d (words h.provider) h.provider (confirmation_at h r Key.ProviderNsa) (vh.provider) in
-    let requester = required_again name_from Key.RequesterNsa d (words h.requester) h.requester (confirmation_at h r Key.RequesterNsa) (vh.requester) in
-    let source = required_again name_from Key.SourceStp d (words r.source) r.source (confirmation_at h r Key.SourceStp) (v.source) in
-    let start = required_again time_from Key.StartTime d (time_value r.start) r.start (confirmation_at h r Key.StartTime) (v.start) in
-    let symmetric = optional_again flag_from Key.SymmetricPath d flag r.symmetric (confirmation_at h r Key.SymmetricPath) (flag_again r.symmetric) in
-    let version = required_again version_from Key.Version d (digits r.version) r.version (confirmation_at h r Key.Version) (v.version) in
+confirmation_again form h r vh v description_short global_short =
+    let d = data_of form (confirmation_of h r) in
+    let capacity = required_again capacity_from Key.Capacity d (digits r.capacity) r.capacity (confirmation_at form h r Key.Capacity) (v.capacity) in
+    let connection = required_again id_from Key.ConnectionId d (id_scalar r.connection) r.connection (confirmation_at form h r Key.ConnectionId) (v.connection) in
+    let correlation = required_again id_from Key.CorrelationId d (id_scalar h.correlation) h.correlation (confirmation_at form h r Key.CorrelationId) (vh.correlation) in
+    let description = optional_again (text_from 256) Key.Description d words r.description (confirmation_at form h r Key.Description) (text_again 256 r.description description_short) in
+    let dest = required_again name_from Key.DestStp d (words r.dest) r.dest (confirmation_at form h r Key.DestStp) (v.dest) in
+    let directionality = required_again directionality_from Key.Directionality d (directionality_scalar r.directionality) r.directionality (confirmation_at form h r Key.Directionality) (one_direction_again r.directionality) in
+    let end = required_again time_from Key.EndTime d (time_value form r.end) r.end (confirmation_at form h r Key.EndTime) (in_form form r.end v.end) in
+    let global = optional_again (text_from 128) Key.GlobalReservationId d words r.global (confirmation_at form h r Key.GlobalReservationId) (text_again 128 r.global global_short) in
+    let provider = required_again name_from Key.ProviderNsa d (words h.provider) h.provider (confirmation_at form h r Key.ProviderNsa) (vh.provider) in
+    let requester = required_again name_from Key.RequesterNsa d (words h.requester) h.requester (confirmation_at form h r Key.RequesterNsa) (vh.requester) in
+    let source = required_again name_from Key.SourceStp d (words r.source) r.source (confirmation_at form h r Key.SourceStp) (v.source) in
+    let start = required_again time_from Key.StartTime d (time_value form r.start) r.start (confirmation_at form h r Key.StartTime) (in_form form r.start v.start) in
+    let symmetric = optional_again flag_from Key.SymmetricPath d flag r.symmetric (confirmation_at form h r Key.SymmetricPath) (flag_again r.symmetric) in
+    let version = required_again version_from Key.Version d (digits r.version) r.version (confirmation_at form h r Key.Version) (v.version) in
     rw (capacity, connection, correlation, description, dest, directionality, end, global, provider, requester, source, start, symmetric, version) refl
 
 ---- Refusals

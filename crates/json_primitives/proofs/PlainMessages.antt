@@ -42,6 +42,8 @@ use Rattle.nsi_primitive.specs.declared.state.Lsm.{Lsm}
 use Rattle.json_fields.specs.Fields.{json_of}
 use Rattle.json_fields.specs.Objects.{Scalar, digits, words, flag, id_scalar, time_value, directionality_scalar, Field}
 use Rattle.json_fields.specs.declared.key.Key.{Key}
+use Rattle.json_fields.specs.declared.time_form.TimeForm.{TimeForm}
+use Rattle.json_fields.proofs.Times.{time_plain}
 use Rattle.json_fields.proofs.PlainFields.{IsPlainScalar, IsPlainField, IsPlainRow, ArePlainWithin, plain_fields, plain_row, plain_rows, wider, object_spelled}
 use Rattle.json_primitives.specs.Rows.{summary_fields, recursive_fields, notice_fields, outcome_fields, row_data, rows_in}
 use Rattle.json_primitives.specs.Spelling.{header_fields, reserve_fields, connection_fields, confirmation_fields, flow_text, cause_fields, refusal_fields, timeout_fields, fault_fields, plane_fields, delivery_fields, range_fields, body_fields, fields_of, with_rows_in, data_of, ack_fields, ack_data}
@@ -57,10 +59,6 @@ name_plain name h = IsUtf8-from_name name h
 
 second_plain : (n : ℕ) → IsSecond n → IsPlainScalar (digits n)
 second_plain n h = omega (arith, h)
-
-time_plain : (n : ℕ) → IsSecond n → IsPlainScalar (time_value n)
-unfolding time_value
-time_plain n h = second_plain n h
 
 mbps_plain : (n : ℕ) → IsMbps n → IsPlainScalar (digits n)
 mbps_plain n h = let most = h.1 in omega (arith, most)
@@ -94,8 +92,8 @@ versions_plain o h = if_given IsVersion digits version_plain o h
 counts_plain : (o : Option ℕ) → IfSome o IsCount → IfSome (option_map digits o) IsPlainScalar
 counts_plain o h = if_given IsCount digits (λ n c. c) o h
 
-times_plain : (o : Option ℕ) → IfSome o IsSecond → IfSome (option_map time_value o) IsPlainScalar
-times_plain o h = if_given IsSecond time_value time_plain o h
+times_plain : (form : TimeForm) (o : Option ℕ) → IfSome o IsSecond → IfSome (option_map (time_value form) o) IsPlainScalar
+times_plain form o h = if_given IsSecond (time_value form) (time_plain form) o h
 
 flags_plain : (o : Option Bool) → IfSome (option_map flag o) IsPlainScalar
 flags_plain None = tt
@@ -218,11 +216,11 @@ flow_plain Flow.Out = IsUtf8-are_ascii (codes "out") refl
 header_plain : (kind : Kind) (h : Header) → IsRangedHeader h → AllByRecursion IsPlainField (header_fields kind h)
 header_plain kind h r = (id_plain h.correlation, (kind_plain kind, (name_plain h.provider r.provider, (name_plain h.requester r.requester, tt))))
 
-reserve_plain : (x : ReserveRequest) → IsRangedReserve x → AllByRecursion IsPlainField (reserve_fields x)
-reserve_plain x r = (mbps_plain x.capacity r.capacity, (ids_plain x.connection, (texts_plain x.description r.description, (names_plain x.dest r.dest, (directions_plain x.directionality, (time_plain x.end r.end, (texts_plain x.global r.global, (names_plain x.source r.source, (time_plain x.start r.start, (flags_plain x.symmetric, (versions_plain x.version r.version, tt)))))))))))
+reserve_plain : (form : TimeForm) (x : ReserveRequest) → IsRangedReserve x → AllByRecursion IsPlainField (reserve_fields form x)
+reserve_plain form x r = (mbps_plain x.capacity r.capacity, (ids_plain x.connection, (texts_plain x.description r.description, (names_plain x.dest r.dest, (directions_plain x.directionality, (time_plain form x.end r.end, (texts_plain x.global r.global, (names_plain x.source r.source, (time_plain form x.start r.start, (flags_plain x.symmetric, (versions_plain x.version r.version, tt)))))))))))
 
-confirmation_plain : (x : ReserveConfirmation) → IsRangedConfirmation x → AllByRecursion IsPlainField (confirmation_fields x)
-confirmation_plain x r = (mbps_plain x.capacity r.capacity, (id_plain x.connection, (texts_plain x.description r.description, (name_plain x.dest r.dest, (direction_plain x.directionality, (time_plain x.end r.end, (texts_plain x.global r.global, (name_plain x.source r.source, (time_plain x.start r.start, (flags_plain x.symmetric, (version_plain x.version r.version, tt)))))))))))
+confirmation_plain : (form : TimeForm) (x : ReserveConfirmation) → IsRangedConfirmation x → AllByRecursion IsPlainField (confirmation_fields form x)
+confirmation_plain form x r = (mbps_plain x.capacity r.capacity, (id_plain x.connection, (texts_plain x.description r.description, (name_plain x.dest r.dest, (direction_plain x.directionality, (time_plain form x.end r.end, (texts_plain x.global r.global, (name_plain x.source r.source, (time_plain form x.start r.start, (flags_plain x.symmetric, (version_plain x.version r.version, tt)))))))))))
 
 connection_plain : (id : ℕ) → AllByRecursion IsPlainField (connection_fields id)
 connection_plain id = (id_plain id, tt)
@@ -250,35 +248,35 @@ delivery_plain t r = (id_plain t.connection, (id_plain t.delivery, (r.notificati
 range_plain : (end_key start_key : Key) (x : NumberRange) → IsRangedNumbers x → AllByRecursion IsPlainField (range_fields end_key start_key x)
 range_plain end_key start_key x r = (id_plain x.connection, (counts_plain x.end r.end, (counts_plain x.start r.start, tt)))
 
-body_plain : (b : Body) → IsRangedBody b → AllByRecursion IsPlainField (body_fields b)
-body_plain (Body.Reserve x) r = reserve_plain x r
-body_plain (Body.ReserveResponse connection) r = connection_plain connection
-body_plain (Body.ReserveCommit connection) r = connection_plain connection
-body_plain (Body.ReserveCommitConfirmed connection) r = connection_plain connection
-body_plain (Body.ReserveAbort connection) r = connection_plain connection
-body_plain (Body.ReserveAbortConfirmed connection) r = connection_plain connection
-body_plain (Body.Provision connection) r = connection_plain connection
-body_plain (Body.ProvisionConfirmed connection) r = connection_plain connection
-body_plain (Body.Release connection) r = connection_plain connection
-body_plain (Body.ReleaseConfirmed connection) r = connection_plain connection
-body_plain (Body.Terminate connection) r = connection_plain connection
-body_plain (Body.TerminateConfirmed connection) r = connection_plain connection
-body_plain (Body.QueryRecursive connection) r = connection_plain connection
-body_plain (Body.ReserveConfirmed x) r = confirmation_plain x r
-body_plain (Body.ReserveFailed connection e) r = refusal_plain (Some connection) e r.1
-body_plain (Body.ReserveCommitFailed connection e) r = refusal_plain (Some connection) e r.1
-body_plain (Body.Error connection e) r = refusal_plain connection e r.1
-body_plain (Body.ReserveTimeout t) r = timeout_plain t r
-body_plain (Body.ErrorEvent n) r = fault_plain n r
-body_plain (Body.DataPlaneStateChange n) r = plane_plain n r
-body_plain (Body.MessageDeliveryTimeout t) r = delivery_plain t r
-body_plain (Body.QuerySummary connection) r = (ids_plain connection, tt)
-body_plain (Body.QueryNotification x) r = range_plain Key.EndNotificationId Key.StartNotificationId x r
-body_plain (Body.QueryResult x) r = range_plain Key.EndResultId Key.StartResultId x r
-body_plain (Body.QuerySummaryConfirmed more rows) r = (tt, tt)
-body_plain (Body.QueryNotificationConfirmed connection more rows) r = (id_plain connection, (tt, tt))
-body_plain (Body.QueryResultConfirmed connection more rows) r = (id_plain connection, (tt, tt))
-body_plain (Body.QueryRecursiveConfirmed connection more rows) r = (id_plain connection, (tt, tt))
+body_plain : (form : TimeForm) (b : Body) → IsRangedBody b → AllByRecursion IsPlainField (body_fields form b)
+body_plain form (Body.Reserve x) r = reserve_plain form x r
+body_plain form (Body.ReserveResponse connection) r = connection_plain connection
+body_plain form (Body.ReserveCommit connection) r = connection_plain connection
+body_plain form (Body.ReserveCommitConfirmed connection) r = connection_plain connection
+body_plain form (Body.ReserveAbort connection) r = connection_plain connection
+body_plain form (Body.ReserveAbortConfirmed connection) r = connection_plain connection
+body_plain form (Body.Provision connection) r = connection_plain connection
+body_plain form (Body.ProvisionConfirmed connection) r = connection_plain connection
+body_plain form (Body.Release connection) r = connection_plain connection
+body_plain form (Body.ReleaseConfirmed connection) r = connection_plain connection
+body_plain form (Body.Terminate connection) r = connection_plain connection
+body_plain form (Body.TerminateConfirmed connection) r = connection_plain connection
+body_plain form (Body.QueryRecursive connection) r = connection_plain connection
+body_plain form (Body.ReserveConfirmed x) r = confirmation_plain form x r
+body_plain form (Body.ReserveFailed connection e) r = refusal_plain (Some connection) e r.1
+body_plain form (Body.ReserveCommitFailed connection e) r = refusal_plain (Some connection) e r.1
+body_plain form (Body.Error connection e) r = refusal_plain connection e r.1
+body_plain form (Body.ReserveTimeout t) r = timeout_plain t r
+body_plain form (Body.ErrorEvent n) r = fault_plain n r
+body_plain form (Body.DataPlaneStateChange n) r = plane_plain n r
+body_plain form (Body.MessageDeliveryTimeout t) r = delivery_plain t r
+body_plain form (Body.QuerySummary connection) r = (ids_plain connection, tt)
+body_plain form (Body.QueryNotification x) r = range_plain Key.EndNotificationId Key.StartNotificationId x r
+body_plain form (Body.QueryResult x) r = range_plain Key.EndResultId Key.StartResultId x r
+body_plain form (Body.QuerySummaryConfirmed more rows) r = (tt, tt)
+body_plain form (Body.QueryNotificationConfirmed connection more rows) r = (id_plain connection, (tt, tt))
+body_plain form (Body.QueryResultConfirmed connection more rows) r = (id_plain connection, (tt, tt))
+body_plain form (Body.QueryRecursiveConfirmed connection more rows) r = (id_plain connection, (tt, tt))
 
 both_plain : (fs gs : List Field) → AllByRecursion IsPlainField fs → AllByRecursion IsPlainField gs → AllByRecursion IsPlainField (fs ++ gs)
 both_plain [] gs p q = q
@@ -286,8 +284,8 @@ both_plain (f ∷ fs) gs p q = (p.0, both_plain fs gs p.1 q)
 
 ---- Rows
 
-summary_plain : (x : SummaryRow) → IsRangedSummary x → AllByRecursion IsPlainField (summary_fields x)
-summary_plain x r = (tt, (if_given IsMbps digits mbps_plain x.capacity r.capacity, (id_plain x.connection, (texts_plain x.description r.description, (name_plain x.dest r.dest, (direction_plain x.directionality, (times_plain x.end r.end, (texts_plain x.global r.global, (lsm_plain x.lifecycle, (psm_plain x.provision, (rsm_plain x.reservation, (name_plain x.source r.source, (times_plain x.start r.start, (versions_plain x.version r.version, tt))))))))))))))
+summary_plain : (form : TimeForm) (x : SummaryRow) → IsRangedSummary x → AllByRecursion IsPlainField (summary_fields form x)
+summary_plain form x r = (tt, (if_given IsMbps digits mbps_plain x.capacity r.capacity, (id_plain x.connection, (texts_plain x.description r.description, (name_plain x.dest r.dest, (direction_plain x.directionality, (times_plain form x.end r.end, (texts_plain x.global r.global, (lsm_plain x.lifecycle, (psm_plain x.provision, (rsm_plain x.reservation, (name_plain x.source r.source, (times_plain form x.start r.start, (versions_plain x.version r.version, tt))))))))))))))
 
 recursive_plain : (x : RecursiveRow) → IsRangedRecursive x → AllByRecursion IsPlainField (recursive_fields x)
 recursive_plain x r = (id_plain x.connection, (depth_plain x.depth r.depth, (lsm_plain x.lifecycle, (name_plain x.provider r.provider, (psm_plain x.provision, (rsm_plain x.reservation, (versions_plain x.version r.version, tt)))))))
@@ -306,20 +304,20 @@ each_plain : {A : Type 0} (P : A → Type 0) (fields : A → List Field) → ((x
 each_plain P fields f [] h = tt
 each_plain P fields f (x ∷ xs) h = (row_plain (fields x) (f x h.0), each_plain P fields f xs h.1)
 
-with_rows_plain : (b : Body) → IsRangedBody b → (ms : Members) → ArePlainWithin 0 ms → ArePlainWithin 2 (with_rows_in (rows_in b) ms)
+with_rows_plain : (form : TimeForm) (b : Body) → IsRangedBody b → (ms : Members) → ArePlainWithin 0 ms → ArePlainWithin 2 (with_rows_in (rows_in form b) ms)
 unfolding rows_in
-with_rows_plain (Body.QuerySummaryConfirmed more rows) r ms p = plain_rows Key.Reservations _ ms (each_plain IsRangedSummary summary_fields summary_plain rows r) p
-with_rows_plain (Body.QueryNotificationConfirmed connection more rows) r ms p = plain_rows Key.Notifications _ ms (each_plain IsRangedNotice notice_fields notice_plain rows r.1) p
-with_rows_plain (Body.QueryResultConfirmed connection more rows) r ms p = plain_rows Key.Results _ ms (each_plain IsRangedOutcome outcome_fields outcome_plain rows r.1) p
-with_rows_plain (Body.QueryRecursiveConfirmed connection more rows) r ms p = plain_rows Key.Reservations _ ms (each_plain IsRangedRecursive recursive_fields recursive_plain rows r.1) p
-with_rows_plain _ r ms p = wider ms p
+with_rows_plain form (Body.QuerySummaryConfirmed more rows) r ms p = plain_rows Key.Reservations _ ms (each_plain IsRangedSummary (summary_fields form) (summary_plain form) rows r) p
+with_rows_plain form (Body.QueryNotificationConfirmed connection more rows) r ms p = plain_rows Key.Notifications _ ms (each_plain IsRangedNotice notice_fields notice_plain rows r.1) p
+with_rows_plain form (Body.QueryResultConfirmed connection more rows) r ms p = plain_rows Key.Results _ ms (each_plain IsRangedOutcome outcome_fields outcome_plain rows r.1) p
+with_rows_plain form (Body.QueryRecursiveConfirmed connection more rows) r ms p = plain_rows Key.Reservations _ ms (each_plain IsRangedRecursive recursive_fields recursive_plain rows r.1) p
+with_rows_plain form _ r ms p = wider ms p
 
 ---- Lines
 
 -- the line of a message reads as its object
-pub message_spelled : (m : Message) → IsRanged m → json_of (compact_text (data_of m)) ≡ Some (data_of m)
+pub message_spelled : (form : TimeForm) (m : Message) → IsRanged m → json_of (compact_text (data_of form m)) ≡ Some (data_of form m)
 unfolding data_of
-message_spelled m r = object_spelled _ (with_rows_plain m.body r.body _ (plain_fields (fields_of m) (both_plain (header_fields (kind_of m.body) m.header) (body_fields m.body) (header_plain (kind_of m.body) m.header r.header) (body_plain m.body r.body))))
+message_spelled form m r = object_spelled _ (with_rows_plain form m.body r.body _ (plain_fields (fields_of form m) (both_plain (header_fields (kind_of m.body) m.header) (body_fields form m.body) (header_plain (kind_of m.body) m.header r.header) (body_plain form m.body r.body))))
 
 ack_plain : (i : Identity) → IsRangedIdentity i → AllByRecursion IsPlainField (ack_fields i)
 ack_plain i r = (id_plain i.correlation, (IsUtf8-are_ascii (codes "ack") refl, (kind_plain i.kind, (name_plain i.provider r.provider, (name_plain i.requester r.requester, tt)))))

@@ -20,8 +20,9 @@ use Rattle.nsi_primitive.specs.declared.message.ReserveConfirmation.{ReserveConf
 use Rattle.nsi_primitive.specs.declared.message.ReserveRequest.{ReserveRequest}
 use Rattle.nsi_primitive.specs.declared.message.SummaryRow.{SummaryRow}
 use Rattle.nsi_primitive.proofs.IdTexts.{id_text_again}
-use Rattle.json_fields.specs.Fields.{id_from, name_from, capacity_from, second_from, time_from, version_from, hold_from}
-use Rattle.json_fields.specs.Objects.{IsReadBack, digits, words, id_scalar, time_value}
+use Rattle.json_fields.specs.Fields.{id_from, name_from, capacity_from, second_from, version_from, hold_from}
+use Rattle.json_fields.specs.Objects.{IsReadBack, IsReadInEachForm, digits, words, id_scalar}
+use Rattle.json_fields.proofs.Times.{in_each_form}
 use Rattle.json_primitives.specs.Valid.{IsValidHeader, IsValidIdentity, IsValidReserve, IsValidConfirmation, IsValidCause, IsValidException, IsValidTimeout, IsValidFault, IsValidPlane, IsValidDelivery, IsValidBody, IsValid}
 use Rattle.json_primitives.specs.ValidRows.{IsValidSummaryRow, IsValidRecursiveRow, IsValidNotice, IsValidOutcome, IsValidRows}
 
@@ -39,10 +40,6 @@ mbps_back n h = ap (λ b. cond b (Some n) None) (in_range 1 1099511627776 n h.0 
 
 second_back : (n : ℕ) → IsSecond n → IsReadBack second_from (digits n) n
 second_back n h = ap (λ b. cond b (Some n) None) (in_range 0 253370764799 n (omega arith) h)
-
-time_back : (n : ℕ) → IsSecond n → IsReadBack time_from (time_value n) n
-unfolding time_from time_value
-time_back n h = second_back n h
 
 version_back : (n : ℕ) → IsVersion n → IsReadBack version_from (digits n) n
 version_back n h = ap (λ b. cond b (Some n) None) (in_range 0 2147483647 n (omega arith) h)
@@ -67,8 +64,8 @@ name_if o h = if_some IsName _ name_back o h
 version_if : (o : Option ℕ) → IfSome o IsVersion → IfSome o (λ n. IsReadBack version_from (digits n) n)
 version_if o h = if_some IsVersion _ version_back o h
 
-time_if : (o : Option ℕ) → IfSome o IsSecond → IfSome o (λ n. IsReadBack time_from (time_value n) n)
-time_if o h = if_some IsSecond _ time_back o h
+time_if : (o : Option ℕ) → IfSome o IsSecond → IfSome o IsReadInEachForm
+time_if o h = if_some IsSecond _ in_each_form o h
 
 header_back : (h : Header) → IsRangedHeader h → IsValidHeader h
 header_back h r = record { correlation = id_back h.correlation r.correlation; provider = name_back h.provider r.provider; requester = name_back h.requester r.requester }
@@ -81,9 +78,9 @@ reserve_back x r = record {
   capacity = mbps_back x.capacity r.capacity;
   connection = id_if x.connection r.connection;
   dest = name_if x.dest r.dest;
-  end = time_back x.end r.end;
+  end = in_each_form x.end r.end;
   source = name_if x.source r.source;
-  start = time_back x.start r.start;
+  start = in_each_form x.start r.start;
   version = version_if x.version r.version;
 }
 
@@ -92,9 +89,9 @@ confirmation_back x r = record {
   capacity = mbps_back x.capacity r.capacity;
   connection = id_back x.connection r.connection;
   dest = name_back x.dest r.dest;
-  end = time_back x.end r.end;
+  end = in_each_form x.end r.end;
   source = name_back x.source r.source;
-  start = time_back x.start r.start;
+  start = in_each_form x.start r.start;
   version = version_back x.version r.version;
 }
 

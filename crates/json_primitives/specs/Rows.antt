@@ -10,23 +10,24 @@ use Rattle.nsi_primitive.specs.declared.message.SummaryRow.{SummaryRow}
 use Rattle.nsi_primitive.specs.declared.message.RecursiveRow.{RecursiveRow}
 use Rattle.json_fields.specs.Objects.{Field, digits, words, flag, id_scalar, time_value, directionality_scalar, with_fields}
 use Rattle.json_fields.specs.declared.key.Key.{Key}
+use Rattle.json_fields.specs.declared.time_form.TimeForm.{TimeForm}
 
 -- a connection in the answer to a querySummary
-abbrev pub summary_fields : SummaryRow → List Field
-summary_fields r =
+abbrev pub summary_fields : TimeForm → SummaryRow → List Field
+summary_fields form r =
     (Key.Active, Some (flag r.active))
     ∷ (Key.Capacity, option_map digits r.capacity)
     ∷ (Key.ConnectionId, Some (id_scalar r.connection))
     ∷ (Key.Description, option_map words r.description)
     ∷ (Key.DestStp, Some (words r.dest))
     ∷ (Key.Directionality, Some (directionality_scalar r.directionality))
-    ∷ (Key.EndTime, option_map time_value r.end)
+    ∷ (Key.EndTime, option_map (time_value form) r.end)
     ∷ (Key.GlobalReservationId, option_map words r.global)
     ∷ (Key.LifecycleState, Some (words (lsm_text r.lifecycle)))
     ∷ (Key.ProvisionState, Some (words (psm_text r.provision)))
     ∷ (Key.ReservationState, Some (words (rsm_text r.reservation)))
     ∷ (Key.SourceStp, Some (words r.source))
-    ∷ (Key.StartTime, option_map time_value r.start)
+    ∷ (Key.StartTime, option_map (time_value form) r.start)
     ∷ (Key.Version, option_map digits r.version)
     ∷ []
 
@@ -63,9 +64,9 @@ unfoldable pub row_data : List Field → Data
 row_data fields = object (with_fields no_members fields)
 
 -- the rows of a message and their key, where it has some
-unfoldable pub rows_in : Body → Option (Key × List Data)
-rows_in (Body.QuerySummaryConfirmed more rows) = Some (Key.Reservations, map (λ r. row_data (summary_fields r)) rows)
-rows_in (Body.QueryNotificationConfirmed connection more rows) = Some (Key.Notifications, map (λ r. row_data (notice_fields r)) rows)
-rows_in (Body.QueryResultConfirmed connection more rows) = Some (Key.Results, map (λ r. row_data (outcome_fields r)) rows)
-rows_in (Body.QueryRecursiveConfirmed connection more rows) = Some (Key.Reservations, map (λ r. row_data (recursive_fields r)) rows)
-rows_in _ = None
+unfoldable pub rows_in : TimeForm → Body → Option (Key × List Data)
+rows_in form (Body.QuerySummaryConfirmed more rows) = Some (Key.Reservations, map (λ r. row_data (summary_fields form r)) rows)
+rows_in form (Body.QueryNotificationConfirmed connection more rows) = Some (Key.Notifications, map (λ r. row_data (notice_fields r)) rows)
+rows_in form (Body.QueryResultConfirmed connection more rows) = Some (Key.Results, map (λ r. row_data (outcome_fields r)) rows)
+rows_in form (Body.QueryRecursiveConfirmed connection more rows) = Some (Key.Reservations, map (λ r. row_data (recursive_fields r)) rows)
+rows_in form _ = None

@@ -24,6 +24,7 @@ use Rattle.nsi_primitive.specs.declared.message.Parcel.{Parcel}
 use Rattle.json_fields.specs.Objects.{Field, digits, words, flag, id_scalar, time_value, directionality_scalar, with_fields}
 use Rattle.json_fields.specs.Written.{with_rows}
 use Rattle.json_fields.specs.declared.key.Key.{Key}
+use Rattle.json_fields.specs.declared.time_form.TimeForm.{TimeForm}
 use Rattle.json_primitives.specs.Rows.{rows_in}
 
 -- what every line has
@@ -36,17 +37,17 @@ header_fields kind h =
     ∷ []
 
 -- what a reserve has besides
-abbrev pub reserve_fields : ReserveRequest → List Field
-reserve_fields r =
+abbrev pub reserve_fields : TimeForm → ReserveRequest → List Field
+reserve_fields form r =
     (Key.Capacity, Some (digits r.capacity))
     ∷ (Key.ConnectionId, option_map id_scalar r.connection)
     ∷ (Key.Description, option_map words r.description)
     ∷ (Key.DestStp, option_map words r.dest)
     ∷ (Key.Directionality, option_map directionality_scalar r.directionality)
-    ∷ (Key.EndTime, Some (time_value r.end))
+    ∷ (Key.EndTime, Some (time_value form r.end))
     ∷ (Key.GlobalReservationId, option_map words r.global)
     ∷ (Key.SourceStp, option_map words r.source)
-    ∷ (Key.StartTime, Some (time_value r.start))
+    ∷ (Key.StartTime, Some (time_value form r.start))
     ∷ (Key.SymmetricPath, option_map flag r.symmetric)
     ∷ (Key.Version, option_map digits r.version)
     ∷ []
@@ -55,17 +56,17 @@ abbrev pub connection_fields : ℕ → List Field
 connection_fields connection = (Key.ConnectionId, Some (id_scalar connection)) ∷ []
 
 -- what a reserveConfirmed has besides
-abbrev pub confirmation_fields : ReserveConfirmation → List Field
-confirmation_fields r =
+abbrev pub confirmation_fields : TimeForm → ReserveConfirmation → List Field
+confirmation_fields form r =
     (Key.Capacity, Some (digits r.capacity))
     ∷ (Key.ConnectionId, Some (id_scalar r.connection))
     ∷ (Key.Description, option_map words r.description)
     ∷ (Key.DestStp, Some (words r.dest))
     ∷ (Key.Directionality, Some (directionality_scalar r.directionality))
-    ∷ (Key.EndTime, Some (time_value r.end))
+    ∷ (Key.EndTime, Some (time_value form r.end))
     ∷ (Key.GlobalReservationId, option_map words r.global)
     ∷ (Key.SourceStp, Some (words r.source))
-    ∷ (Key.StartTime, Some (time_value r.start))
+    ∷ (Key.StartTime, Some (time_value form r.start))
     ∷ (Key.SymmetricPath, option_map flag r.symmetric)
     ∷ (Key.Version, Some (digits r.version))
     ∷ []
@@ -156,44 +157,44 @@ abbrev pub listed_fields : ℕ → Bool → List Field
 listed_fields connection more = (Key.ConnectionId, Some (id_scalar connection)) ∷ (Key.More, Some (flag more)) ∷ []
 
 -- what an answer or a notification has besides the header, rows aside
-abbrev pub told_fields : Body → List Field
-told_fields (Body.ReserveConfirmed r) = confirmation_fields r
-told_fields (Body.ReserveFailed connection e) = refusal_fields (Some connection) e
-told_fields (Body.ReserveCommitFailed connection e) = refusal_fields (Some connection) e
-told_fields (Body.Error connection e) = refusal_fields connection e
-told_fields (Body.ReserveTimeout t) = timeout_fields t
-told_fields (Body.ErrorEvent n) = fault_fields n
-told_fields (Body.DataPlaneStateChange n) = plane_fields n
-told_fields (Body.MessageDeliveryTimeout t) = delivery_fields t
-told_fields (Body.QuerySummaryConfirmed more rows) = (Key.More, Some (flag more)) ∷ []
-told_fields (Body.QueryNotificationConfirmed connection more rows) = listed_fields connection more
-told_fields (Body.QueryResultConfirmed connection more rows) = listed_fields connection more
-told_fields (Body.QueryRecursiveConfirmed connection more rows) = listed_fields connection more
-told_fields _ = []
+abbrev pub told_fields : TimeForm → Body → List Field
+told_fields form (Body.ReserveConfirmed r) = confirmation_fields form r
+told_fields form (Body.ReserveFailed connection e) = refusal_fields (Some connection) e
+told_fields form (Body.ReserveCommitFailed connection e) = refusal_fields (Some connection) e
+told_fields form (Body.Error connection e) = refusal_fields connection e
+told_fields form (Body.ReserveTimeout t) = timeout_fields t
+told_fields form (Body.ErrorEvent n) = fault_fields n
+told_fields form (Body.DataPlaneStateChange n) = plane_fields n
+told_fields form (Body.MessageDeliveryTimeout t) = delivery_fields t
+told_fields form (Body.QuerySummaryConfirmed more rows) = (Key.More, Some (flag more)) ∷ []
+told_fields form (Body.QueryNotificationConfirmed connection more rows) = listed_fields connection more
+told_fields form (Body.QueryResultConfirmed connection more rows) = listed_fields connection more
+told_fields form (Body.QueryRecursiveConfirmed connection more rows) = listed_fields connection more
+told_fields form _ = []
 
 -- what a line of its kind has besides the header, rows aside
-abbrev pub body_fields : Body → List Field
-body_fields (Body.Reserve r) = reserve_fields r
-body_fields (Body.ReserveResponse connection) = connection_fields connection
-body_fields (Body.ReserveCommit connection) = connection_fields connection
-body_fields (Body.ReserveCommitConfirmed connection) = connection_fields connection
-body_fields (Body.ReserveAbort connection) = connection_fields connection
-body_fields (Body.ReserveAbortConfirmed connection) = connection_fields connection
-body_fields (Body.Provision connection) = connection_fields connection
-body_fields (Body.ProvisionConfirmed connection) = connection_fields connection
-body_fields (Body.Release connection) = connection_fields connection
-body_fields (Body.ReleaseConfirmed connection) = connection_fields connection
-body_fields (Body.Terminate connection) = connection_fields connection
-body_fields (Body.TerminateConfirmed connection) = connection_fields connection
-body_fields (Body.QuerySummary connection) = (Key.ConnectionId, option_map id_scalar connection) ∷ []
-body_fields (Body.QueryNotification r) = range_fields Key.EndNotificationId Key.StartNotificationId r
-body_fields (Body.QueryResult r) = range_fields Key.EndResultId Key.StartResultId r
-body_fields (Body.QueryRecursive connection) = connection_fields connection
-body_fields body = told_fields body
+abbrev pub body_fields : TimeForm → Body → List Field
+body_fields form (Body.Reserve r) = reserve_fields form r
+body_fields form (Body.ReserveResponse connection) = connection_fields connection
+body_fields form (Body.ReserveCommit connection) = connection_fields connection
+body_fields form (Body.ReserveCommitConfirmed connection) = connection_fields connection
+body_fields form (Body.ReserveAbort connection) = connection_fields connection
+body_fields form (Body.ReserveAbortConfirmed connection) = connection_fields connection
+body_fields form (Body.Provision connection) = connection_fields connection
+body_fields form (Body.ProvisionConfirmed connection) = connection_fields connection
+body_fields form (Body.Release connection) = connection_fields connection
+body_fields form (Body.ReleaseConfirmed connection) = connection_fields connection
+body_fields form (Body.Terminate connection) = connection_fields connection
+body_fields form (Body.TerminateConfirmed connection) = connection_fields connection
+body_fields form (Body.QuerySummary connection) = (Key.ConnectionId, option_map id_scalar connection) ∷ []
+body_fields form (Body.QueryNotification r) = range_fields Key.EndNotificationId Key.StartNotificationId r
+body_fields form (Body.QueryResult r) = range_fields Key.EndResultId Key.StartResultId r
+body_fields form (Body.QueryRecursive connection) = connection_fields connection
+body_fields form body = told_fields form body
 
 -- all keys of a message's line, each with what stands there, if anything
-abbrev pub fields_of : Message → List Field
-fields_of m = header_fields (kind_of m.body) m.header ++ body_fields m.body
+abbrev pub fields_of : TimeForm → Message → List Field
+fields_of form m = header_fields (kind_of m.body) m.header ++ body_fields form m.body
 
 -- the members with the rows of a message, where it has some
 abbrev pub with_rows_in : Option (Key × List Data) → Members → Members
@@ -201,12 +202,16 @@ with_rows_in None ms = ms
 with_rows_in (Some rows) ms = with_rows rows.0 rows.1 ms
 
 -- the object that a message is written as; its keys stand in byte order
-unfoldable pub data_of : Message → Data
-data_of m = object (with_rows_in (rows_in m.body) (with_fields no_members (fields_of m)))
+unfoldable pub data_of : TimeForm → Message → Data
+data_of form m = object (with_rows_in (rows_in form m.body) (with_fields no_members (fields_of form m)))
 
--- the bytes of a message's line, without the end of a line
+-- the bytes of a message's line, without the end of a line, with its times in this form
+abbrev pub spelling_in : TimeForm → Message → List ℕ
+spelling_in form m = compact_text (data_of form m)
+
+-- and as it is written
 abbrev pub spelling : Message → List ℕ
-spelling m = compact_text (data_of m)
+spelling m = spelling_in TimeForm.DateTime m
 
 -- what an acknowledgement has
 abbrev pub ack_fields : Identity → List Field
@@ -222,7 +227,11 @@ ack_fields i =
 unfoldable pub ack_data : Identity → Data
 ack_data i = object (with_fields no_members (ack_fields i))
 
--- the bytes of a parcel's line, without the end of a line
+-- the bytes of a parcel's line, without the end of a line, with its times in this form
+abbrev pub parcel_spelling_in : TimeForm → Parcel → List ℕ
+parcel_spelling_in form (Parcel.Message m) = spelling_in form m
+parcel_spelling_in form (Parcel.Ack i) = compact_text (ack_data i)
+
+-- and as it is written
 abbrev pub parcel_spelling : Parcel → List ℕ
-parcel_spelling (Parcel.Message m) = spelling m
-parcel_spelling (Parcel.Ack i) = compact_text (ack_data i)
+parcel_spelling p = parcel_spelling_in TimeForm.DateTime p

@@ -12,8 +12,8 @@ use Rattle.nsi_primitive.specs.declared.message.PlaneNotice.{PlaneNotice}
 use Rattle.nsi_primitive.specs.declared.message.DeliveryTimeout.{DeliveryTimeout}
 use Rattle.nsi_primitive.specs.declared.message.Body.{Body}
 use Rattle.nsi_primitive.specs.declared.message.Message.{Message}
-use Rattle.json_fields.specs.Fields.{id_from, name_from, capacity_from, second_from, time_from, version_from, hold_from}
-use Rattle.json_fields.specs.Objects.{IsReadBack, digits, words, id_scalar, time_value}
+use Rattle.json_fields.specs.Fields.{id_from, name_from, capacity_from, second_from, version_from, hold_from}
+use Rattle.json_fields.specs.Objects.{IsReadBack, IsReadInEachForm, digits, words, id_scalar}
 
 -- ids and names that read again
 pub record IsValidHeader (h : Header) : Type 0 where
@@ -31,18 +31,18 @@ pub record IsValidReserve (r : ReserveRequest) : Type 0 where
   pub capacity : IsReadBack capacity_from (digits r.capacity) r.capacity
   pub connection : IfSome r.connection (λ n. IsReadBack id_from (id_scalar n) n)
   pub dest : IfSome r.dest (λ n. IsReadBack name_from (words n) n)
-  pub end : IsReadBack time_from (time_value r.end) r.end
+  pub end : IsReadInEachForm r.end
   pub source : IfSome r.source (λ n. IsReadBack name_from (words n) n)
-  pub start : IsReadBack time_from (time_value r.start) r.start
+  pub start : IsReadInEachForm r.start
   pub version : IfSome r.version (λ n. IsReadBack version_from (digits n) n)
 
 pub record IsValidConfirmation (r : ReserveConfirmation) : Type 0 where
   pub capacity : IsReadBack capacity_from (digits r.capacity) r.capacity
   pub connection : IsReadBack id_from (id_scalar r.connection) r.connection
   pub dest : IsReadBack name_from (words r.dest) r.dest
-  pub end : IsReadBack time_from (time_value r.end) r.end
+  pub end : IsReadInEachForm r.end
   pub source : IsReadBack name_from (words r.source) r.source
-  pub start : IsReadBack time_from (time_value r.start) r.start
+  pub start : IsReadInEachForm r.start
   pub version : IsReadBack version_from (digits r.version) r.version
 
 abbrev pub IsValidCause : Cause → Type 0

@@ -6,17 +6,17 @@ use Rattle.nsi_primitive.specs.declared.message.Outcome.{Outcome}
 use Rattle.nsi_primitive.specs.declared.message.SummaryRow.{SummaryRow}
 use Rattle.nsi_primitive.specs.declared.message.RecursiveRow.{RecursiveRow}
 use Rattle.nsi_primitive.specs.declared.message.Body.{Body}
-use Rattle.json_fields.specs.Fields.{id_from, name_from, capacity_from, second_from, time_from, version_from}
-use Rattle.json_fields.specs.Objects.{IsReadBack, digits, words, id_scalar, time_value}
+use Rattle.json_fields.specs.Fields.{id_from, name_from, capacity_from, second_from, version_from}
+use Rattle.json_fields.specs.Objects.{IsReadBack, IsReadInEachForm, digits, words, id_scalar}
 
 -- numbers, ids and names that read again
 pub record IsValidSummaryRow (r : SummaryRow) : Type 0 where
   pub capacity : IfSome r.capacity (λ n. IsReadBack capacity_from (digits n) n)
   pub connection : IsReadBack id_from (id_scalar r.connection) r.connection
   pub dest : IsReadBack name_from (words r.dest) r.dest
-  pub end : IfSome r.end (λ n. IsReadBack time_from (time_value n) n)
+  pub end : IfSome r.end IsReadInEachForm
   pub source : IsReadBack name_from (words r.source) r.source
-  pub start : IfSome r.start (λ n. IsReadBack time_from (time_value n) n)
+  pub start : IfSome r.start IsReadInEachForm
   pub version : IfSome r.version (λ n. IsReadBack version_from (digits n) n)
 
 -- and a depth that is a byte

@@ -6,7 +6,7 @@ pub mod payload;
 pub mod printing;
 pub mod reading;
 
-pub use json_fields::{Key, LineFault};
+pub use json_fields::{Key, LineFault, TimeForm};
 pub use payload::print_payload;
-pub use printing::{print_ack, print_line, print_message};
+pub use printing::{print_ack, print_line, print_line_in, print_message, print_message_in};
 pub use reading::{read_line, read_object};

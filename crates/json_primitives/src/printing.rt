@@ -7,7 +7,7 @@ ghost use Rattle.nsi_primitive.specs.declared.message.Parcel.{Parcel};
 ghost use Rattle.json_fields.specs.Objects.{with_fields};
 ghost use Rattle.json_fields.specs.Written.{members_of};
 ghost use Rattle.json_primitives.specs.Lines.{object_of};
-ghost use Rattle.json_primitives.specs.Spelling.{spelling, parcel_spelling, fields_of, body_fields, told_fields, header_fields, ack_fields};
+ghost use Rattle.json_primitives.specs.Spelling.{spelling_in, spelling, parcel_spelling_in, parcel_spelling, fields_of, body_fields, told_fields, header_fields, ack_fields};
 ghost use Rattle.json_primitives.specs.Valid.{IsValidHeader, IsValidIdentity, IsValidTold, IsValidBody, IsValid};
 
 mod answers;
@@ -16,7 +16,7 @@ mod requests;
 mod rows;
 
 use answers::{put_confirmation, put_error, put_listed, put_refusal};
-use json_fields::{JsonObject, Key};
+use json_fields::{JsonObject, Key, TimeForm};
 use notifications::{put_delivery, put_fault, put_plane, put_timeout};
 use nsi_primitive::{Body, Header, Identity, Kind, Message, Parcel};
 use requests::{put_range, put_reserve};
@@ -29,10 +29,7 @@ pub fn print_line(alloc: Global, parcel: &Parcel) -> Result<Vec<u8>, AllocError>
     ensures spelled { IfOk result (λ b. b.items ≡ parcel_spelling parcel.now) }
     ensures again { IfOk result (λ b. object_of b.items ≡ Ok parcel.now) }
 {
-    match parcel {
-        Parcel::Message(message) => print_message(alloc, message),
-        Parcel::Ack(identity) => print_ack(alloc, identity),
-    }
+    print_line_in(alloc, TimeForm::DateTime, parcel)
 }
 
 /// Writes a message as compact JSON, without a line's end.
@@ -41,8 +38,33 @@ pub fn print_message(alloc: Global, message: &Message) -> Result<Vec<u8>, AllocE
     ensures spelled { IfOk result (λ b. b.items ≡ spelling message.now) }
     ensures again { IfOk result (λ b. object_of b.items ≡ Ok (Parcel.Message message.now)) }
 {
-    let object = object_of(alloc, message)?;
-    match rows_in(alloc, &message.body)? {
+    print_message_in(alloc, TimeForm::DateTime, message)
+}
+
+/// Writes a parcel with its times in this form.
+pub fn print_line_in(alloc: Global, form: TimeForm, parcel: &Parcel) -> Result<Vec<u8>, AllocError>
+    requires { IsPrintableParcel parcel.now }
+    ensures spelled { IfOk result (λ b. b.items ≡ parcel_spelling_in form parcel.now) }
+    ensures again { IfOk result (λ b. object_of b.items ≡ Ok parcel.now) }
+{
+    match parcel {
+        Parcel::Message(message) => print_message_in(alloc, form, message),
+        Parcel::Ack(identity) => print_ack(alloc, identity),
+    }
+}
+
+/// Writes a message with its times in this form.
+pub fn print_message_in(
+    alloc: Global,
+    form: TimeForm,
+    message: &Message,
+) -> Result<Vec<u8>, AllocError>
+    requires { IsPrintable message.now }
+    ensures spelled { IfOk result (λ b. b.items ≡ spelling_in form message.now) }
+    ensures again { IfOk result (λ b. object_of b.items ≡ Ok (Parcel.Message message.now)) }
+{
+    let object = object_of(alloc, form, message)?;
+    match rows_in(alloc, form, &message.body)? {
         None => object.print(alloc),
         Some((key, rows)) => object.print_with(alloc, key, rows),
     }
@@ -72,14 +94,14 @@ fn ack_of(alloc: Global, identity: &Identity) -> Result<JsonObject, AllocError>
     Ok(object)
 }
 
-fn object_of(alloc: Global, message: &Message) -> Result<JsonObject, AllocError>
+fn object_of(alloc: Global, form: TimeForm, message: &Message) -> Result<JsonObject, AllocError>
     ensures fields { IfOk result (λ o.
-        members_of o ≡ with_fields no_members (fields_of message.now)) }
+        members_of o ≡ with_fields no_members (fields_of form message.now)) }
     ensures valid { OnOk result (IsValid message.now) }
 {
     let mut object = JsonObject::new(alloc);
     put_header(alloc, &mut object, message.kind(), &message.header)?;
-    put_body(alloc, &mut object, &message.body)?;
+    put_body(alloc, &mut object, form, &message.body)?;
     Ok(object)
 }
 
@@ -101,13 +123,18 @@ fn put_header(
 }
 
 #[tactic(auto, unfolding(json_fields::specs::Objects::with_fields))]
-fn put_body(alloc: Global, object: &mut JsonObject, body: &Body) -> Result<(), AllocError>
+fn put_body(
+    alloc: Global,
+    object: &mut JsonObject,
+    form: TimeForm,
+    body: &Body,
+) -> Result<(), AllocError>
     ensures put { OnOk result (members_of object.new
-        ≡ with_fields (members_of object.old) (body_fields body.now)) }
+        ≡ with_fields (members_of object.old) (body_fields form body.now)) }
     ensures valid { OnOk result (IsValidBody body.now) }
 {
     match body {
-        Body::Reserve(reserve) => put_reserve(alloc, object, reserve),
+        Body::Reserve(reserve) => put_reserve(alloc, object, form, reserve),
         Body::ReserveResponse { connection }
         | Body::ReserveCommit { connection }
         | Body::ReserveCommitConfirmed { connection }
@@ -135,19 +162,26 @@ fn put_body(alloc: Global, object: &mut JsonObject, body: &Body) -> Result<(), A
         Body::QueryResult(range) => {
             put_range(alloc, object, Key::EndResultId, Key::StartResultId, range)
         }
-        _ => put_told(alloc, object, body),
+        _ => put_told(alloc, object, form, body),
     }
 }
 
 /// What answers and notifications have, rows aside.
 #[tactic(auto, unfolding(json_fields::specs::Objects::with_fields))]
-fn put_told(alloc: Global, object: &mut JsonObject, body: &Body) -> Result<(), AllocError>
+fn put_told(
+    alloc: Global,
+    object: &mut JsonObject,
+    form: TimeForm,
+    body: &Body,
+) -> Result<(), AllocError>
     ensures put { OnOk result (members_of object.new
-        ≡ with_fields (members_of object.old) (told_fields body.now)) }
+        ≡ with_fields (members_of object.old) (told_fields form body.now)) }
     ensures valid { OnOk result (IsValidTold body.now) }
 {
     match body {
-        Body::ReserveConfirmed(confirmation) => put_confirmation(alloc, object, confirmation),
+        Body::ReserveConfirmed(confirmation) => {
+            put_confirmation(alloc, object, form, confirmation)
+        }
         Body::ReserveFailed {
             connection,
             exception,

@@ -99,7 +99,8 @@ where
         (K.content out.new) }
 
     // With Done the disk of each agent of `run` reads as its journal of the play, where the shelf told what it held.
-    ensures journals { (play : Play) → command_of (map string_bytes words.now) ≡ Some (RunValue play)
+    ensures journals { (play : Play)
+        → command_of (map string_bytes words.now) ≡ Some (RunValue play)
         → result ≡ Status.Done → IfSome (S.left input.old)
         (λ bytes. KeepsRun bytes (H.holds shelf.old) (H.holds shelf.new)) }
 

@@ -13,6 +13,7 @@ use Rattle.std.proofs.lemmas.Bool.{true≢false}
 use Rattle.std.proofs.lemmas.Slice.Eq.{bytes_eq-Decides}
 use Rattle.nsi_primitive.specs.declared.entry.Entry.{Entry}
 use Rattle.journal_entry.specs.Spelling.{entry_of, entry_spelling}
+use Rattle.journal_entry.specs.declared.form.Form.{Form}
 use Rattle.race_run.specs.declared.item.Item.{Item}
 
 abbrev first_of : Entry → Option (Entry × ℕ) → Entry
@@ -20,14 +21,14 @@ first_of d None = d
 first_of d (Some x) = x.0
 
 -- two entries are one exactly where their bytes are the same
-pub same_entry : (one other : Entry) (left right : List ℕ) (same : Bool) → same ≡ bytes_eq left right → left ≡ entry_spelling one → right ≡ entry_spelling other
-    → ((rest : List ℕ) → entry_of (left ++ rest) ≡ Some (one, length left)) → ((rest : List ℕ) → entry_of (right ++ rest) ≡ Some (other, length right))
+pub same_entry : (one other : Entry) (left right : List ℕ) (same : Bool) → same ≡ bytes_eq left right → left ≡ entry_spelling Form.Two one → right ≡ entry_spelling Form.Two other
+    → ((rest : List ℕ) → entry_of Form.Two (left ++ rest) ≡ Some (one, length left)) → ((rest : List ℕ) → entry_of Form.Two (right ++ rest) ≡ Some (other, length right))
     → MatchBool same (one ≡ other) (one ≢ other)
 same_entry one other left right true e l r a b =
     let bytes : left ≡ right = (bytes_eq-Decides left right).0 (sym e) in
-    ap (first_of one) (sym (a []) ∙ ap (λ (x : List ℕ). entry_of (x ++ [])) bytes ∙ b [])
+    ap (first_of one) (sym (a []) ∙ ap (λ (x : List ℕ). entry_of Form.Two (x ++ [])) bytes ∙ b [])
 same_entry one other left right false e l r a b =
-    λ q. true≢false (sym ((bytes_eq-Decides left right).1 (l ∙ ap entry_spelling q ∙ sym r)) ∙ sym e)
+    λ q. true≢false (sym ((bytes_eq-Decides left right).1 (l ∙ ap (entry_spelling Form.Two) q ∙ sym r)) ∙ sym e)
 
 some_one : (x y : Item) → Some x ≡ Some y → x ≡ y
 some_one x y e = cc

@@ -24,6 +24,7 @@ use Rattle.nsi_primitive.specs.declared.entry.Happening.{Happening}
 use Rattle.nsi_primitive.specs.declared.entry.Input.{Input}
 use Rattle.nsi_primitive.specs.declared.state.Machine.{Machine}
 use Rattle.ask_text.specs.Asks as asks
+use Rattle.json_fields.specs.declared.time_form.TimeForm.{TimeForm}
 use Rattle.json_primitives.specs.Spelling.{data_of, ack_data}
 use Rattle.stp_topology.specs.Network.{name_of}
 use Rattle.stp_topology.specs.declared.network.Network.{Network}
@@ -215,7 +216,7 @@ machine_clear Machine.Lifecycle = refl
 input_clear : (second : ℕ) (i : Input) (answer : Option AskAnswer) → IsRangedInput i → AreClear (input_words second i answer)
 input_clear second (Input.Ask n ask) None h = (ask_clear ask h.1, tt)
 input_clear second (Input.Ask n ask) (Some answer) h = (answer_clear answer, (ask_clear ask h.1, tt))
-input_clear second (Input.Got m) answer h = (data_clear (data_of m), tt)
+input_clear second (Input.Got m) answer h = (data_clear (data_of TimeForm.DateTime m), tt)
 input_clear second (Input.Work n machine) answer h = (decimal_clear n, (machine_clear machine, tt))
 input_clear second Input.Tick answer h = (decimal_clear second, tt)
 input_clear second (Input.Force n) answer h = (decimal_clear n, tt)

@@ -4,13 +4,15 @@ ghost use Rattle.std.specs.Prelude.{◌≡◌, OnOk, OnErr, IfOk, IfSome, Some, 
 ghost use Rattle.serde_json.specs.Data.{no_members, object, put, string, number, unsigned};
 ghost use Rattle.serde_json.specs.View.{view};
 ghost use Rattle.serde_json.specs.Written.{compact_text};
-ghost use Rattle.json_fields.specs.Fields.{json_of, id_from, name_from, capacity_from, second_from, time_from, version_from, hold_from};
-ghost use Rattle.json_fields.specs.Objects.{digits, words, flag, id_scalar, time_value, directionality_scalar, IsReadBack, IsFlatRow};
+ghost use Rattle.json_fields.specs.Fields.{json_of, id_from, name_from, capacity_from, second_from, version_from, hold_from};
+ghost use Rattle.json_fields.specs.Objects.{digits, words, flag, id_scalar, time_value, directionality_scalar, IsReadBack, IsReadInEachForm, IsFlatRow};
 ghost use Rattle.json_fields.specs.Written.{Puts, members_of, rows_of, with_rows};
 
 use crate::key::Key;
 use crate::object::JsonObject;
 use crate::rows::JsonRows;
+use crate::time_form::TimeForm;
+use date_time::print_second;
 use nsi_base::{HoldTime, Mbps, Name, Second, Text, Version};
 use nsi_primitive::{Directionality, Id, print_id};
 use serde_json::{Map, Value};
@@ -135,13 +137,23 @@ impl JsonObject {
     }
 
     /// Puts when a schedule starts or ends.
-    #[tactic(auto, unfolding(crate::specs::Fields::time_from, crate::specs::Objects::time_value))]
-    pub fn put_time(&mut self, alloc: Global, key: Key, time: Second) -> Result<(), AllocError>
-        ensures put { OnOk result (Puts key (Some (time_value time)) self.old self.new) }
-        ensures again { OnOk result (IsReadBack time_from (time_value time) time) }
+    #[tactic(auto, unfolding(crate::specs::Objects::time_value), using(crate::proofs::Times::in_each_form))]
+    pub fn put_time(
+        &mut self,
+        alloc: Global,
+        key: Key,
+        form: TimeForm,
+        time: Second,
+    ) -> Result<(), AllocError>
+        ensures put { OnOk result (Puts key (Some (time_value form time)) self.old self.new) }
+        ensures again { OnOk result (IsReadInEachForm time) }
         ensures err { OnErr result (members_of self.new ≡ members_of self.old) }
     {
-        self.put_second(alloc, key, time)
+        let second = time.get();
+        match form {
+            TimeForm::Number => self.put_number(alloc, key, second),
+            TimeForm::DateTime => self.put_text(alloc, key, print_second(time).as_str()),
+        }
     }
 
     pub fn put_version(
@@ -216,15 +228,17 @@ impl JsonObject {
         &mut self,
         alloc: Global,
         key: Key,
+        form: TimeForm,
         time: Option<Second>,
     ) -> Result<(), AllocError>
-        ensures put { OnOk result (Puts key (option_map time_value time) self.old self.new) }
-        ensures again { OnOk result (IfSome time (λ n. IsReadBack time_from (time_value n) n)) }
+        ensures put { OnOk result
+            (Puts key (option_map (time_value form) time) self.old self.new) }
+        ensures again { OnOk result (IfSome time IsReadInEachForm) }
         ensures err { OnErr result (members_of self.new ≡ members_of self.old) }
     {
         match time {
             None => Ok(()),
-            Some(time) => self.put_time(alloc, key, time),
+            Some(time) => self.put_time(alloc, key, form, time),
         }
     }
 

@@ -7,7 +7,7 @@ ghost use Rattle.json_fields.specs.Written.{members_of};
 ghost use Rattle.json_primitives.specs.Spelling.{confirmation_fields, refusal_fields, cause_fields, exception_fields, listed_fields, flow_text};
 ghost use Rattle.json_primitives.specs.Valid.{IsValidConfirmation, IsValidCause, IsValidException};
 
-use json_fields::{JsonObject, Key};
+use json_fields::{JsonObject, Key, TimeForm};
 use nsi_base::Flow;
 use nsi_primitive::{Cause, ErrorName, Exception, Id, ReserveConfirmation};
 use std::alloc::{AllocError, Global};
@@ -16,10 +16,11 @@ use std::alloc::{AllocError, Global};
 pub fn put_confirmation(
     alloc: Global,
     object: &mut JsonObject,
+    form: TimeForm,
     confirmation: &ReserveConfirmation,
 ) -> Result<(), AllocError>
     ensures put { OnOk result (members_of object.new
-        ≡ with_fields (members_of object.old) (confirmation_fields confirmation.now)) }
+        ≡ with_fields (members_of object.old) (confirmation_fields form confirmation.now)) }
     ensures valid { OnOk result (IsValidConfirmation confirmation.now) }
 {
     object.put_capacity(alloc, Key::Capacity, confirmation.capacity)?;
@@ -31,10 +32,10 @@ pub fn put_confirmation(
         Key::Directionality,
         confirmation.directionality.text(),
     )?;
-    object.put_time(alloc, Key::EndTime, confirmation.end)?;
+    object.put_time(alloc, Key::EndTime, form, confirmation.end)?;
     object.put_optional_text(alloc, Key::GlobalReservationId, &confirmation.global)?;
     object.put_name(alloc, Key::SourceStp, &confirmation.source)?;
-    object.put_time(alloc, Key::StartTime, confirmation.start)?;
+    object.put_time(alloc, Key::StartTime, form, confirmation.start)?;
     object.put_optional_flag(alloc, Key::SymmetricPath, confirmation.symmetric)?;
     object.put_version(alloc, Key::Version, confirmation.version)
 }

@@ -7,7 +7,7 @@ ghost use Rattle.json_fields.specs.Written.{members_of};
 ghost use Rattle.json_primitives.specs.Spelling.{reserve_fields, range_fields};
 ghost use Rattle.json_primitives.specs.Valid.{IsValidReserve};
 
-use json_fields::{JsonObject, Key};
+use json_fields::{JsonObject, Key, TimeForm};
 use nsi_primitive::{NumberRange, ReserveRequest};
 use std::alloc::{AllocError, Global};
 
@@ -15,10 +15,11 @@ use std::alloc::{AllocError, Global};
 pub fn put_reserve(
     alloc: Global,
     object: &mut JsonObject,
+    form: TimeForm,
     reserve: &ReserveRequest,
 ) -> Result<(), AllocError>
     ensures put { OnOk result (members_of object.new
-        ≡ with_fields (members_of object.old) (reserve_fields reserve.now)) }
+        ≡ with_fields (members_of object.old) (reserve_fields form reserve.now)) }
     ensures valid { OnOk result (IsValidReserve reserve.now) }
 {
     object.put_capacity(alloc, Key::Capacity, reserve.capacity)?;
@@ -26,10 +27,10 @@ pub fn put_reserve(
     object.put_optional_text(alloc, Key::Description, &reserve.description)?;
     object.put_optional_name(alloc, Key::DestStp, &reserve.dest)?;
     object.put_optional_directionality(alloc, Key::Directionality, reserve.directionality)?;
-    object.put_time(alloc, Key::EndTime, reserve.end)?;
+    object.put_time(alloc, Key::EndTime, form, reserve.end)?;
     object.put_optional_text(alloc, Key::GlobalReservationId, &reserve.global)?;
     object.put_optional_name(alloc, Key::SourceStp, &reserve.source)?;
-    object.put_time(alloc, Key::StartTime, reserve.start)?;
+    object.put_time(alloc, Key::StartTime, form, reserve.start)?;
     object.put_optional_flag(alloc, Key::SymmetricPath, reserve.symmetric)?;
     object.put_optional_version(alloc, Key::Version, reserve.version)
 }

@@ -7,13 +7,14 @@ ghost use Rattle.json_fields.specs.Written.{members_of, rows_of};
 ghost use Rattle.json_primitives.specs.Rows.{summary_fields, recursive_fields, notice_fields, outcome_fields, row_data, rows_in};
 ghost use Rattle.json_primitives.specs.ValidRows.{IsValidSummaryRow, IsValidRecursiveRow, IsValidNotice, IsValidOutcome, IsValidRows};
 
-use json_fields::{JsonObject, JsonRows, Key};
+use json_fields::{JsonObject, JsonRows, Key, TimeForm};
 use nsi_primitive::{Body, Notice, Outcome, RecursiveRow, SummaryRow};
 use std::alloc::{AllocError, Global};
 
 #[tactic(auto, unfolding(crate::specs::Rows::row_data, json_fields::specs::Objects::with_fields))]
-fn summary_row(alloc: Global, row: &SummaryRow) -> Result<JsonObject, AllocError>
-    ensures row { IfOk result (λ o. object (members_of o) ≡ row_data (summary_fields row.now)) }
+fn summary_row(alloc: Global, form: TimeForm, row: &SummaryRow) -> Result<JsonObject, AllocError>
+    ensures row { IfOk result (λ o.
+        object (members_of o) ≡ row_data (summary_fields form row.now)) }
     ensures valid { OnOk result (IsValidSummaryRow row.now) }
 {
     let mut object = JsonObject::new(alloc);
@@ -23,25 +24,25 @@ fn summary_row(alloc: Global, row: &SummaryRow) -> Result<JsonObject, AllocError
     object.put_optional_text(alloc, Key::Description, &row.description)?;
     object.put_name(alloc, Key::DestStp, &row.dest)?;
     object.put_text(alloc, Key::Directionality, row.directionality.text())?;
-    object.put_optional_time(alloc, Key::EndTime, row.end)?;
+    object.put_optional_time(alloc, Key::EndTime, form, row.end)?;
     object.put_optional_text(alloc, Key::GlobalReservationId, &row.global)?;
     object.put_text(alloc, Key::LifecycleState, row.lifecycle.text())?;
     object.put_text(alloc, Key::ProvisionState, row.provision.text())?;
     object.put_text(alloc, Key::ReservationState, row.reservation.text())?;
     object.put_name(alloc, Key::SourceStp, &row.source)?;
-    object.put_optional_time(alloc, Key::StartTime, row.start)?;
+    object.put_optional_time(alloc, Key::StartTime, form, row.start)?;
     object.put_optional_version(alloc, Key::Version, row.version)?;
     Ok(object)
 }
 
-fn summary_rows(alloc: Global, rows: &[SummaryRow]) -> Result<JsonRows, AllocError>
+fn summary_rows(alloc: Global, form: TimeForm, rows: &[SummaryRow]) -> Result<JsonRows, AllocError>
     ensures rows { IfOk result (λ written.
-        rows_of written ≡ map (λ r. row_data (summary_fields r)) rows.now) }
+        rows_of written ≡ map (λ r. row_data (summary_fields form r)) rows.now) }
     ensures valid { OnOk result (AllByRecursion IsValidSummaryRow rows.now) }
 {
     let mut written = JsonRows::new(alloc);
     for row in rows {
-        let object = summary_row(alloc, row)?;
+        let object = summary_row(alloc, form, row)?;
         written.push(object)?;
     }
     Ok(written)
@@ -130,13 +131,18 @@ fn outcome_rows(alloc: Global, rows: &[Outcome]) -> Result<JsonRows, AllocError>
 
 /// The rows of a body and their key, where it has some.
 #[tactic(auto, unfolding(crate::specs::Rows::rows_in))]
-pub fn rows_in(alloc: Global, body: &Body) -> Result<Option<(Key, JsonRows)>, AllocError>
-    ensures rows { IfOk result (λ o. option_map (λ r. (r.0, rows_of r.1)) o ≡ rows_in body.now) }
+pub fn rows_in(
+    alloc: Global,
+    form: TimeForm,
+    body: &Body,
+) -> Result<Option<(Key, JsonRows)>, AllocError>
+    ensures rows { IfOk result (λ o.
+        option_map (λ r. (r.0, rows_of r.1)) o ≡ rows_in form body.now) }
     ensures valid { OnOk result (IsValidRows body.now) }
 {
     match body {
         Body::QuerySummaryConfirmed { reservations, .. } => {
-            let rows = summary_rows(alloc, reservations.items())?;
+            let rows = summary_rows(alloc, form, reservations.items())?;
             Ok(Some((Key::Reservations, rows)))
         }
         Body::QueryNotificationConfirmed { notifications, .. } => {

@@ -11,7 +11,7 @@ pub returns-clause-fields : goal.returns-clause-fields
 returns-clause-fields c =
     let m = c.args.message.now in
     c.in_ok-put_body.ensures.put
-    ∙ (ap (λ ms. with_fields ms (body_fields m.body)) (c.in_ok-put_header.ensures.put
+    ∙ (ap (λ ms. with_fields ms (body_fields c.args.form m.body)) (c.in_ok-put_header.ensures.put
     ∙ (ap (λ k. with_fields (members_of c.new-object.result) (header_fields k m.header)) c.kind.ensures
     ∙ ap (λ ms. with_fields ms (header_fields (kind_of m.body) m.header)) c.new-object.ensures))
-    ∙ sym (with_fields-append no_members (header_fields (kind_of m.body) m.header) (body_fields m.body)))
+    ∙ sym (with_fields-append no_members (header_fields (kind_of m.body) m.header) (body_fields c.args.form m.body)))

@@ -5,4 +5,4 @@ use Rattle.json_primitives.proofs.RowLoops.{ArePrinted}
 use Rattle.json_primitives.proofs.printing.rows.summary_rows.Given as goal
 
 abbrev pub invariant-loop-row : goal.invariant-loop-row
-invariant-loop-row l = ArePrinted (λ r. row_data (summary_fields r)) IsValidSummaryRow l.rows l.row-index (rows_of l.written)
+invariant-loop-row l = ArePrinted (λ r. row_data (summary_fields l.form r)) IsValidSummaryRow l.rows l.row-index (rows_of l.written)
