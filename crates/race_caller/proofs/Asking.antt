@@ -158,7 +158,7 @@ sent_of t ask x y z second out sent now h k = record { is = k.is; call = k.call 
     may = subst (λ (f : Entry). may_take x.requester.state f ≡ true) same h.may
 
     go : (sent : Sent) → IsPick out.items sent → SendsBy t ask x z sent
-    go Sent.Full p = tt
+    go Sent.Full p = absurd p
     go Sent.Nothing p = record { may = may; none = said ∙ p; state = state }
     go (Sent.Request m) p = (
       record { may = may; one = all_sent (asked t x.call.agent x.requester.state ask).out p.more m (said ∙ p.one) (one_at_most t x.call.agent x.requester.state ask); state = state },

@@ -2,3 +2,10 @@ pub mod OneRequest
 pub mod Hearing
 pub mod Asking
 pub mod Playing
+pub mod Along
+pub mod Stepping
+pub mod HearingAll
+pub mod Going
+pub mod Ending
+pub mod Handing
+pub mod Named

@@ -1,12 +1,13 @@
 -- A caller at work.
 use Rattle.std.specs.List.{All}
 use Rattle.std.specs.Global.{Vec}
-use Rattle.std.specs.Prelude.{◌≡◌, ◌<◌, ◌==◌, Bool, true, false, List, [], ◌∷◌, length, IfSome}
+use Rattle.std.specs.Prelude.{◌≡◌, ◌<◌, ◌≤◌, ◌==◌, Bool, true, false, List, [], ◌∷◌, length, IfSome}
 use Rattle.nsi_primitive.specs.Printable.{IsPrintable}
 use Rattle.nsi_primitive.specs.declared.ask.Ask.{Ask}
 use Rattle.nsi_primitive.specs.declared.entry.Entry.{Entry}
 use Rattle.nsi_primitive.specs.declared.message.Message.{Message}
 use Rattle.stp_topology.specs.declared.network.Network.{Network}
+use Rattle.agent_state.specs.Entries.{most_entries}
 use Rattle.requester_agent.specs.Setting.{setting_of}
 use Rattle.requester_agent.specs.Steps.{may_take}
 use Rattle.race_run.specs.Compared.{AllStand}
@@ -56,7 +57,7 @@ pub record HasPicked (t : Network) (out : List Message) (old new : Asker) (sent 
 
 -- what an ask makes it send
 abbrev pub SendsBy : Network → Ask → Asker → Asker → Sent → Type 0
-SendsBy t ask old new Sent.Full = Unit {0}
+SendsBy t ask old new Sent.Full = most_entries ≤ old.requester.state.base.taken
 SendsBy t ask old new Sent.Nothing = IsSilent t old.call.agent old.requester.state ask new.requester.state
 SendsBy t ask old new (Sent.Request m) = IsRequestOf t old.call.agent old.requester.state ask m new.requester.state × IsPrintable m
 
@@ -98,6 +99,11 @@ IsAnswer a = All IsPrintable a.messages.items
 abbrev pub IsWork : Work → Type 0
 IsWork (Work.Done d) = All IsPrintable d.messages.items
 IsWork _ = Unit {0}
+
+-- behind work that was done
+abbrev pub turn_of : Bool → Turn
+turn_of true = Turn.More
+turn_of false = Turn.Ended
 
 abbrev pub goes_on : Turn → Bool
 goes_on Turn.More = true

@@ -9,6 +9,7 @@ ghost use Rattle.race_run.specs.Found.{item, entered, got};
 ghost use Rattle.race_caller.specs.Plays.{begun, HasEnd, is_plain_work, is_work_by};
 ghost use Rattle.race_run.specs.Compared.{AllStand};
 ghost use Rattle.race_caller.specs.Askers.{IsAsker, HasTaken, HasPicked, HasHeard, HasSent};
+ghost use Rattle.race_caller.specs.Alone.{HasRoomFor, HasHeardThese};
 ghost use Rattle.requester_agent.specs.Steps.{may_take};
 
 use nsi_base::{AgentNo, List, Second};
@@ -241,7 +242,9 @@ impl Asker {
     ) -> Result<bool, AllocError>
         requires is { IsAsker topology.now self.old }
         requires printable { IsPrintable message }
-        ensures { IfOk result (HasHeard topology.now self.old self.new) }
+        ensures heard { IfOk result (HasHeard topology.now self.old self.new) }
+        ensures these { HasRoomFor 1 self.old →
+            IfOk result (HasHeardThese place (message ∷ []) self.old self.new) }
     {
         if self.requester.taken() >= MOST_ENTRIES {
             return Ok(let_go(message));
@@ -284,7 +287,9 @@ impl Asker {
     ) -> Result<bool, AllocError>
         requires is { IsAsker topology.now self.old }
         requires printable { All IsPrintable messages.items }
-        ensures { IfOk result (HasHeard topology.now self.old self.new) }
+        ensures heard { IfOk result (HasHeard topology.now self.old self.new) }
+        ensures these { HasRoomFor (length messages.items) self.old →
+            IfOk result (HasHeardThese place messages.items self.old self.new) }
     {
         for message in messages {
             let on = self.hear(alloc, topology, place, message)?;
@@ -303,7 +308,11 @@ impl Asker {
         event: Event,
     ) -> Result<bool, AllocError>
         requires is { IsAsker topology.now self.old }
-        ensures { IfOk result (HasHeard topology.now self.old self.new) }
+        ensures heard { IfOk result (HasHeard topology.now self.old self.new) }
+        ensures work { is_work_by self.old.call.provider event ≡ true → IfOk result (λ on. on ≡ true) }
+        ensures kept { IfOk result (λ on. on ≡ true → self.new ≡ record self.old {
+          kept = self.old.kept ++ item place event ∷ [];
+        }) }
     {
         let is_work = is_work_by(self.call.provider, &event);
         if !is_work {

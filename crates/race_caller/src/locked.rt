@@ -104,6 +104,10 @@ fn work_in(alloc: Global, reply: CallReply) -> Result<Work, AllocError>
 }
 
 impl<'a, R: Wait, J: Journal + Drop, G: Gate> Desk for LockedDesk<'a, R, J, G> {
+    ghost use Rattle.std.specs.Prelude.{None};
+
+    ghost book = { λ _. None };
+
     fn hand(&mut self, alloc: Global, request: &Message) -> Result<Option<Answer>, AllocError> {
         let door = self.door;
         door.gate.pass(self.caller, self.calls);

@@ -1,12 +1,16 @@
 //! A caller asks, call after call.
 
-ghost use Rattle.std.specs.Prelude.{◌≡◌, ◌<◌, ◌==◌, ◌∷◌, [], All, IfOk, OnOk, IfSome, IfNone, length, false};
+ghost use Rattle.std.specs.Prelude.{◌≡◌, ◌≤◌, ◌<◌, ◌+◌, ◌==◌, ◌∷◌, [], ℕ, List, All, IfOk, OnOk, IfSome, IfNone, Option, Some, length, true, false};
 ghost use Rattle.nsi_primitive.specs.Printable.{IsPrintable, IsPrintableAsk};
 ghost use Rattle.requester_agent.specs.Setting.{IsRequester};
 ghost use Rattle.race_run.specs.Compared.{AllStand};
-ghost use Rattle.race_caller.specs.Plays.{IsOwn, HasEnd};
+ghost use Rattle.race_run.specs.declared.item.Item.{Item as AnItem};
+ghost use Rattle.shared_provider.specs.Book.{Book as ABook};
+ghost use Rattle.sole_requester.specs.Sole.{first_named, named_by};
+ghost use Rattle.race_caller.specs.Plays.{IsOwn, HasEnd, is_work_by};
 ghost use Rattle.race_caller.specs.Handed.{HandsOver};
-ghost use Rattle.race_caller.specs.Askers.{IsAsker, IsAnswer, HasHeard, HasFollowed, HasAsked, HasPlayed, goes_on};
+ghost use Rattle.race_caller.specs.Askers.{IsAsker, IsAnswer, HasHeard, HasFollowed, HasAsked, HasPlayed, goes_on, turn_of};
+ghost use Rattle.race_caller.specs.Alone.{IsAlone, IsNewRequest, IsReadyFor, EndsTo, EndsAlone, EndsOwn, TurnsAlone, idle, sending, waiting, answered, worked, heard_items, done_items};
 ghost use Rattle.race_run.specs.Scripts.{ask_by, asks_by, AreAsks, IsPrintableAct};
 
 use crate::asker::{Asker, Sent};
@@ -29,17 +33,26 @@ pub struct Job {
     pub number: u16,
 }
 
-/// The connection of a request, or the first that the messages name.
-fn connection_of(request: &Message, messages: &[Message]) -> Option<Id> {
-    if let Some(connection) = request.body.connection() {
-        return Some(connection);
-    }
+/// The first connection that the messages name.
+fn first_named(messages: &[Message]) -> Option<Id>
+    ensures { result ≡ first_named messages.now }
+{
     for message in messages {
         if let Some(connection) = message.body.named_connection() {
             return Some(connection);
         }
     }
     None
+}
+
+/// The connection of a request, or the first that the messages name.
+fn connection_of(request: &Message, messages: &[Message]) -> Option<Id>
+    ensures { result ≡ named_by request.now.body messages.now }
+{
+    match request.body.connection() {
+        Some(connection) => Some(connection),
+        None => first_named(messages),
+    }
 }
 
 fn let_go(request: Message) {
@@ -57,7 +70,8 @@ pub enum Turn {
 }
 
 fn turn_of(on: bool) -> Turn
-    ensures { goes_on result ≡ on }
+    ensures goes { goes_on result ≡ on }
+    ensures is { result ≡ turn_of on }
 {
     if on { Turn::More } else { Turn::Ended }
 }
@@ -72,7 +86,11 @@ fn hear_work(
 ) -> Result<bool, AllocError>
     requires is { IsAsker topology.now asker.old }
     requires printable { All IsPrintable done.messages.items }
-    ensures { IfOk result (HasHeard topology.now asker.old asker.new) }
+    ensures heard { IfOk result (HasHeard topology.now asker.old asker.new) }
+    ensures alone { (first : List AnItem) (j works : ℕ) (at : Option ℕ) (b : ABook) →
+        is_work_by asker.old.call.provider done.event ≡ true →
+        IsAlone topology.now first (worked j works at (done_items asker.old done)) b asker.old →
+        IfOk result (EndsTo topology.now first (waiting j works at) b asker.new) }
 {
     let DoneWork {
         place,
@@ -97,7 +115,12 @@ fn work_once<D: Desk>(
     connection: Id,
 ) -> Result<Turn, AllocError>
     requires is { IsAsker topology.now asker.old }
-    ensures { IfOk result (λ turn. HasHeard topology.now asker.old asker.new (goes_on turn)) }
+    ensures heard { IfOk result (λ turn. HasHeard topology.now asker.old asker.new (goes_on turn)) }
+    ensures alone { (first : List AnItem) (j works : ℕ) (b : ABook) → works ≤ 1 →
+        D.book desk.old ≡ Some b →
+        IsAlone topology.now first (waiting j works (Some connection)) b asker.old →
+        IfOk result (TurnsAlone topology.now first j works (Some connection)
+        (D.book desk.new) asker.new) }
 {
     match desk.have_done(alloc, connection)? {
         Work::Idle => Ok(Turn::Idle),
@@ -118,7 +141,10 @@ fn do_work<D: Desk>(
     connection: Id,
 ) -> Result<bool, AllocError>
     requires is { IsAsker topology.now asker.old }
-    ensures { IfOk result (HasHeard topology.now asker.old asker.new) }
+    ensures heard { IfOk result (HasHeard topology.now asker.old asker.new) }
+    ensures alone { (first : List AnItem) (j : ℕ) (b : ABook) → D.book desk.old ≡ Some b →
+        IsAlone topology.now first (waiting j 1 (Some connection)) b asker.old →
+        IfOk result (EndsAlone topology.now first (idle j) (D.book desk.new) asker.new) }
 {
     for _turn in 0..=4_194_304u64 {
         let turn = work_once(alloc, topology, desk, asker, connection)?;
@@ -142,7 +168,10 @@ fn follow<D: Desk>(
 ) -> Result<bool, AllocError>
     requires is { IsAsker topology.now asker.old }
     requires printable { IsPrintable request.now }
-    ensures { IfOk result (HasFollowed topology.now request.now asker.old asker.new) }
+    ensures followed { IfOk result (HasFollowed topology.now request.now asker.old asker.new) }
+    ensures alone { (first : List AnItem) (j : ℕ) (b : ABook) → D.book desk.old ≡ Some b →
+        IsAlone topology.now first (sending j) b asker.old → IsNewRequest b asker.old request.now →
+        IfOk result (EndsAlone topology.now first (idle j) (D.book desk.new) asker.new) }
 {
     let handed = desk.hand(alloc, request)?;
     let Some(answer) = handed else {
@@ -166,7 +195,11 @@ fn hear_through<D: Desk>(
 ) -> Result<bool, AllocError>
     requires is { IsAsker topology.now asker.old }
     requires printable { IsAnswer answer }
-    ensures { IfOk result (HasHeard topology.now asker.old asker.new) }
+    ensures heard { IfOk result (HasHeard topology.now asker.old asker.new) }
+    ensures alone { (first : List AnItem) (j : ℕ) (b : ABook) → D.book desk.old ≡ Some b →
+        IsAlone topology.now first (answered j connection
+        (heard_items asker.old answer.place answer.messages.items)) b asker.old →
+        IfOk result (EndsAlone topology.now first (idle j) (D.book desk.new) asker.new) }
 {
     let Answer { place, messages } = answer;
     let on = asker.hear_all(alloc, topology, place, messages)?;
@@ -186,7 +219,10 @@ fn work_on<D: Desk>(
     connection: Option<Id>,
 ) -> Result<bool, AllocError>
     requires is { IsAsker topology.now asker.old }
-    ensures { IfOk result (HasHeard topology.now asker.old asker.new) }
+    ensures heard { IfOk result (HasHeard topology.now asker.old asker.new) }
+    ensures alone { (first : List AnItem) (j : ℕ) (b : ABook) → D.book desk.old ≡ Some b →
+        IsAlone topology.now first (waiting j 1 connection) b asker.old →
+        IfOk result (EndsAlone topology.now first (idle j) (D.book desk.new) asker.new) }
 {
     match connection {
         Some(connection) => do_work(alloc, topology, desk, asker, connection),
@@ -204,7 +240,10 @@ fn ask_once<D: Desk>(
 ) -> Result<bool, AllocError>
     requires is { IsAsker topology.now asker.old }
     requires printable { IsPrintableAsk ask.now }
-    ensures { IfOk result (HasAsked topology.now ask.now asker.old asker.new) }
+    ensures asked { IfOk result (HasAsked topology.now ask.now asker.old asker.new) }
+    ensures alone { (first : List AnItem) (j : ℕ) (b : ABook) → D.book desk.old ≡ Some b →
+        IsAlone topology.now first (idle (j + 1)) b asker.old →
+        IfOk result (EndsAlone topology.now first (idle j) (D.book desk.new) asker.new) }
 {
     let sent = asker.send(alloc, topology, ask)?;
     match sent {
@@ -242,8 +281,12 @@ fn act_once<D: Desk>(
 ) -> Result<bool, AllocError>
     requires is { IsAsker topology.now asker.old }
     requires printable { IsPrintableAct act.now }
-    ensures { IfOk result (HasPlayed topology.now
+    ensures played { IfOk result (HasPlayed topology.now
         (ask_by asker.old.call.agent act.now) asker.old asker.new) }
+    ensures alone { (first : List AnItem) (j : ℕ) (b : ABook) → D.book desk.old ≡ Some b →
+        IsAlone topology.now first
+        (idle (j + length (ask_by asker.old.call.agent act.now))) b asker.old →
+        IfOk result (EndsAlone topology.now first (idle j) (D.book desk.new) asker.new) }
 {
     match ask_of(asker.call.agent, act) {
         Some(ask) => ask_once(alloc, topology, desk, asker, ask),
@@ -261,8 +304,12 @@ fn all_acts<D: Desk>(
 ) -> Result<bool, AllocError>
     requires is { IsAsker topology.now asker.old }
     requires printable { AreAsks acts.now }
-    ensures { IfOk result (HasPlayed topology.now
+    ensures played { IfOk result (HasPlayed topology.now
         (asks_by asker.old.call.agent acts.now) asker.old asker.new) }
+    ensures alone { (first : List AnItem) (b : ABook) → D.book desk.old ≡ Some b →
+        IsAlone topology.now first
+        (idle (length (asks_by asker.old.call.agent acts.now))) b asker.old →
+        IfOk result (EndsAlone topology.now first (idle 0) (D.book desk.new) asker.new) }
 {
     for act in acts {
         let on = act_once(alloc, topology, desk, asker, act)?;
@@ -337,6 +384,9 @@ pub fn served_by<D: Desk>(
     requires printable { AreAsks acts.now }
     ensures own { IfOk result (IsOwn topology.now call start (asks_by call.agent acts.now)) }
     ensures stand { IfOk result (AllStand topology.now) }
+    ensures alone { (first : List AnItem) (b : ABook) → D.book desk.old ≡ Some b →
+        IsReadyFor topology.now first call start (length (asks_by call.agent acts.now)) b →
+        IfOk result (EndsOwn topology.now first call (D.book desk.new)) }
 {
     let mut asker = Asker::new(alloc, topology, call, start)?;
     let played = all_acts(alloc, topology, desk, &mut asker, acts);

@@ -12,7 +12,7 @@ use nsi_base::AgentNo;
 use nsi_disk::{Disk, MemoryDisk};
 use nsi_script::{Script, read_script};
 use race_caller::Gate;
-use race_threads::{BookParts, RaceCause, RaceFault, Raced, race, race_of};
+use race_threads::{BookParts, Race, RaceCause, RaceFault, Raced, race, race_of};
 use std::alloc::Global;
 use std::rt::HostRuntime;
 use std::sync::Wait;
@@ -131,17 +131,17 @@ fn cause_ending(cause: RaceCause) -> Ending {
     }
 }
 
-fn fault_ending(fault: RaceFault<MemoryDisk>) -> Ending {
+fn fault_ending<D: Disk + Drop>(fault: RaceFault<D>) -> Ending {
     let RaceFault { cause, disk } = fault;
     drop(disk);
     cause_ending(cause)
 }
 
-fn events_of(raced: Raced<MemoryDisk>) -> Ending {
+fn events_of<D: Disk + Drop>(raced: Raced<D>) -> Ending {
     Ending::Events(raced.book.history().len())
 }
 
-fn ending_of(raced: Result<Raced<MemoryDisk>, RaceFault<MemoryDisk>>) -> Ending {
+fn ending_of<D: Disk + Drop>(raced: Result<Raced<D>, RaceFault<D>>) -> Ending {
     match raced {
         Ok(raced) => events_of(raced),
         Err(fault) => fault_ending(fault),
@@ -190,10 +190,11 @@ fn script_of(alloc: Global, topology: &Topology) -> Result<Script, Fail>
 }
 
 /// The script, which has one second.
-fn one_second(script: Script) -> Result<Script, Fail>
+fn one_second(alloc: Global, topology: &Topology) -> Result<Script, Fail>
+    ensures asks { IfOk result (λ s. AreAsks (acts_of s.groups)) }
     ensures one { IfOk result (λ s. length s.groups ≤ 1) }
-    ensures same { IfOk result (λ s. s ≡ script) }
 {
+    let script = script_of(alloc, topology)?;
     if script.groups.items().len() > 1 {
         return Err(Fail::from("one second"));
     }
@@ -208,24 +209,91 @@ fn disk_of(alloc: Global, failing: Vec<u64>) -> MemoryDisk
     MemoryDisk::new(alloc, Vec::new(alloc), failing, Vec::new(alloc))
 }
 
-/// The script is raced over such a disk.
-fn raced_over(
+/// How a race over an empty disk ends.
+fn raced_by<D: Disk + Drop + Send>(
+    rt: &(impl Threads + Wait + Sync),
+    alloc: Global,
+    topology: &Topology,
+    asked: &Race<'_>,
+    parts: BookParts<D>,
+    gate: &Turn,
+) -> Ending
+    requires same { parts.topology ≡ topology.now }
+    requires within { asked.now.provider < length topology.now.agents }
+    requires provider { IsProvider topology.now asked.now.provider }
+    requires printable { AreAsks asked.now.acts.now }
+    requires runs { (D.meter parts.disk).stopped ≡ false }
+    requires counts { counted (D.meter parts.disk) ≡ 0 }
+{
+    ending_of(race(rt, alloc, topology, asked, parts, gate))
+}
+
+/// How a race by a script over an empty disk ends.
+fn raced_on<D: Disk + Drop + Send>(
+    rt: &(impl Threads + Wait + Sync),
+    alloc: Global,
+    topology: &Topology,
+    script: &Script,
+    parts: BookParts<D>,
+    gate: &Turn,
+) -> Result<Ending, Fail>
+    requires same { parts.topology ≡ topology.now }
+    requires asks { AreAsks (acts_of script.now.groups) }
+    requires one { length script.now.groups ≤ 1 }
+    requires runs { (D.meter parts.disk).stopped ≡ false }
+    requires counts { counted (D.meter parts.disk) ≡ 0 }
+{
+    let provider = provider_of(topology)?;
+    let asked = race_of(provider, script);
+    Ok(raced_by(rt, alloc, topology, &asked, parts, gate))
+}
+
+/// The script is raced over these parts.
+fn raced_with_parts<D: Disk + Drop + Send>(
+    rt: &(impl Threads + Wait + Sync),
+    alloc: Global,
+    topology: &Topology,
+    parts: BookParts<D>,
+    gate: &Turn,
+) -> Result<Ending, Fail>
+    requires same { parts.topology ≡ topology.now }
+    requires runs { (D.meter parts.disk).stopped ≡ false }
+    requires counts { counted (D.meter parts.disk) ≡ 0 }
+{
+    let script = one_second(alloc, topology)?;
+    raced_on(rt, alloc, topology, &script, parts, gate)
+}
+
+/// The script is raced by the first of these networks over an empty disk.
+fn raced_over<D: Disk + Drop + Send>(
+    rt: &(impl Threads + Wait + Sync),
+    alloc: Global,
+    networks: (Topology, Topology),
+    disk: D,
+    gate: &Turn,
+) -> Result<Ending, Fail>
+    requires same { networks.1 ≡ networks.0 }
+    requires runs { (D.meter disk).stopped ≡ false }
+    requires counts { counted (D.meter disk) ≡ 0 }
+{
+    let (topology, own) = networks;
+    let parts = BookParts {
+        topology: own,
+        disk,
+    };
+    raced_with_parts(rt, alloc, &topology, parts, gate)
+}
+
+/// The script is raced over a disk of which the calls with these numbers fail.
+fn raced_in_memory(
     rt: &(impl Threads + Wait + Sync),
     alloc: Global,
     failing: Vec<u64>,
     gate: &Turn,
 ) -> Result<Ending, Fail> {
-    let (topology, own) = networks(alloc)?;
-    let provider = provider_of(&topology)?;
-    let read = script_of(alloc, &topology)?;
-    let script = one_second(read)?;
+    let networks = networks(alloc)?;
     let disk = disk_of(alloc, failing);
-    let asked = race_of(provider, &script);
-    let parts = BookParts {
-        topology: own,
-        disk,
-    };
-    Ok(ending_of(race(rt, alloc, &topology, &asked, parts, gate)))
+    raced_over(rt, alloc, networks, disk, gate)
 }
 
 /// A tick, three requests and their work, each with its sync.
@@ -240,7 +308,7 @@ const LONG: u64 = 100_000_000;
 #[test]
 fn two_callers_are_served_at_once(rt: HostRuntime) -> Result<(), Fail> {
     let gate = Turn::new(LONG);
-    let ending = raced_over(&rt, rt.alloc(), Vec::new(rt.alloc()), &gate)?;
+    let ending = raced_in_memory(&rt, rt.alloc(), Vec::new(rt.alloc()), &gate)?;
     let has_met = gate.has_met();
     assert!(rt; has_met && ending == Ending::Events(EVENTS));
     Ok(())
@@ -249,7 +317,7 @@ fn two_callers_are_served_at_once(rt: HostRuntime) -> Result<(), Fail> {
 #[test]
 fn callers_who_come_one_at_a_time_are_seen_as_such(rt: HostRuntime) -> Result<(), Fail> {
     let gate = Turn::one_at_a_time(1000);
-    let ending = raced_over(&rt, rt.alloc(), Vec::new(rt.alloc()), &gate)?;
+    let ending = raced_in_memory(&rt, rt.alloc(), Vec::new(rt.alloc()), &gate)?;
     let has_met = gate.has_met();
     assert!(rt; !has_met && ending == Ending::Events(EVENTS));
     Ok(())
@@ -259,7 +327,7 @@ fn callers_who_come_one_at_a_time_are_seen_as_such(rt: HostRuntime) -> Result<()
 fn raced_with(rt: &(impl Threads + Wait + Sync), alloc: Global, call: u64) -> Result<Ending, Fail> {
     let mut failing = Vec::new(alloc);
     failing.push(call)?;
-    raced_over(rt, alloc, failing, &Turn::new(0))
+    raced_in_memory(rt, alloc, failing, &Turn::new(0))
 }
 
 /// Whether a race over a disk that fails at each of these calls ends by that.

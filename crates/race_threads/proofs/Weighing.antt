@@ -1,6 +1,6 @@
 -- What the comparison makes known of a history.
 use Rattle.std.proofs.Common.{◌≡◌, ◌<◌, ◌≤◌, ◌+◌, ◌∙◌, ◌⊎◌, ℕ, Bool, true, false, List, [], ◌∷◌, ◌++◌, map, length, get_or, Option, Some, None, All, inl, inr, refl, sym, ap, subst, arith}
-use Rattle.std.specs.Prelude.{◌==◌, ◌||◌, if◌then◌else◌, IsSome}
+use Rattle.std.specs.Prelude.{◌==◌, ◌||◌, if◌then◌else◌, slice_get, IsSome}
 use Rattle.std.specs.List.{list_any}
 use Rattle.std.proofs.lemmas.Bool.{true≢false, ne_eqb}
 use Rattle.std.proofs.lemmas.List.{get_or-map, length-map}
@@ -32,16 +32,16 @@ use Rattle.shared_provider.specs.Book.{Held, IsBook, counted}
 use Rattle.shared_provider.specs.History.{IsHistory, IsOf, happenings, journal_of}
 use Rattle.race_run.specs.declared.item.Item.{Item}
 use Rattle.race_run.specs.declared.item.Difference.{Difference}
-use Rattle.race_run.specs.Compared.{AllStand}
+use Rattle.race_run.specs.Compared.{IsFirst, AllStand}
 use Rattle.race_run.specs.Found.{item, entered, heard_item, entry_items, entry_in, after_at, state_by, state_gone, along, found, found_at, is_own, ticks, strays, waits, work_item}
 use Rattle.race_run.specs.Replay.{MayAll}
 use Rattle.race_caller.specs.Plays.{IsPlay, HasEnd, no_place}
 use Rattle.race_run.specs.Scripts.{asks_by}
 use Rattle.race_judging.specs.declared.judging.Own.{Own}
-use Rattle.race_judging.specs.Pairs.{pair, AreSame, second_of, first_ticks, found_of, own_pair, committed_of}
-use Rattle.race_judging.specs.Verdicts.{IsSame, IsDifferent}
+use Rattle.race_judging.specs.Pairs.{Pair, pair, pairs_of, AreSame, second_of, first_ticks, found_of, own_pair, committed_of}
+use Rattle.race_judging.specs.Verdicts.{IsFirstOf, IsSame, IsDifferent}
 use Rattle.race_threads.specs.declared.racing.RaceCause.{RaceCause}
-use Rattle.race_threads.specs.Raced.{call_of, IsRaced, IsKept, AreKept, HasOwn, HasDiffered, IsBroken, HasFault, cause_of, start_cause_of}
+use Rattle.race_threads.specs.Raced.{call_of, IsRaced, IsKept, AreKept, HasOwn, AreOfOne, AllSame, HasDiffered, IsBroken, HasFault, cause_of, start_cause_of}
 use Rattle.race_history.proofs.Books.{history_alike, may_all, few_events, capped_gone}
 
 ---- No history has an event at the place of those who ended early
@@ -137,9 +137,27 @@ raced_of t p start acts events owns n history synced kept same =
     raced_by t p start acts events owns n history synced kept same.committed (All-head AreSame (pair (first_ticks p start) (ticks t p blank 0 events)) (owned ++ last) same.same)
     (all_left AreSame owned last rest) (all_right AreSame owned last rest)
 
+---- Where all is the same, nothing differs
+
+first_differs : (kept found : List Item) (d : Difference) → kept ≡ found → IsFirst kept found d → ⊥
+first_differs kept found d same h = h.differs (ap (λ (l : List Item). slice_get l h.at) same)
+
+never_first : (pairs : List Pair) (d : Difference) → All AreSame pairs → IsFirstOf pairs d → ⊥
+never_first [] d same h = h
+never_first (x ∷ xs) d same (inl h) = first_differs x.kept x.found d (All-head AreSame x xs same) h
+never_first (x ∷ xs) d same (inr h) = never_first xs d (All-tail AreSame x xs same) h.1
+
 pub differed : (t : Network) (p : ℕ) (start : Option ℕ) (acts : List Act) (events : List Event) (owns : List Own) (d : Difference) → IsHistory (setting_of t p) (own_stp t p) events
-    → AreKept t p start acts owns → IsDifferent t p start events owns d → HasDiffered t p start acts d
-differed t p start acts events owns d history kept different = record { events = events; owns = owns; history = history; kept = kept; first = different.first; told = different.told }
+    → AreKept t p start acts owns → (AreOfOne acts → AllSame t p start events owns) → IsDifferent t p start events owns d → HasDiffered t p start acts d
+differed t p start acts events owns d history kept same different = record {
+  events = events;
+  owns = owns;
+  history = history;
+  kept = kept;
+  first = different.first;
+  told = different.told;
+  several = λ one. never_first (pairs_of t p start events owns) d (same one) different.first;
+}
 
 ---- Lines
 

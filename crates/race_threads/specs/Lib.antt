@@ -1,3 +1,4 @@
 pub mod Raced
 pub mod Callers
 pub mod Alone
+pub mod Serving

@@ -13,7 +13,8 @@ use Rattle.provider_agent.specs.AgentRuns.{AreSafe}
 use Rattle.nsi_disk.specs.Disk.{Meter}
 use Rattle.disk_journal.specs.declared.opening.StartCause.{StartCause}
 use Rattle.shared_provider.specs.declared.reply.BookFault.{BookFault}
-use Rattle.shared_provider.specs.Book.{counted}
+use Rattle.shared_provider.specs.Asked.{tick_entry}
+use Rattle.shared_provider.specs.Book.{Book, counted, fresh, entered}
 use Rattle.shared_provider.specs.History.{IsHistory, happenings, journal_of}
 use Rattle.race_run.specs.declared.item.Difference.{Difference}
 use Rattle.race_run.specs.declared.replayed.Call.{Call}
@@ -23,7 +24,7 @@ use Rattle.race_caller.specs.Plays.{IsPlay, IsOwn}
 use Rattle.race_run.specs.Scripts.{asks_by}
 use Rattle.race_judging.specs.declared.judging.Own.{Own}
 use Rattle.race_judging.specs.Verdicts.{IsFirstOf}
-use Rattle.race_judging.specs.Pairs.{second_of, first_ticks, found_of, pairs_of, committed_of}
+use Rattle.race_judging.specs.Pairs.{AreSame, second_of, first_ticks, found_of, pairs_of, committed_of}
 use Rattle.race_threads.specs.declared.racing.RaceCause.{RaceCause}
 use Rattle.std.specs.Prelude.{map}
 use Rattle.std.specs.List.Sorted.{IsStrictlyIncreasing}
@@ -87,7 +88,7 @@ pub record AreOfOne (acts : List Act) : Type 0 where
 
 ---- Faults
 
--- some history of the provider, and what its callers handed over, differ there first
+-- some history of the provider, and what its callers handed over, differ there first; several are asked
 pub record HasDiffered (t : Network) (p : ℕ) (start : Option ℕ) (acts : List Act) (d : Difference) : Type 0 where
   pub events : List Event
   pub owns : List Own
@@ -95,12 +96,24 @@ pub record HasDiffered (t : Network) (p : ℕ) (start : Option ℕ) (acts : List
   pub kept : AreKept t p start acts owns
   pub first : IsFirstOf (pairs_of t p start events owns) d
   pub told : IsOfNetwork t d
+  pub several : AreOfOne acts → ⊥
 
 -- the disk, which had counted nothing, has counted a fault or a stop
 abbrev pub IsBroken : Meter → RaceCause → Type 0
 IsBroken meter (RaceCause.Differ d) = ⊥
 IsBroken meter RaceCause.DiskFault = 0 < counted meter
 IsBroken meter RaceCause.NoMemory = Unit {0}
+
+-- what was kept is what the history has, and no more
+abbrev pub AllSame : Network → ℕ → Option ℕ → List Event → List Own → Type 0
+AllSame t p start events owns = All AreSame (pairs_of t p start events owns)
+
+---- The book of a race
+
+-- nothing happened yet but the tick of the script, where there is one
+abbrev pub begun_book : Network → ℕ → Option ℕ → Book
+begun_book t p None = fresh t p
+begun_book t p (Some second) = entered (tick_entry second) (fresh t p)
 
 -- each cause comes only for its reason
 abbrev pub HasFault : Network → ℕ → Option ℕ → List Act → Meter → RaceCause → Type 0

@@ -8,8 +8,9 @@ ghost use Rattle.race_run.specs.Found.{is_caller};
 ghost use Rattle.race_run.specs.Scripts.{AreAsks, asks_by};
 ghost use Rattle.race_caller.specs.Plays.{IsOwn};
 ghost use Rattle.race_judging.specs.Pairs.{second_of};
-ghost use Rattle.race_threads.specs.Raced.{AreKept, AreOfOne, IsAskTo, call_of};
+ghost use Rattle.race_threads.specs.Raced.{AreKept, AreOfOne, IsAskTo, begun_book, call_of};
 ghost use Rattle.race_threads.specs.Alone.{is_ask_of, first_asked, IsOneOf};
+ghost use Rattle.race_threads.specs.Serving.{IsServedOne, IsServedAgent, EndsSame};
 
 use crate::callers::{Race, agent_at};
 use nsi_base::{AgentNo, List};
@@ -88,10 +89,14 @@ fn serve_one<D: Desk>(
         (call_of race.now.provider agent (second_of race.now.start)) race.now.start
         (asks_by agent race.now.acts.now)) }
     ensures stand { IfOk result (AllStand topology.now) }
+    ensures served { length race.now.acts.now ≤ 100000 → IfOk result (IsServedOne
+        topology.now race.now.provider race.now.start asked agent
+        (D.book desk.old) (D.book desk.new)) }
 {
     if agent != asked {
         return Ok(List::new(alloc));
     }
+    topology.laws();
     let second = second_of(&race.start);
     let call = Call {
         provider: race.provider,
@@ -116,8 +121,11 @@ fn serve_agent<D: Desk>(
     requires printable { AreAsks race.now.acts.now }
     requires asks { All (IsAskTo asked) race.now.acts.now }
     requires agent { agent < length topology.now.agents }
-    ensures { IfOk result (IsOneOf topology.now race.now.provider race.now.start
+    ensures of { IfOk result (IsOneOf topology.now race.now.provider race.now.start
         race.now.acts.now agent) }
+    ensures served { length race.now.acts.now ≤ 100000 → IfOk result (IsServedAgent
+        topology.now race.now.provider race.now.start asked agent
+        (D.book desk.old) (D.book desk.new)) }
 {
     if !is_caller(topology, race.provider, Some(agent)) {
         return Ok(None);
@@ -148,8 +156,12 @@ pub fn serve_alone<D: Desk>(
     requires within { race.now.provider < length topology.now.agents }
     requires printable { AreAsks race.now.acts.now }
     requires asks { All (IsAskTo asked) race.now.acts.now }
-    ensures { IfOk result (λ v. AreKept topology.now race.now.provider race.now.start
+    ensures kept { IfOk result (λ v. AreKept topology.now race.now.provider race.now.start
         race.now.acts.now v.items) }
+    ensures same { length race.now.acts.now ≤ 100000 → D.book desk.old
+        ≡ Some (begun_book topology.now race.now.provider race.now.start) →
+        IfOk result (λ v. EndsSame topology.now race.now.provider race.now.start
+        (D.book desk.new) v.items) }
 {
     let mut owns = Vec::new(alloc);
     for place in 0..topology.agents() {

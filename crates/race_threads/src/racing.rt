@@ -3,9 +3,10 @@
 ghost use Rattle.std.specs.Prelude.{◌≡◌, ◌==◌, ◌<◌, ◌≤◌, All, length, IfOk, IfErr, OnOk, false};
 ghost use Rattle.stp_topology.specs.Sound.{IsProvider};
 ghost use Rattle.trace_text.specs.Lines.{HasLine};
-ghost use Rattle.shared_provider.specs.Book.{IsBook, counted};
+ghost use Rattle.shared_provider.specs.Asked.{tick_entry};
+ghost use Rattle.shared_provider.specs.Book.{IsBook, counted, fresh, entered};
 ghost use Rattle.race_run.specs.Scripts.{AreAsks};
-ghost use Rattle.race_threads.specs.Raced.{IsRaced, AreKept, IsAskTo, HasFault, IsBroken, cause_of, start_cause_of};
+ghost use Rattle.race_threads.specs.Raced.{IsRaced, AreKept, AreOfOne, AllSame, begun_book, IsAskTo, HasFault, IsBroken, cause_of, start_cause_of};
 
 use crate::alone::{serve_alone, sole_asker};
 use crate::callers::{Race, serve_all};
@@ -91,6 +92,7 @@ fn let_go(reply: Reply) {
 fn set_clock<J: Journal>(alloc: Global, book: &mut Book<J>, second: Second) -> Result<(), RaceCause>
     requires running { book.old.book.faults ≡ 0 }
     requires later { book.old.book.state.now ≤ second }
+    ensures ticked { OnOk result (book.new.book ≡ entered (tick_entry second) book.old.book) }
     ensures fault { IfErr result (IsBroken book.new.meter) }
 {
     match book.tick(alloc, second) {
@@ -114,6 +116,7 @@ fn new_book<D: Disk + Drop>(
     requires counts { counted (D.meter parts.disk) ≡ 0 }
     ensures running { IfOk result (λ b. b.book.faults ≡ 0) }
     ensures clock { IfOk result (λ b. b.book.state.now ≡ 0) }
+    ensures fresh { IfOk result (λ b. b.book ≡ fresh parts.topology provider) }
     ensures fault { IfErr result (λ f. IsBroken (D.meter f.disk) f.cause) }
 {
     let BookParts { topology, disk } = parts;
@@ -137,6 +140,8 @@ fn begin<D: Disk + Drop>(
     requires provider { IsProvider parts.topology race.now.provider }
     requires runs { (D.meter parts.disk).stopped ≡ false }
     requires counts { counted (D.meter parts.disk) ≡ 0 }
+    ensures begun { IfOk result (λ b. b.book
+        ≡ begun_book parts.topology race.now.provider race.now.start) }
     ensures fault { IfErr result (λ f. IsBroken (D.meter f.disk) f.cause) }
 {
     let mut book = new_book(alloc, parts, race.provider)?;
@@ -164,8 +169,12 @@ fn run_alone<J: Journal>(
     requires provider { IsProvider topology.now race.now.provider }
     requires printable { AreAsks race.now.acts.now }
     requires asks { All (IsAskTo asked) race.now.acts.now }
+    requires begun { book.book ≡ begun_book topology.now race.now.provider race.now.start }
     ensures kept { IfOk result.1 (λ v. AreKept topology.now race.now.provider
         race.now.start race.now.acts.now v.items) }
+    ensures same { length race.now.acts.now ≤ 100000 → result.0.book.faults ≡ 0 →
+        IfOk result.1 (λ v. AllSame topology.now race.now.provider race.now.start
+        result.0.book.events v.items) }
 {
     let mut book = book;
     let owns = serve_alone(alloc, topology, race, &mut book, asked);
@@ -184,8 +193,12 @@ fn run<J: Journal + Drop + Send, R: Threads + Wait + Sync, G: Gate + Sync>(
     requires within { race.now.provider < length topology.now.agents }
     requires provider { IsProvider topology.now race.now.provider }
     requires printable { AreAsks race.now.acts.now }
+    requires begun { book.book ≡ begun_book topology.now race.now.provider race.now.start }
     ensures kept { IfOk result.1 (λ v. AreKept topology.now race.now.provider
         race.now.start race.now.acts.now v.items) }
+    ensures same { AreOfOne race.now.acts.now → result.0.book.faults ≡ 0 →
+        IfOk result.1 (λ v. AllSame topology.now race.now.provider race.now.start
+        result.0.book.events v.items) }
 {
     if let Some(asked) = sole_asker(race.acts, race.provider) {
         return run_alone(alloc, topology, race, book, asked);
@@ -226,6 +239,8 @@ fn compared<J: Journal>(
     requires own { book.now.book.agent ≡ race.now.provider }
     requires kept { AreKept topology.now race.now.provider race.now.start race.now.acts.now
         owns.now }
+    requires same { AreOfOne race.now.acts.now → AllSame topology.now race.now.provider
+        race.now.start book.now.book.events owns.now }
     ensures raced { IfOk result (IsRaced topology.now race.now.provider race.now.start
         race.now.acts.now book.now.book.events) }
     ensures lines { OnOk result (All (HasLine topology.now) book.now.book.events) }
@@ -257,6 +272,9 @@ fn weigh<J: Journal>(
     requires provider { IsProvider topology.now race.now.provider }
     requires kept { IfOk owns (λ v. AreKept topology.now race.now.provider
         race.now.start race.now.acts.now v.items) }
+    requires same { AreOfOne race.now.acts.now → book.now.book.faults ≡ 0 →
+        IfOk owns (λ v. AllSame topology.now race.now.provider race.now.start
+        book.now.book.events v.items) }
     ensures raced { IfOk result (IsRaced topology.now race.now.provider race.now.start
         race.now.acts.now book.now.book.events) }
     ensures lines { OnOk result (All (HasLine topology.now) book.now.book.events) }

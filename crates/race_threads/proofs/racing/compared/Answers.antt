@@ -38,5 +38,5 @@ returns-in-Ok-Differs-clause-fault g c =
     let race = c.args.race.now in
     let book = c.args.book.now in
     let judged : IsJudged t race.provider race.start c.history.result.now c.args.owns.now (Verdict.Differs c.in-Ok-Differs.difference) = rw c.in-Ok-Differs.field-0-is at c.in-Ok-Differs.ensures.judged in
-    differed t race.provider race.start race.acts.now book.book.events c.args.owns.now c.in-Ok-Differs.difference (history_here t race.provider book c.facts.ensures c.requires.own) c.requires.kept
+    differed t race.provider race.start race.acts.now book.book.events c.args.owns.now c.in-Ok-Differs.difference (history_here t race.provider book c.facts.ensures c.requires.own) c.requires.kept c.requires.same
     (subst (λ (xs : List Event). IsDifferent t race.provider race.start xs c.args.owns.now c.in-Ok-Differs.difference) c.history.ensures judged)
