@@ -309,7 +309,8 @@ impl Asker {
     ) -> Result<bool, AllocError>
         requires is { IsAsker topology.now self.old }
         ensures heard { IfOk result (HasHeard topology.now self.old self.new) }
-        ensures work { is_work_by self.old.call.provider event ≡ true → IfOk result (λ on. on ≡ true) }
+        ensures work { is_work_by self.old.call.provider event ≡ true →
+            IfOk result (λ on. on ≡ true) }
         ensures kept { IfOk result (λ on. on ≡ true → self.new ≡ record self.old {
           kept = self.old.kept ++ item place event ∷ [];
         }) }

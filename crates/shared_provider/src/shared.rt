@@ -17,8 +17,9 @@ use durable_mark::{Mark, Seat};
 use journal_entry::Journal;
 use nsi_primitive::{Id, Message};
 use std::alloc::Global;
+use std::hint::spin_loop;
 use std::marker::Model;
-use std::sync::{Mutex, Wait};
+use std::sync::{Mutex, MutexGuard, Wait};
 
 /// What its holder knows of how many entries are synced.
 pub type Pass = Seat;
@@ -93,13 +94,25 @@ impl<J: Journal + Drop> SharedProvider<J> {
         self.mark.split(pass)
     }
 
+    /// The book, once nobody else holds it.
+    fn hold<R: Wait>(&self, rt: &R) -> MutexGuard<'_, Book<J>> {
+        // A hold ends sooner than a sleep, so the lock is tried for a while first.
+        for _ in 0..1_000u32 {
+            if let Some(book) = self.book.try_lock() {
+                return book;
+            }
+            spin_loop();
+        }
+        self.book.lock(rt)
+    }
+
     fn take<R: Wait>(&self, rt: &R, alloc: Global, message: Message) -> Result<Reply, BookFault>
         requires request { IsRequest message }
         requires printable { IsPrintable message }
         ensures held { HasHeld (λ s. took_entry s message) result }
         ensures printable { IfOk result (λ r. All IsPrintable r.messages.items) }
     {
-        let mut book = self.book.lock(rt);
+        let mut book = self.hold(rt);
         take_held(&mut book, alloc, message)
     }
 
@@ -107,7 +120,7 @@ impl<J: Journal + Drop> SharedProvider<J> {
         ensures held { HasHeld (λ s. work_entry s connection) result }
         ensures printable { IfOk result (λ r. All IsPrintable r.messages.items) }
     {
-        let mut book = self.book.lock(rt);
+        let mut book = self.hold(rt);
         work_held(&mut book, alloc, connection)
     }
 
