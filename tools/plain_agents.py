@@ -306,7 +306,7 @@ class Server(Agent):
         kept = {"sourceSTP": "source", "destSTP": "dest", "directionality": "directionality"}
         if record and any(request.get(key, record[name]) != record[name] for key, name in kept.items()):
             return "PAYLOAD"
-        if request["startTime"] >= request["endTime"]:
+        if request.get("startTime", self.now) >= request["endTime"]:
             return "SCHEDULE"
         if record is None and not {request["sourceSTP"], request["destSTP"]} <= set(self.points):
             return "UNKNOWN_STP"
@@ -327,8 +327,8 @@ class Server(Agent):
         record["asked"][machine] = request["correlationId"]
         if event == "Reserve":
             version = record["committed"][-1]["version"] + 1 if record["committed"] else 0
-            schedule = {key: request[key] for key in ("startTime", "endTime", "capacity")}
-            record["pending"] = {**schedule, "version": request.get("version", version)}
+            schedule = {key: request[key] for key in ("endTime", "capacity")}
+            record["pending"] = {**schedule, "startTime": request.get("startTime", self.now), "version": request.get("version", version)}
             record["attempt"] = request["correlationId"]
         self.move(record, machine, event)
         self.hand_on(record, request["kind"])
@@ -872,8 +872,9 @@ class Requester(Agent):
         if asked is not None:
             return f"outstanding={asked[0]}"
         if kind == "reserve":
-            criteria = dict(zip(("capacity", "startTime", "endTime", "version"), words[4:]))
-            self.caused.append(ask_reserve(view, self.name, self.draw(), criteria, {}))
+            numbers, service = (words[4:-1], {"directionality": "Unidirectional"}) if words[-1] == "one" else (words[4:], {})
+            criteria = dict(zip(("capacity", "startTime", "endTime", "version"), numbers))
+            self.caused.append(ask_reserve(view, self.name, self.draw(), criteria, service))
         else:
             self.caused.append(ask(view, self.name, self.draw(), kind))
         return "sent"

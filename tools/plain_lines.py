@@ -52,6 +52,7 @@ DIRECTIONALITY = is_one_of("Bidirectional", "Unidirectional")
 # A key with a `?` may be absent.
 HEADER = {"correlationId": is_id, "kind": is_any_kind, "providerNSA": is_name, "requesterNSA": is_name}
 TEXTS = {"description?": is_text(256), "globalReservationId?": is_text(128), "symmetricPath?": FLAG}
+ASKED = {"capacity": CAPACITY, "endTime": SECOND, "startTime?": SECOND}
 SCHEDULE = {"capacity": CAPACITY, "endTime": SECOND, "startTime": SECOND}
 CONNECTION = {"connectionId": is_id}
 NOTICE = {**CONNECTION, "notificationId": COUNT, "timeStamp": SECOND}
@@ -82,7 +83,7 @@ def are_rows(keys):
 
 KEYS = {
     "reserve": {
-        **SCHEDULE, **TEXTS, "connectionId?": is_id, "destSTP?": is_name, "directionality?": DIRECTIONALITY, "sourceSTP?": is_name,
+        **ASKED, **TEXTS, "connectionId?": is_id, "destSTP?": is_name, "directionality?": DIRECTIONALITY, "sourceSTP?": is_name,
         "version?": VERSION,
     },
     "reserveConfirmed": {

@@ -284,11 +284,12 @@ class Script:
         if what != "reserve":
             demand_form(what in ("commit", "abort", "provision", "release", "terminate") and len(words) == 1)
             return what, name(words[0])
+        words, way = (words[:-1], ["one"]) if words[6:] and words[-1] == "one" else (words, [])
         demand_form(len(words) in (6, 7) and words[1] != words[2])
         label, source, dest = [name(word) for word in words[:3]]
         schedule = [number(words[3], 1, GREATEST_CAPACITY), *(number(word, 0, LAST_SECOND) for word in words[4:6])]
         version = [number(word, 0, GREATEST_VERSION) for word in words[6:]]
-        return what, label, source, dest, *schedule, *version
+        return what, label, source, dest, *schedule, *version, *way
 
 
 def read_script(lines, first_line, topology):

@@ -105,7 +105,7 @@ queries_none false setting s m = refl
 
 serves_none : (is_query : Bool) (setting : AggregatorSetting) (s : AgentState) (m : Message) → Unanswered (serves is_query setting s m)
 serves_none true setting s m = queries_none (is_recursive m.body) setting s m
-serves_none false setting s m = answers_none (refusal setting.agent.name setting.stp_of s.base.records m) setting s m
+serves_none false setting s m = answers_none (refusal s.base.now setting.agent.name setting.stp_of s.base.records m) setting s m
 
 receives_none : (asks old : Bool) (setting : AggregatorSetting) (s : AgentState) (m : Message) → Unanswered (receives asks old setting s m)
 unfolding receives hears

@@ -274,24 +274,24 @@ module _ (setting : Setting) (s : AgentState) (m : Message) (asks : is_request m
   opens_step (Body.Reserve q) p = between_step (points_of setting.stp_of q) q p
   opens_step _ p = quiet_step
 
-  accepts_step : (o : Option ℕ) → connection_of m.body ≡ o → refusal setting.agent.name setting.stp_of s.base.records m ≡ None → IsStep setting s (accepts o setting t m)
-  accepts_step None e r = opens_step m.body (unrefused_agent setting.agent.name setting.stp_of s.base.records m r)
+  accepts_step : (o : Option ℕ) → connection_of m.body ≡ o → refusal s.base.now setting.agent.name setting.stp_of s.base.records m ≡ None → IsStep setting s (accepts o setting t m)
+  accepts_step None e r = opens_step m.body (unrefused_agent s.base.now setting.agent.name setting.stp_of s.base.records m r)
   accepts_step (Some id) e r =
-      let at : IsTakenAt m s.base.records id = unrefused_at setting.agent.name setting.stp_of s.base.records m id e r in
+      let at : IsTakenAt s.base.now m s.base.records id = unrefused_at s.base.now setting.agent.name setting.stp_of s.base.records m id e r in
       let within : at.place < length s.base.records = slice_get_within s.base.records at.place at.own at.there in
       let owner : (record_at at.place s.base.records).owner ≡ m.header.requester =
       ap (λ (z : Record). z.owner) (get_or_from_slice_get s.base.records at.place at.own no_record at.there) ∙ at.owner
       in
-      subst (λ (o : Option ℕ). IsStep setting s (request_to o setting t m)) (sym at.found) (at_step at.place within owner (unrefused_agent setting.agent.name setting.stp_of s.base.records m r))
+      subst (λ (o : Option ℕ). IsStep setting s (request_to o setting t m)) (sym at.found) (at_step at.place within owner (unrefused_agent s.base.now setting.agent.name setting.stp_of s.base.records m r))
 
-  pub answers_step : (o : Option ErrorName) → refusal setting.agent.name setting.stp_of s.base.records m ≡ o → IsStep setting s (answers o setting t m)
+  pub answers_step : (o : Option ErrorName) → refusal s.base.now setting.agent.name setting.stp_of s.base.records m ≡ o → IsStep setting s (answers o setting t m)
   unfolding answers
   answers_step (Some e) r = refused_step e
   answers_step None r = accepts_step (connection_of m.body) refl r
 
   pub serves_step : (b : Bool) → IsStep setting s (serves b setting t m)
   serves_step true = query_step (is_recursive m.body)
-  serves_step false = answers_step (refusal setting.agent.name setting.stp_of s.base.records m) refl
+  serves_step false = answers_step (refusal s.base.now setting.agent.name setting.stp_of s.base.records m) refl
 
 ---- All else that came
 

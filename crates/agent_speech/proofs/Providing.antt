@@ -79,8 +79,8 @@ kept_turned setting s k from begun f x l speaks later draws =
 pub taken_turned : (setting : Setting) (s : State) (k : ℕ) (m : Message) → k < length s.records → Turns setting (Some m.header.correlation) (record_at k s.records).owner s (taken_at setting s k m)
 taken_turned setting s k m l =
     let r : Record = record_at k s.records in
-    kept_turned setting s k s.next (Some m.header.correlation) no_ids (moves_if Side.Provider (requested m.body m.header.correlation r) s.now r) l
-    (takes_speaks Side.Provider m.body m.header.correlation s.now r) (moves_if_later Side.Provider (requested m.body m.header.correlation r) s.now r) (λ c. omega arith)
+    kept_turned setting s k s.next (Some m.header.correlation) no_ids (moves_if Side.Provider (requested s.now m.body m.header.correlation r) s.now r) l
+    (takes_speaks Side.Provider m.body m.header.correlation s.now r) (moves_if_later Side.Provider (requested s.now m.body m.header.correlation r) s.now r) (λ c. omega arith)
 
 error_answers : (agent : List ℕ) (m : Message) (e : ErrorName) → is_answering (error_reply agent m e).body ≡ true
 unfolding is_answering is_asking is_noting
@@ -125,18 +125,18 @@ module _ (setting : Setting) (stp_of : List ℕ → Option ℕ) (s : State) (m :
   opens_says (Body.Reserve q) p = between_says (points_of stp_of q) q p
   opens_says _ p = only_seen
 
-  accepts_says : (o : Option ℕ) → connection_of m.body ≡ o → refusal setting.name stp_of s.records m ≡ None → Says setting s (accepts o setting stp_of (seen_with s m) m)
-  accepts_says None e r = opens_says m.body (unrefused_agent setting.name stp_of s.records m r)
+  accepts_says : (o : Option ℕ) → connection_of m.body ≡ o → refusal s.now setting.name stp_of s.records m ≡ None → Says setting s (accepts o setting stp_of (seen_with s m) m)
+  accepts_says None e r = opens_says m.body (unrefused_agent s.now setting.name stp_of s.records m r)
   accepts_says (Some id) e r =
-      let at : IsTakenAt m s.records id = unrefused_at setting.name stp_of s.records m id e r in
+      let at : IsTakenAt s.now m s.records id = unrefused_at s.now setting.name stp_of s.records m id e r in
       let within : at.place < length s.records = slice_get_within s.records at.place at.own at.there in
       let owner : (record_at at.place s.records).owner ≡ m.header.requester = ap (λ (z : Record). z.owner) (get_or_from_slice_get s.records at.place at.own no_record at.there) ∙ at.owner in
       let x : Stepped = taken_at setting (seen_with s m) at.place m in
       subst (λ (k : ℕ). Says setting s (taken_at setting (seen_with s m) k m)) (sym (ap (λ o. unwrap_or o 0) at.found))
-      (by_request setting.name setting.number m.header (record_at at.place s.records).owner s (seen_with s m) x.state x.out owner (unrefused_agent setting.name stp_of s.records m r) has_taken
+      (by_request setting.name setting.number m.header (record_at at.place s.records).owner s (seen_with s m) x.state x.out owner (unrefused_agent s.now setting.name stp_of s.records m r) has_taken
       (taken_turned setting (seen_with s m) at.place m within))
 
-  answers_says : (o : Option ErrorName) → refusal setting.name stp_of s.records m ≡ o → Says setting s (answers o setting stp_of (seen_with s m) m)
+  answers_says : (o : Option ErrorName) → refusal s.now setting.name stp_of s.records m ≡ o → Says setting s (answers o setting stp_of (seen_with s m) m)
   answers_says (Some e) r = says_one setting.name setting.number s (seen_with s m) m (error_reply setting.name m e) has_taken refl (error_answers setting.name m e)
   answers_says None r = accepts_says (connection_of m.body) refl r
 
@@ -144,7 +144,7 @@ module _ (setting : Setting) (stp_of : List ℕ → Option ℕ) (s : State) (m :
   serves_says true =
       says_one setting.name setting.number s (seen_with s m) m (query_reply setting.name m (answer_to setting.name s.now s.records m)) has_taken
       (reply_header setting.name m (answer_to setting.name s.now s.records m)) (reply_answers setting s m)
-  serves_says false = answers_says (refusal setting.name stp_of s.records m) refl
+  serves_says false = answers_says (refusal s.now setting.name stp_of s.records m) refl
 
 pub receives_says : (setting : Setting) (stp_of : List ℕ → Option ℕ) (s : State) (m : Message) → Says setting s (receives (is_request m.body) (is_taken m.header s.seen) setting stp_of s m)
 unfolding receives

@@ -268,13 +268,13 @@ pub request_turning : (agent : Agent) (now : ℕ) (m : Message) (own : Record) (
 unfolding request_turn turn_by_request pass_on takes
 request_turning agent now m own xs next =
     let c : Option ℕ = Some m.header.correlation in
-    let x : Moved = moves_if Side.Aggregator (requested m.body m.header.correlation own) now own in
+    let x : Moved = moves_if Side.Aggregator (requested now m.body m.header.correlation own) now own in
     let t : Turn = replies_by (begin own xs next) x in
     let u : Turn = asks_by t (pass_each m agent x.rec next xs) in
     tell_turning Any agent c own xs next (joined_of xs) now (settle agent now u)
     (settle_turning Any agent c own xs next now u
     (asks_turning Any agent c own xs next t (pass_each m agent x.rec next xs) refl
-    (first_turning Any agent c own xs next x (takes_speaks Side.Aggregator m.body m.header.correlation now own) (moves_if_later Side.Aggregator (requested m.body m.header.correlation own) now own).id) (pass_asking m agent x.rec next xs)))
+    (first_turning Any agent c own xs next x (takes_speaks Side.Aggregator m.body m.header.correlation now own) (moves_if_later Side.Aggregator (requested now m.body m.header.correlation own) now own).id) (pass_asking m agent x.rec next xs)))
 
 -- a whole turn by a message of a child
 pub answer_turning : (agent : Agent) (now : ℕ) (m : Message) (own : Record) (xs : List ChildConnection) (next : ℕ) →

@@ -19,41 +19,41 @@ use Rattle.aggregator_agent.specs.Setting.{Setting}
 use Rattle.aggregator_agent.specs.Steps.{accepts, queries, serves, answers, opens, opens_between, asks_below, opens_query, opens_sought, place_named, request_at, hears, receives, is_seen, sees, ticks, acknowledged, step}
 use Rattle.aggregator_agent.specs.Step.{takes_new}
 
-pub answered_error : (setting : Setting) (s : AgentState) (m : Message) (error : ErrorName) → refusal setting.agent.name setting.stp_of s.base.records m ≡ Some error
-    → sends s (error_reply setting.agent.name m error ∷ []) ≡ answers (refusal setting.agent.name setting.stp_of s.base.records m) setting s m
+pub answered_error : (setting : Setting) (s : AgentState) (m : Message) (error : ErrorName) → refusal s.base.now setting.agent.name setting.stp_of s.base.records m ≡ Some error
+    → sends s (error_reply setting.agent.name m error ∷ []) ≡ answers (refusal s.base.now setting.agent.name setting.stp_of s.base.records m) setting s m
 unfolding answers
 answered_error setting s m error h = rw h refl
 
-pub answered_at : (setting : Setting) (s : AgentState) (m : Message) (id n : ℕ) → refusal setting.agent.name setting.stp_of s.base.records m ≡ None → connection_of m.body ≡ Some id → place_of id m.header.requester s.base.records ≡ Some n
-    → request_at setting s n m ≡ answers (refusal setting.agent.name setting.stp_of s.base.records m) setting s m
+pub answered_at : (setting : Setting) (s : AgentState) (m : Message) (id n : ℕ) → refusal s.base.now setting.agent.name setting.stp_of s.base.records m ≡ None → connection_of m.body ≡ Some id → place_of id m.header.requester s.base.records ≡ Some n
+    → request_at setting s n m ≡ answers (refusal s.base.now setting.agent.name setting.stp_of s.base.records m) setting s m
 unfolding answers
 answered_at setting s m id n h e f = rw (h, e, f) refl
 
-pub opens_refused : (setting : Setting) (s : AgentState) (m : Message) (q : ReserveRequest) (error : ErrorName) → m.body ≡ Body.Reserve q → schedule_refusal q ≡ Some error
-    → sends s (error_reply setting.agent.name m error ∷ []) ≡ answers (unnamed_refusal m.body setting.stp_of) setting s m
+pub opens_refused : (setting : Setting) (s : AgentState) (m : Message) (q : ReserveRequest) (error : ErrorName) → m.body ≡ Body.Reserve q → schedule_refusal s.base.now q ≡ Some error
+    → sends s (error_reply setting.agent.name m error ∷ []) ≡ answers (unnamed_refusal s.base.now m.body setting.stp_of) setting s m
 unfolding answers unnamed_refusal
 opens_refused setting s m q error e h = ap (λ o. answers o setting s m) (sym by_schedule)
   where
-    by_schedule : unnamed_refusal m.body setting.stp_of ≡ Some error
+    by_schedule : unnamed_refusal s.base.now m.body setting.stp_of ≡ Some error
     by_schedule = rw (e, h) refl
 
-pub opens_unknown : (setting : Setting) (s : AgentState) (m : Message) (q : ReserveRequest) → m.body ≡ Body.Reserve q → schedule_refusal q ≡ None → points_of setting.stp_of q ≡ None
-    → sends s (error_reply setting.agent.name m ErrorName.UnknownStp ∷ []) ≡ answers (unnamed_refusal m.body setting.stp_of) setting s m
+pub opens_unknown : (setting : Setting) (s : AgentState) (m : Message) (q : ReserveRequest) → m.body ≡ Body.Reserve q → schedule_refusal s.base.now q ≡ None → points_of setting.stp_of q ≡ None
+    → sends s (error_reply setting.agent.name m ErrorName.UnknownStp ∷ []) ≡ answers (unnamed_refusal s.base.now m.body setting.stp_of) setting s m
 unfolding answers unnamed_refusal
 opens_unknown setting s m q e h f = ap (λ o. answers o setting s m) (sym by_points)
   where
-    by_points : unnamed_refusal m.body setting.stp_of ≡ Some ErrorName.UnknownStp
+    by_points : unnamed_refusal s.base.now m.body setting.stp_of ≡ Some ErrorName.UnknownStp
     by_points = rw (e, h, f) refl
 
-known_none : (setting : Setting) (m : Message) (q : ReserveRequest) (points : ℕ × ℕ) → m.body ≡ Body.Reserve q → schedule_refusal q ≡ None → points_of setting.stp_of q ≡ Some points → unnamed_refusal m.body setting.stp_of ≡ None
+known_none : (now : ℕ) (setting : Setting) (m : Message) (q : ReserveRequest) (points : ℕ × ℕ) → m.body ≡ Body.Reserve q → schedule_refusal now q ≡ None → points_of setting.stp_of q ≡ Some points → unnamed_refusal now m.body setting.stp_of ≡ None
 unfolding unnamed_refusal
-known_none setting m q points e h f = rw (e, h, f) refl
+known_none now setting m q points e h f = rw (e, h, f) refl
 
-pub opens_known : (setting : Setting) (s : AgentState) (m : Message) (q : ReserveRequest) (points : ℕ × ℕ) → m.body ≡ Body.Reserve q → connection_of m.body ≡ None → schedule_refusal q ≡ None → points_of setting.stp_of q ≡ Some points
-    → opens_between (Some points) setting s m q ≡ answers (unnamed_refusal m.body setting.stp_of) setting s m
+pub opens_known : (setting : Setting) (s : AgentState) (m : Message) (q : ReserveRequest) (points : ℕ × ℕ) → m.body ≡ Body.Reserve q → connection_of m.body ≡ None → schedule_refusal s.base.now q ≡ None → points_of setting.stp_of q ≡ Some points
+    → opens_between (Some points) setting s m q ≡ answers (unnamed_refusal s.base.now m.body setting.stp_of) setting s m
 unfolding answers
 opens_known setting s m q points e n h f = sym
-    (ap (λ o. answers o setting s m) (known_none setting m q points e h f) ∙ ap (λ o. accepts o setting s m) n ∙ ap (λ b. opens b setting s m) e
+    (ap (λ o. answers o setting s m) (known_none s.base.now setting m q points e h f) ∙ ap (λ o. accepts o setting s m) n ∙ ap (λ b. opens b setting s m) e
     ∙ ap (λ o. opens_between o setting s m q) f)
 
 pub below_wrong : (setting : Setting) (s : AgentState) (m : Message) → bytes_eq m.header.provider setting.agent.name ≡ false → sends s (error_reply setting.agent.name m ErrorName.WrongProvider ∷ []) ≡ queries true setting s m
@@ -86,7 +86,7 @@ queries_at_once b setting s m h = rw h refl
 pub serves_query : (setting : Setting) (s : AgentState) (m : Message) → is_query m.body ≡ true → queries (is_recursive m.body) setting s m ≡ serves (is_query m.body) setting s m
 serves_query setting s m h = rw h refl
 
-pub serves_other : (setting : Setting) (s : AgentState) (m : Message) → is_query m.body ≡ false → answers (refusal setting.agent.name setting.stp_of s.base.records m) setting s m ≡ serves (is_query m.body) setting s m
+pub serves_other : (setting : Setting) (s : AgentState) (m : Message) → is_query m.body ≡ false → answers (refusal s.base.now setting.agent.name setting.stp_of s.base.records m) setting s m ≡ serves (is_query m.body) setting s m
 serves_other setting s m h = rw h refl
 
 pub takes_request : (setting : Setting) (s : AgentState) (m : Message) → is_request m.body ≡ true → serves (is_query m.body) setting s m ≡ takes_new (is_request m.body) setting s m
@@ -107,18 +107,18 @@ received_new false setting s m h = rw h refl
 
 ---- A request without a connection that is no reserve
 
-unopened_refusal : (b : Body) (stp_of : List ℕ → Option ℕ) → ((q : ReserveRequest) → b ≡ Body.Reserve q → ⊥) → unnamed_refusal b stp_of ≡ None
+unopened_refusal : (now : ℕ) (b : Body) (stp_of : List ℕ → Option ℕ) → ((q : ReserveRequest) → b ≡ Body.Reserve q → ⊥) → unnamed_refusal now b stp_of ≡ None
 unfolding unnamed_refusal
-unopened_refusal (Body.Reserve q) stp_of h = absurd (h q refl)
-unopened_refusal _ stp_of h = refl
+unopened_refusal now (Body.Reserve q) stp_of h = absurd (h q refl)
+unopened_refusal now _ stp_of h = refl
 
 unopened : (b : Body) (setting : Setting) (s : AgentState) (m : Message) → ((q : ReserveRequest) → b ≡ Body.Reserve q → ⊥) → stays s ≡ opens b setting s m
 unopened (Body.Reserve q) setting s m h = absurd (h q refl)
 unopened _ setting s m h = refl
 
-pub opens_none : (setting : Setting) (s : AgentState) (m : Message) → connection_of m.body ≡ None → ((q : ReserveRequest) → m.body ≡ Body.Reserve q → ⊥) → stays s ≡ answers (unnamed_refusal m.body setting.stp_of) setting s m
+pub opens_none : (setting : Setting) (s : AgentState) (m : Message) → connection_of m.body ≡ None → ((q : ReserveRequest) → m.body ≡ Body.Reserve q → ⊥) → stays s ≡ answers (unnamed_refusal s.base.now m.body setting.stp_of) setting s m
 unfolding answers
-opens_none setting s m n h = unopened m.body setting s m h ∙ (rw (unopened_refusal m.body setting.stp_of h, n) refl)
+opens_none setting s m n h = unopened m.body setting s m h ∙ (rw (unopened_refusal s.base.now m.body setting.stp_of h, n) refl)
 
 ---- An entry
 

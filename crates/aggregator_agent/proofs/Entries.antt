@@ -171,17 +171,17 @@ accepts_step laws setting s m (Some id) p g = by_place (place_of id m.header.req
 abbrev IsPlain : Option ErrorName → Type 0
 IsPlain o = IfSome o (λ error. has_further_keys error ≡ false)
 
-plain_of_record : (b : Body) (r : Record) → IsPlain (modification_refusal b r)
+plain_of_record : (now : ℕ) (b : Body) (r : Record) → IsPlain (modification_refusal now b r)
 unfolding modification_refusal
-plain_of_record b r = grind arith
+plain_of_record now b r = grind arith
 
-plain_of_none : (b : Body) (stp_of : List ℕ → Option ℕ) → IsPlain (unnamed_refusal b stp_of)
+plain_of_none : (now : ℕ) (b : Body) (stp_of : List ℕ → Option ℕ) → IsPlain (unnamed_refusal now b stp_of)
 unfolding unnamed_refusal
-plain_of_none b stp_of = grind arith
+plain_of_none now b stp_of = grind arith
 
-refusal_plain : (agent : List ℕ) (stp_of : List ℕ → Option ℕ) (rs : List Record) (m : Message) → IsPlain (refusal agent stp_of rs m)
+refusal_plain : (now : ℕ) (agent : List ℕ) (stp_of : List ℕ → Option ℕ) (rs : List Record) (m : Message) → IsPlain (refusal now agent stp_of rs m)
 unfolding refusal
-refusal_plain agent stp_of rs m = grind (arith, plain_of_record, plain_of_none)
+refusal_plain now agent stp_of rs m = grind (arith, plain_of_record, plain_of_none)
 
 refused_step : (setting : Setting) (s : AgentState) (m : Message) (error : ErrorName) → has_further_keys error ≡ false → IsGood s → IsMildStep setting.agent.number s (sends s (error_reply setting.agent.name m error ∷ []))
 unfolding AreDrawn
@@ -242,7 +242,7 @@ queried_step false setting s m g = replied_step setting s m g
 served_step : AreLaws → (is_query : Bool) (setting : Setting) (s : AgentState) (m : Message) → IsPrintable m → IsGood s → IsMildStep setting.agent.number s (serves is_query setting s m)
 served_step laws true setting s m p g = queried_step (is_recursive m.body) setting s m g
 served_step laws false setting s m p g =
-    answered_step laws setting s m (refusal setting.agent.name setting.stp_of s.base.records m) (refusal_plain setting.agent.name setting.stp_of s.base.records m) p g
+    answered_step laws setting s m (refusal s.base.now setting.agent.name setting.stp_of s.base.records m) (refusal_plain s.base.now setting.agent.name setting.stp_of s.base.records m) p g
 
 received_step : AreLaws → (is_request is_old : Bool) (setting : Setting) (s : AgentState) (m : Message) → IsPrintable m → IsGood s → IsMildStep setting.agent.number s (receives is_request is_old setting s m)
 unfolding receives

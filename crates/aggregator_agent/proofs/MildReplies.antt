@@ -117,9 +117,9 @@ IsAsking (Move.Reservation m) = IsMildReservation m
 IsAsking (Move.Provision m) = IsMildProvision m
 IsAsking _ = Unit {0}
 
-asks_mildly : (body : Body) (c : ℕ) (r : Record) → IfSome (requested body c r) IsAsking
+asks_mildly : (now : ℕ) (body : Body) (c : ℕ) (r : Record) → IfSome (requested now body c r) IsAsking
 unfolding requested
-asks_mildly body c r = grind arith
+asks_mildly now body c r = grind arith
 
 moves_says : (side : Side) (move : Move) (now : ℕ) (r : Record) → IsWritable r → IsAsking move → AreMild (moves side move now r).out
 unfolding moves
@@ -132,8 +132,8 @@ pub moves_mild : (side : Side) (o : Option Move) (now : ℕ) (r : Record) → Is
 moves_mild side None now r w p = stays_mild r
 moves_mild side (Some move) now r w p = record { later = moves_if_later side (Some move) now r; says = moves_says side move now r w p }
 
-pub requested_mild : (side : Side) (body : Body) (c now : ℕ) (r : Record) → IsWritable r → IsMildMoved r (moves_if side (requested body c r) now r)
-requested_mild side body c now r w = moves_mild side (requested body c r) now r w (asks_mildly body c r)
+pub requested_mild : (side : Side) (body : Body) (c now : ℕ) (r : Record) → IsWritable r → IsMildMoved r (moves_if side (requested now body c r) now r)
+requested_mild side body c now r w = moves_mild side (requested now body c r) now r w (asks_mildly now body c r)
 
 tells_says : (b : Bool) (p : Plane) (c now : ℕ) (r : Record) → AreMild (tells_plane b p c now r).out
 unfolding tells_plane

@@ -13,23 +13,23 @@ use Rattle.aggregator_agent.specs.declared.connection.Connection.{Connection}
 use Rattle.aggregator_agent.specs.Bonds.{Bond, bond, bonds, no_bond, bond_at, own_of, records_of, is_owned}
 use Rattle.agent_state.specs.State.{no_record}
 
-pub refused_wrong : (agent : List ℕ) (stp_of : List ℕ → Option ℕ) (rs : List Record) (m : Message) → bytes_eq m.header.provider agent ≡ false → refusal agent stp_of rs m ≡ Some ErrorName.WrongProvider
+pub refused_wrong : (now : ℕ) (agent : List ℕ) (stp_of : List ℕ → Option ℕ) (rs : List Record) (m : Message) → bytes_eq m.header.provider agent ≡ false → refusal now agent stp_of rs m ≡ Some ErrorName.WrongProvider
 unfolding refusal
-refused_wrong agent stp_of rs m h = rw h refl
+refused_wrong now agent stp_of rs m h = rw h refl
 
-pub refused_unnamed : (agent : List ℕ) (stp_of : List ℕ → Option ℕ) (rs : List Record) (m : Message) → bytes_eq m.header.provider agent ≡ true → connection_of m.body ≡ None → refusal agent stp_of rs m ≡ unnamed_refusal m.body stp_of
+pub refused_unnamed : (now : ℕ) (agent : List ℕ) (stp_of : List ℕ → Option ℕ) (rs : List Record) (m : Message) → bytes_eq m.header.provider agent ≡ true → connection_of m.body ≡ None → refusal now agent stp_of rs m ≡ unnamed_refusal now m.body stp_of
 unfolding refusal
-refused_unnamed agent stp_of rs m h e = rw (h, e) refl
+refused_unnamed now agent stp_of rs m h e = rw (h, e) refl
 
-pub refused_nowhere : (agent : List ℕ) (stp_of : List ℕ → Option ℕ) (rs : List Record) (m : Message) (id : ℕ) → bytes_eq m.header.provider agent ≡ true → connection_of m.body ≡ Some id → place_of id m.header.requester rs ≡ None
-    → refusal agent stp_of rs m ≡ Some ErrorName.Nonexistent
+pub refused_nowhere : (now : ℕ) (agent : List ℕ) (stp_of : List ℕ → Option ℕ) (rs : List Record) (m : Message) (id : ℕ) → bytes_eq m.header.provider agent ≡ true → connection_of m.body ≡ Some id → place_of id m.header.requester rs ≡ None
+    → refusal now agent stp_of rs m ≡ Some ErrorName.Nonexistent
 unfolding refusal
-refused_nowhere agent stp_of rs m id h e f = rw (h, e, f) refl
+refused_nowhere now agent stp_of rs m id h e f = rw (h, e, f) refl
 
-pub refused_record : (agent : List ℕ) (stp_of : List ℕ → Option ℕ) (rs : List Record) (m : Message) (id n : ℕ) (r : Record) → bytes_eq m.header.provider agent ≡ true → connection_of m.body ≡ Some id → place_of id m.header.requester rs ≡ Some n
-    → slice_get rs n ≡ Some r → refusal agent stp_of rs m ≡ record_refusal m.body r
+pub refused_record : (now : ℕ) (agent : List ℕ) (stp_of : List ℕ → Option ℕ) (rs : List Record) (m : Message) (id n : ℕ) (r : Record) → bytes_eq m.header.provider agent ≡ true → connection_of m.body ≡ Some id → place_of id m.header.requester rs ≡ Some n
+    → slice_get rs n ≡ Some r → refusal now agent stp_of rs m ≡ record_refusal now m.body r
 unfolding refusal
-refused_record agent stp_of rs m id n r h e f g = rw (h, e, f, g) refl
+refused_record now agent stp_of rs m id n r h e f g = rw (h, e, f, g) refl
 
 ---- The record of a connection
 

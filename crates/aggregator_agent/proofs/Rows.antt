@@ -117,7 +117,7 @@ reserve connection source dest version =
       end = 20;
       global = None;
       source = source;
-      start = 10;
+      start = Some 10;
       symmetric = None;
       version = version;
     })

@@ -174,7 +174,7 @@ queries false setting s m = sends s (query_reply setting.agent.name m (answer_to
 -- every other request is one to do something
 abbrev pub serves : (is_query : Bool) → Setting → AgentState → Message → AgentStepped
 serves true setting s m = queries (is_recursive m.body) setting s m
-serves false setting s m = answers (refusal setting.agent.name setting.stp_of s.base.records m) setting s m
+serves false setting s m = answers (refusal s.base.now setting.agent.name setting.stp_of s.base.records m) setting s m
 
 -- a message is taken once
 unfoldable pub receives : (is_request is_old : Bool) → Setting → AgentState → Message → AgentStepped

@@ -44,7 +44,7 @@ pass_on m agent t = asks_by t (pass_each m agent t.own t.next t.children)
 
 -- the own record takes a request
 unfoldable pub takes : Message → ℕ → Record → Moved
-takes m now own = moves_if Side.Aggregator (requested m.body m.header.correlation own) now own
+takes m now own = moves_if Side.Aggregator (requested now m.body m.header.correlation own) now own
 
 -- the own record takes it, the children are asked, and what is due at once is done
 unfoldable pub turn_by_request : Agent → ℕ → Message → Turn → Turn

@@ -20,7 +20,7 @@ use crate::requesting::{Start, request};
 use crate::rounds::{Begun, clock_all, hear_all};
 use crate::said::Said;
 use id_index::IdIndex;
-use nsi_base::Name;
+use nsi_base::{Name, Second};
 use nsi_primitive::{Body, ErrorName, Id};
 use record_index::Deadlines;
 use std::alloc::{AllocError, Global};
@@ -74,12 +74,12 @@ impl ConnectionTable {
         Ok(place_among(&self.items, places.items(), id, owner))
     }
 
-    /// Why the connection at a place refuses a request.
-    pub fn refusal_at(&self, place: usize, body: &Body) -> Option<ErrorName>
+    /// Why the connection at a place refuses a request that comes at a second.
+    pub fn refusal_at(&self, place: usize, body: &Body, now: Second) -> Option<ErrorName>
         requires { place < length self.now }
-        ensures { result ≡ record_refusal body.now (bond_at place self.now).own }
+        ensures { result ≡ record_refusal now body.now (bond_at place self.now).own }
     {
-        self.items[place].own.refusal(body)
+        self.items[place].own.refusal(body, now)
     }
 
     /// All connections hear a message of a child, and what is answered is said behind all else. Where memory is wanting,

@@ -96,7 +96,7 @@ impl Core {
         ensures step { let m = message.now in
             IsStepBy topology.now self.old self.new result
             (λ setting s. answers
-            (refusal setting.agent.name setting.stp_of s.base.records m) setting s m) }
+            (refusal s.base.now setting.agent.name setting.stp_of s.base.records m) setting s m) }
         ensures taken { self.new.taken ≡ self.old.taken }
     {
         let header = &message.header;
@@ -110,7 +110,7 @@ impl Core {
         let Some(place) = found else {
             return self.refuse(alloc, message, ErrorName::Nonexistent);
         };
-        match self.connections.refusal_at(place, &message.body) {
+        match self.connections.refusal_at(place, &message.body, self.now) {
             Some(error) => self.refuse(alloc, message, error),
             None => self.request_at(alloc, topology, place, message),
         }
@@ -126,13 +126,13 @@ impl Core {
         requires unnamed { connection_of message.now.body ≡ None }
         ensures step { let m = message.now in
             IsStepBy topology.now self.old self.new result
-            (λ setting s. answers (unnamed_refusal m.body setting.stp_of) setting s m) }
+            (λ setting s. answers (unnamed_refusal s.base.now m.body setting.stp_of) setting s m) }
         ensures taken { self.new.taken ≡ self.old.taken }
     {
         let Body::Reserve(reserve) = &message.body else {
             return Ok(Vec::new(alloc));
         };
-        if let Some(error) = schedule_refusal(reserve) {
+        if let Some(error) = schedule_refusal(reserve, self.now) {
             return self.refuse(alloc, message, error);
         }
         match points_of(topology, reserve) {

@@ -178,7 +178,7 @@ impl Connection {
     {
         let event = self
             .own
-            .requested(&message.body, message.header.correlation);
+            .requested(&message.body, message.header.correlation, now);
         apply_if(&mut self.own, &mut turning.replies, event, now)
     }
 

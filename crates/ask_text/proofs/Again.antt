@@ -1,10 +1,11 @@
 -- The text of an ask is read again.
-use Rattle.std.proofs.Common.{◌≡◌, ℕ, List, [], ◌∷◌, ◌++◌, true, false, bytes_eq, decimal, Option, Some, None, Result, Ok, Err, refl, sym, ap, ◌∙◌, arith}
+use Rattle.std.proofs.Common.{◌≡◌, ℕ, List, [], ◌∷◌, ◌++◌, Bool, true, false, bytes_eq, codes, decimal, Option, Some, None, Result, Ok, Err, refl, sym, ap, ◌∙◌, arith}
 use Rattle.std.specs.Prelude.{IfSome, IfOk, OnOk}
 use Rattle.std.specs.Global.{Vec}
 use Rattle.std.specs.List.{AllByRecursion}
 use Rattle.std.proofs.lemmas.Bool.{false≢true}
 use Rattle.std.proofs.lemmas.Slice.Eq.{bytes_eq-Decides}
+use Rattle.nsi_base.specs.Digits.{number_of}
 use Rattle.nsi_base.specs.Words.{words_of, is_word}
 use Rattle.nsi_base.proofs.Joined.{words_again, word_from_name, word_from_decimal, behind_append}
 use Rattle.nsi_base.proofs.Written.{number_again}
@@ -12,13 +13,14 @@ use Rattle.nsi_primitive.specs.declared.ask.Ask.{Ask}
 use Rattle.nsi_primitive.specs.declared.ask.What.{What}
 use Rattle.nsi_primitive.specs.declared.ask.ReserveAsk.{ReserveAsk}
 use Rattle.nsi_primitive.specs.declared.ask.NumbersAsked.{NumbersAsked}
-use Rattle.ask_text.specs.Asks.{verb_of, label_words, version_words, numbers_words, reserve_words, what_words, ask_text}
+use Rattle.nsi_primitive.specs.declared.kind.Directionality.{Directionality}
+use Rattle.ask_text.specs.Asks.{verb_of, label_words, version_words, way_words, numbers_words, reserve_words, what_words, ask_text}
 use Rattle.nsi_primitive.specs.Printable.{IsPrintableAsk}
 use Rattle.nsi_primitive.specs.Ranges.{IsName, IsVersion, AreCounts, IsRangedReserveAsk, IsRangedWhat, IsRangedAsk, IsSpellableAsk}
 use Rattle.nsi_base.specs.Range.{greatest_second, least_mbps, greatest_mbps, greatest_version}
 use Rattle.nsi_base.specs.declared.words.Blanks.TheVariants.{Space}
 use Rattle.nsi_base.specs.Options.{◌>>=◌}
-use Rattle.ask_text.specs.Reading.{name_in, labelled_in, summary_in, numbers_in, version_in, with_points_apart, reserve_in, plain_named, by_verb, as_spelled, ask_of}
+use Rattle.ask_text.specs.Reading.{name_in, labelled_in, summary_in, numbers_in, is_one, version_in, way_in, with_points_apart, reserve_in, plain_named, by_verb, as_spelled, ask_of}
 
 abbrev AreWords : List (List ℕ) → Type 0
 AreWords ws = AllByRecursion (λ w. is_word Space w ≡ true) ws
@@ -48,13 +50,17 @@ version_is_word : (version : Option ℕ) → IfSome version IsVersion → AreWor
 version_is_word None h = tt
 version_is_word (Some v) h = (word_from_decimal Space v (omega (arith, h)), tt)
 
+way_is_word : (d : Directionality) → AreWords (way_words d)
+way_is_word Directionality.Bidirectional = tt
+way_is_word Directionality.Unidirectional = (refl, tt)
+
 numbers_are_words : (numbers : Option NumbersAsked) → IfSome numbers AreCounts → AreWords (numbers_words numbers)
 numbers_are_words None h = tt
 numbers_are_words (Some n) h = (word_from_decimal Space n.from h.from, (word_from_decimal Space n.to h.to, tt))
 
 what_are_words : (w : What) → IsRangedWhat w → AreWords (what_words w)
 what_are_words (What.Reserve r) h =
-    (word_from_name Space r.source h.source, (word_from_name Space r.dest h.dest, (word_from_decimal Space r.capacity (omega (arith, h.capacity.1)), (word_from_decimal Space r.start (omega (arith, h.start)), (word_from_decimal Space r.end (omega (arith, h.end)), version_is_word r.version h.version)))))
+    (word_from_name Space r.source h.source, (word_from_name Space r.dest h.dest, (word_from_decimal Space r.capacity (omega (arith, h.capacity.1)), (word_from_decimal Space r.start (omega (arith, h.start)), (word_from_decimal Space r.end (omega (arith, h.end)), both_words (version_words r.version) (way_words r.directionality) (version_is_word r.version h.version) (way_is_word r.directionality))))))
 what_are_words What.Commit h = tt
 what_are_words What.Abort h = tt
 what_are_words What.Provision h = tt
@@ -82,10 +88,37 @@ label_again : (what : What) (l : List ℕ) (more : List (List ℕ)) → IsName l
 unfolding labelled_in
 label_again what l more h = rw (name_again l h) refl
 
-version_again : (version : Option ℕ) (a b c d e f : List ℕ) → IfSome version IsVersion → version_in (a ∷ b ∷ c ∷ d ∷ e ∷ f ∷ version_words version) ≡ Some version
+-- a number is another word than `one`
+version_number : (v : ℕ) → IsVersion v → number_of 0 greatest_version (decimal v) ≡ Some v
+version_number v h = number_again 0 greatest_version v (omega (arith, h)) (omega arith) h
+
+one_is_no_number : number_of 0 greatest_version (codes "one") ≡ None
+unfolding number_of
+one_is_no_number = refl
+
+number_is_not_one : (v : ℕ) → IsVersion v → is_one (decimal v) ≡ false
+number_is_not_one v h = by (is_one (decimal v)) refl
+  where
+    by : (t : Bool) → is_one (decimal v) ≡ t → is_one (decimal v) ≡ false
+    by false e = e
+    by true e =
+        let same : decimal v ≡ codes "one" = (bytes_eq-Decides (decimal v) (codes "one")).0 e in
+        let clash : Some v ≡ None = sym (version_number v h) ∙ (ap (number_of 0 greatest_version) same ∙ one_is_no_number) in
+        absurd (cc)
+
+version_again : (version : Option ℕ) (way : Directionality) (a b c d e f : List ℕ) → IfSome version IsVersion → version_in (a ∷ b ∷ c ∷ d ∷ e ∷ f ∷ (version_words version ++ way_words way)) ≡ Some version
 unfolding version_in
-version_again None a b c d e f h = refl
-version_again (Some v) a b c d e f h = rw (number_again 0 greatest_version v (omega (arith, h)) (omega arith) h) refl
+version_again None Directionality.Bidirectional a b c d e f h = refl
+version_again None Directionality.Unidirectional a b c d e f h = refl
+version_again (Some v) Directionality.Bidirectional a b c d e f h = rw (number_is_not_one v h, version_number v h) refl
+version_again (Some v) Directionality.Unidirectional a b c d e f h = rw (version_number v h) refl
+
+way_again : (version : Option ℕ) (way : Directionality) (a b c d e f : List ℕ) → IfSome version IsVersion → way_in (a ∷ b ∷ c ∷ d ∷ e ∷ f ∷ (version_words version ++ way_words way)) ≡ way
+unfolding way_in
+way_again None Directionality.Bidirectional a b c d e f h = refl
+way_again None Directionality.Unidirectional a b c d e f h = refl
+way_again (Some v) Directionality.Bidirectional a b c d e f h = rw (number_is_not_one v h) refl
+way_again (Some v) Directionality.Unidirectional a b c d e f h = refl
 
 numbers_again : (numbers : Option NumbersAsked) (l : List ℕ) → IfSome numbers AreCounts → numbers_in (l ∷ numbers_words numbers) ≡ Some numbers
 unfolding numbers_in
@@ -99,11 +132,12 @@ apart_again l r h = rw h refl
 reserve_again : (l : List ℕ) (r : ReserveAsk) → IsName l → IsRangedReserveAsk r → bytes_eq r.source r.dest ≡ false → reserve_in (l ∷ reserve_words r) ≡ Some (asked (Some l) (What.Reserve r))
 unfolding reserve_in
 reserve_again l r h v p =
-    let version = version_again r.version l r.source r.dest (decimal r.capacity) (decimal r.start) (decimal r.end) v.version in
+    let version = version_again r.version r.directionality l r.source r.dest (decimal r.capacity) (decimal r.start) (decimal r.end) v.version in
     let capacity = number_again least_mbps greatest_mbps r.capacity (omega (arith, v.capacity.1)) v.capacity.0 v.capacity.1 in
     let start = number_again 0 greatest_second r.start (omega (arith, v.start)) (omega arith) v.start in
     let end = number_again 0 greatest_second r.end (omega (arith, v.end)) (omega arith) v.end in
-    rw (version, name_again l h, name_again r.source v.source, name_again r.dest v.dest, capacity, start, end, apart_again l r p) refl
+    let way = way_again r.version r.directionality l r.source r.dest (decimal r.capacity) (decimal r.start) (decimal r.end) v.version in
+    rw (version, name_again l h, name_again r.source v.source, name_again r.dest v.dest, capacity, start, end, way, apart_again l r p) refl
 
 -- by the words of an ask
 verb_again : (label : Option (List ℕ)) (w : What) → IsPrintableAsk (asked label w) → IsRangedAsk (asked label w) → by_verb (verb_of w) (label_words label ++ what_words w) ≡ Some (asked label w)

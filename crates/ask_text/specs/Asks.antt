@@ -5,6 +5,7 @@ use Rattle.nsi_primitive.specs.declared.ask.Ask.{Ask}
 use Rattle.nsi_primitive.specs.declared.ask.What.{What}
 use Rattle.nsi_primitive.specs.declared.ask.ReserveAsk.{ReserveAsk}
 use Rattle.nsi_primitive.specs.declared.ask.NumbersAsked.{NumbersAsked}
+use Rattle.nsi_primitive.specs.declared.kind.Directionality.{Directionality}
 
 -- the first word of an ask
 unfoldable pub verb_of : What → List ℕ
@@ -27,12 +28,17 @@ abbrev pub version_words : Option ℕ → List (List ℕ)
 version_words None = []
 version_words (Some version) = decimal version ∷ []
 
+-- traffic goes both ways where nothing else is said
+abbrev pub way_words : Directionality → List (List ℕ)
+way_words Directionality.Bidirectional = []
+way_words Directionality.Unidirectional = codes "one" ∷ []
+
 abbrev pub numbers_words : Option NumbersAsked → List (List ℕ)
 numbers_words None = []
 numbers_words (Some numbers) = decimal numbers.from ∷ decimal numbers.to ∷ []
 
 abbrev pub reserve_words : ReserveAsk → List (List ℕ)
-reserve_words r = r.source ∷ r.dest ∷ decimal r.capacity ∷ decimal r.start ∷ decimal r.end ∷ version_words r.version
+reserve_words r = r.source ∷ r.dest ∷ decimal r.capacity ∷ decimal r.start ∷ decimal r.end ∷ (version_words r.version ++ way_words r.directionality)
 
 -- the words behind the label
 abbrev pub what_words : What → List (List ℕ)

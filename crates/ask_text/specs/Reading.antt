@@ -1,5 +1,5 @@
 -- Which ask a text is.
-use Rattle.std.specs.Prelude.{ℕ, List, [], ◌∷◌, length, get_or, ◌==◌, codes, if◌then◌else◌, Option, Some, None, option_map}
+use Rattle.std.specs.Prelude.{ℕ, Bool, List, [], ◌∷◌, length, get_or, ◌==◌, codes, if◌then◌else◌, Option, Some, None, option_map}
 use Rattle.std.specs.Str.{bytes_eq}
 use Rattle.nsi_base.specs.Bytes.{is_name}
 use Rattle.nsi_base.specs.Digits.{number_of}
@@ -11,6 +11,7 @@ use Rattle.nsi_primitive.specs.declared.ask.Ask.{Ask}
 use Rattle.nsi_primitive.specs.declared.ask.What.{What}
 use Rattle.nsi_primitive.specs.declared.ask.ReserveAsk.{ReserveAsk}
 use Rattle.nsi_primitive.specs.declared.ask.NumbersAsked.{NumbersAsked}
+use Rattle.nsi_primitive.specs.declared.kind.Directionality.{Directionality}
 use Rattle.ask_text.specs.Asks.{ask_text}
 
 abbrev pub word : List (List ℕ) → ℕ → List ℕ
@@ -43,12 +44,31 @@ numbers_in args =
       Some (Some (record { from = from; to = to })))
     else None
 
--- a version behind the rest, or none
+-- the word of a reserve whose traffic goes one way
+abbrev pub is_one : List ℕ → Bool
+is_one word = bytes_eq word (codes "one")
+
+abbrev pub given_version : List ℕ → Option (Option ℕ)
+given_version word = option_map (λ v. Some v) (number_of 0 greatest_version word)
+
+-- a version behind the rest, or none; the word `one` may stand last
 unfoldable pub version_in : List (List ℕ) → Option (Option ℕ)
 version_in args =
     if length args == 6 then Some None
-    else if length args == 7 then option_map (λ v. Some v) (number_of 0 greatest_version (word args 6))
+    else if length args == 7 then (if is_one (word args 6) then Some None else given_version (word args 6))
+    else if length args == 8 then (if is_one (word args 7) then given_version (word args 6) else None)
     else None
+
+-- both ways, where the word isn't there
+abbrev pub way_by : List ℕ → Directionality
+way_by word = if is_one word then Directionality.Unidirectional else Directionality.Bidirectional
+
+-- by the last word, where there are more than six
+unfoldable pub way_in : List (List ℕ) → Directionality
+way_in args =
+    if length args == 6 then Directionality.Bidirectional
+    else if length args == 7 then way_by (word args 6)
+    else way_by (word args 7)
 
 -- the two points differ
 abbrev pub with_points_apart : List ℕ → ReserveAsk → Option Ask
@@ -56,7 +76,7 @@ with_points_apart label r =
     if bytes_eq r.source r.dest then None
     else Some (record { label = Some label; what = What.Reserve r })
 
--- label, source, destination, capacity, start and end, with a version behind them or none
+-- label, source, destination, capacity, start and end, behind them a version or none, and last the word `one` or nothing
 unfoldable pub reserve_in : List (List ℕ) → Option Ask
 reserve_in args = do
   version ← version_in args
@@ -66,7 +86,7 @@ reserve_in args = do
   capacity ← number_of least_mbps greatest_mbps (word args 3)
   start ← number_of 0 greatest_second (word args 4)
   end ← number_of 0 greatest_second (word args 5)
-  with_points_apart label (record { source = source; dest = dest; capacity = capacity; start = start; end = end; version = version })
+  with_points_apart label (record { source = source; dest = dest; capacity = capacity; start = start; end = end; version = version; directionality = way_in args })
 
 -- the asks that have a label and nothing else
 unfoldable pub plain_named : List ℕ → Option What

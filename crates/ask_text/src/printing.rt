@@ -4,12 +4,12 @@ ghost use Rattle.std.specs.Prelude.{◌≡◌, ◌++◌, ◌∷◌, decimal, IfO
 ghost use Rattle.nsi_base.specs.Words.{behind};
 ghost use Rattle.nsi_primitive.specs.Printable.{IsPrintableAsk};
 ghost use Rattle.nsi_primitive.specs.Ranges.{IsName, IsVersion, AreCounts, IsRangedReserveAsk, IsRangedWhat, IsRangedAsk};
-ghost use Rattle.ask_text.specs.Asks.{verb_of, label_words, what_words, reserve_words, version_words, numbers_words, ask_text};
+ghost use Rattle.ask_text.specs.Asks.{verb_of, label_words, what_words, reserve_words, version_words, way_words, numbers_words, ask_text};
 ghost use Rattle.ask_text.specs.Reading.{ask_of};
 
 use nsi_base::digits::push_number;
 use nsi_base::{Name, Version};
-use nsi_primitive::{Ask, NumbersAsked, ReserveAsk, What};
+use nsi_primitive::{Ask, Directionality, NumbersAsked, ReserveAsk, What};
 use std::alloc::{AllocError, Global};
 
 /// Writes an ask as words with single spaces between them.
@@ -99,7 +99,8 @@ fn push_reserve(alloc: Global, text: &mut Vec<u8>, reserve: &ReserveAsk) -> Resu
     push_count(alloc, text, reserve.capacity.get())?;
     push_count(alloc, text, reserve.start.get())?;
     push_count(alloc, text, reserve.end.get())?;
-    push_version(alloc, text, &reserve.version)
+    push_version(alloc, text, &reserve.version)?;
+    push_way(text, reserve.directionality)
 }
 
 fn push_version(
@@ -114,6 +115,18 @@ fn push_version(
     match version {
         None => Ok(()),
         Some(version) => push_count(alloc, text, u64::from(version.get())),
+    }
+}
+
+fn push_way(text: &mut Vec<u8>, directionality: Directionality) -> Result<(), AllocError>
+    ensures { OnOk result (text.new.items ≡ text.old.items ++ behind (way_words directionality)) }
+{
+    match directionality {
+        Directionality::Bidirectional => Ok(()),
+        Directionality::Unidirectional => {
+            text.extend_from_slice(b" one")?;
+            Ok(())
+        }
     }
 }
 

@@ -8,13 +8,13 @@ ghost use Rattle.nsi_base.specs.declared.words.Blanks.TheVariants.{Space};
 ghost use Rattle.nsi_primitive.specs.Printable.{ArePointsApart, IsPrintableAsk};
 ghost use Rattle.ask_text.specs.Asks.{ask_text};
 ghost use Rattle.ask_text.specs.Faults.{Gives};
-ghost use Rattle.ask_text.specs.Reading.{name_in, labelled_in, plain_in, summary_in, numbers_in, version_in, reserve_in, plain_named, by_verb, ask_in, ask_of};
+ghost use Rattle.ask_text.specs.Reading.{name_in, labelled_in, plain_in, summary_in, numbers_in, is_one, given_version, version_in, way_by, way_in, reserve_in, plain_named, by_verb, ask_in, ask_of};
 
 use crate::printing::text_of;
 use nsi_base::digits::number_of;
 use nsi_base::words::words;
 use nsi_base::{Blanks, Mbps, Name, NameFault, Second, Version};
-use nsi_primitive::{Ask, NumbersAsked, ReserveAsk, What};
+use nsi_primitive::{Ask, Directionality, NumbersAsked, ReserveAsk, What};
 use std::alloc::{AllocError, Global};
 
 /// Why a text was not taken as an ask.
@@ -164,18 +164,54 @@ fn one_version(word: &[u8]) -> Result<Version, AskTextFault>
     }
 }
 
+fn is_one(word: &[u8]) -> bool
+    ensures { result ≡ is_one word.now }
+{
+    word == b"one".as_slice()
+}
+
+fn given_version(word: &[u8]) -> Result<Option<Version>, AskTextFault>
+    ensures { Gives result (given_version word.now) }
+{
+    let version = one_version(word)?;
+    Ok(Some(version))
+}
+
 #[tactic(auto, unfolding(crate::specs::Reading::version_in))]
 fn version_in(args: &[&[u8]]) -> Result<Option<Version>, AskTextFault>
     ensures gives { Gives result (version_in (map (λ w. w.now) args.now)) }
     ensures long { IfOk result (λ _. 6 ≤ length args.now) }
+    ensures short { IfOk result (λ _. length args.now ≤ 8) }
 {
     match args.len() {
         6 => Ok(None),
-        7 => {
-            let version = one_version(args[6])?;
-            Ok(Some(version))
-        }
+        7 if is_one(args[6]) => Ok(None),
+        7 => given_version(args[6]),
+        8 if is_one(args[7]) => given_version(args[6]),
         _ => Err(AskTextFault::NotAnAsk),
+    }
+}
+
+fn way_by(word: &[u8]) -> Directionality
+    ensures { result ≡ way_by word.now }
+{
+    if is_one(word) {
+        Directionality::Unidirectional
+    } else {
+        Directionality::Bidirectional
+    }
+}
+
+#[tactic(auto, unfolding(crate::specs::Reading::way_in))]
+fn way_in(args: &[&[u8]]) -> Directionality
+    requires long { 6 ≤ length args.now }
+    requires short { length args.now ≤ 8 }
+    ensures { result ≡ way_in (map (λ w. w.now) args.now) }
+{
+    match args.len() {
+        6 => Directionality::Bidirectional,
+        7 => way_by(args[6]),
+        _ => way_by(args[7]),
     }
 }
 
@@ -259,6 +295,7 @@ fn reserve_in(alloc: Global, args: &[&[u8]]) -> Result<Ask, AskTextFault>
             start,
             end,
             version,
+            directionality: way_in(args),
         }),
     })
 }

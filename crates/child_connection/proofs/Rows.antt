@@ -81,7 +81,7 @@ request =
       end = 200;
       global = None;
       source = Some (codes "A");
-      start = 100;
+      start = Some 100;
       symmetric = None;
       version = None;
     }

@@ -64,7 +64,7 @@ first_reserve s version start end capacity x =
       end = end;
       global = s.global;
       source = Some x.source;
-      start = start;
+      start = Some start;
       symmetric = s.symmetric;
       version = version;
     }
@@ -81,7 +81,7 @@ modification connection version start end capacity =
       end = end;
       global = None;
       source = None;
-      start = start;
+      start = Some start;
       symmetric = None;
       version = version;
     }

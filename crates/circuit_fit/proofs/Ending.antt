@@ -106,9 +106,9 @@ settles_dead Lsm.Created agent now xs own = both_dead agent now xs own
 settles_dead Lsm.Failed agent now xs own = both_dead agent now xs own
 settles_dead Lsm.PassedEndTime agent now xs own = both_dead agent now xs own
 
-taken_dead : (b : Body) (c now : ℕ) (own : Record) → StaysDead own (moves_if Side.Aggregator (requested b c own) now own).rec
+taken_dead : (b : Body) (c now : ℕ) (own : Record) → StaysDead own (moves_if Side.Aggregator (requested now b c own) now own).rec
 unfolding requested moves
-taken_dead (Body.Reserve q) c now own = by_criteria (asked_criteria q own.committed)
+taken_dead (Body.Reserve q) c now own = by_criteria (asked_criteria now q own.committed)
   where
     by_criteria : (o : Option Criteria) → StaysDead own (moves_if Side.Aggregator (reserve_move c o) now own).rec
     by_criteria None = λ h. h
@@ -125,7 +125,7 @@ terminate_kills : (k : Lsm) (c now : ℕ) (own : Record) → own.lsm ≡ k → i
 unfolding lives lifecycle_step lifecycle_event is_live
 terminate_kills k c now own e = grind (arith, e)
 
-terminated_dead : (b : Body) (c now : ℕ) (own : Record) → kind_of b ≡ Kind.Terminate → is_live (moves_if Side.Aggregator (requested b c own) now own).rec.lsm ≡ false
+terminated_dead : (b : Body) (c now : ℕ) (own : Record) → kind_of b ≡ Kind.Terminate → is_live (moves_if Side.Aggregator (requested now b c own) now own).rec.lsm ≡ false
 unfolding requested moves
 terminated_dead (Body.Terminate id) c now own e = terminate_kills own.lsm c now own refl
 terminated_dead _ c now own e = absurd (cc)

@@ -333,7 +333,7 @@ module _ (setting : Setting) (s : AgentState) (even : length s.children ≡ leng
 
   module _ (s' : AgentState) (same : s'.children ≡ s.children) (rows : s'.base.records ≡ s.base.records) (m : Message) where
     -- the turn of a connection in a state that differs in what was taken alone
-    at_turned : (n : ℕ) → n < length s'.base.records → record_refusal m.body (record_at n s'.base.records) ≡ None →
+    at_turned : (n : ℕ) → n < length s'.base.records → record_refusal s'.base.now m.body (record_at n s'.base.records) ≡ None →
         HasTurned setting.agent.name (λ n. Anything) s'.base.records s'.children (request_at setting s' n m).state.base.records (request_at setting s' n m).state.children (request_at setting s' n m).out
     unfolding request_at takes
     at_turned n l fine =
@@ -360,12 +360,12 @@ module _ (setting : Setting) (s : AgentState) (even : length s.children ≡ leng
         within = omega (arith, l, ap length same, ap length rows, even)
 
         start : (q : ReserveRequest) → m.body ≡ Body.Reserve q → own.rsm ≡ Rsm.ReserveStart
-        start q e = reserve_row q own (unrefused_fits (Body.Reserve q) own (sym (ap (λ b. record_refusal b own) e) ∙ fine)).row
+        start q e = reserve_row q own (unrefused_fits s'.base.now (Body.Reserve q) own (sym (ap (λ b. record_refusal s'.base.now b own) e) ∙ fine)).row
 
         quiet : (tally asks_for t.replies ≡ 0) × (tally asks_for t.notices ≡ 0)
         quiet = turn_asks (takes m s'.base.now own) t (request_from setting.agent s'.base.now m own xs s'.base.next) (takes_speaks Side.Aggregator m.body m.header.correlation s'.base.now own).asks
 
-    opened : (q : ReserveRequest) (points : ℕ × ℕ) → m.body ≡ Body.Reserve q → (asked_criteria q [] ≡ None → ⊥) →
+    opened : (q : ReserveRequest) (points : ℕ × ℕ) → m.body ≡ Body.Reserve q → (asked_criteria s'.base.now q [] ≡ None → ⊥) →
         (let w : AgentState = with_new setting s' m q points in
         let x : AgentStepped = request_at setting w (length s'.base.records) m in
         HasTurned setting.agent.name (λ n. Anything) s'.base.records s'.children x.state.base.records x.state.children x.out)
@@ -386,7 +386,7 @@ module _ (setting : Setting) (s : AgentState) (even : length s.children ≡ leng
         (request_turned setting.agent s'.base.now m own xs w.base.next
         (λ asked all more f said.
         first_fits setting.agent s'.base.now m own xs w.base.next asked all more f q e (ap (λ (r : Record). r.rsm) own_is) (ap (λ (r : Record). is_live r.lsm) own_is ∙ lives_new) (ap (λ (r : Record). r.mixed) own_is)
-        (λ g. asks (sym (ap (λ (r : Record). asked_criteria q r.committed) own_is) ∙ g)) said)))))))
+        (λ g. asks (sym (ap (λ (r : Record). asked_criteria s'.base.now q r.committed) own_is) ∙ g)) said)))))))
         (spoken_asked setting.agent t) (spoken_only setting.agent t quiet.0 quiet.1)
       where
         n : ℕ
@@ -434,30 +434,30 @@ module _ (setting : Setting) (s : AgentState) (even : length s.children ≡ leng
     still : (out : List Message) → EndsNothing out → HasTurned setting.agent.name (λ n. Anything) s'.base.records s'.children s'.base.records s'.children out
     still out quiet = rest_turned setting.agent.name (λ n. Anything) s'.base.records s'.base.records s'.children s'.children out (λ n. as_itself (record_at n s'.base.records)) refl quiet
 
-    between : (o : Option (ℕ × ℕ)) (q : ReserveRequest) → m.body ≡ Body.Reserve q → (asked_criteria q [] ≡ None → ⊥) → Taken (opens_between o setting s' m q)
+    between : (o : Option (ℕ × ℕ)) (q : ReserveRequest) → m.body ≡ Body.Reserve q → (asked_criteria s'.base.now q [] ≡ None → ⊥) → Taken (opens_between o setting s' m q)
     between None q e asks = still [] none_ends
     between (Some points) q e asks = opened q points e asks
 
     -- a first reserve that isn't refused asks for criteria
-    opening : (body : Body) → m.body ≡ body → connection_of m.body ≡ None → refusal setting.agent.name setting.stp_of s'.base.records m ≡ None → Taken (opens body setting s' m)
+    opening : (body : Body) → m.body ≡ body → connection_of m.body ≡ None → refusal s'.base.now setting.agent.name setting.stp_of s'.base.records m ≡ None → Taken (opens body setting s' m)
     opening (Body.Reserve q) e c r =
-        let f = (first_by setting.agent.name setting.stp_of s'.base.records m q e (reserve_unnamed m.body q e c) r).0 in
-        between (points_of setting.stp_of q) q e (λ g. f.asks (ap (λ z. asked_criteria z []) (same_reserve f.reserve q (sym f.body ∙ e)) ∙ g))
+        let f = (first_by s'.base.now setting.agent.name setting.stp_of s'.base.records m q e (reserve_unnamed m.body q e c) r).0 in
+        between (points_of setting.stp_of q) q e (λ g. f.asks (ap (λ z. asked_criteria s'.base.now z []) (same_reserve f.reserve q (sym f.body ∙ e)) ∙ g))
       where
         same_reserve : (a b : ReserveRequest) → Body.Reserve a ≡ Body.Reserve b → a ≡ b
         same_reserve a b e = cc
     opening _ e c r = still [] none_ends
 
-    accepting : (o : Option ℕ) → connection_of m.body ≡ o → refusal setting.agent.name setting.stp_of s'.base.records m ≡ None → Taken (accepts o setting s' m)
+    accepting : (o : Option ℕ) → connection_of m.body ≡ o → refusal s'.base.now setting.agent.name setting.stp_of s'.base.records m ≡ None → Taken (accepts o setting s' m)
     accepting None e r = opening m.body refl e r
     accepting (Some id) e r =
-        let f = found_by setting.agent.name setting.stp_of m id (record { records = s'.base.records; seen = []; said = [] }) e r in
+        let f = found_by s'.base.now setting.agent.name setting.stp_of m id (record { records = s'.base.records; seen = []; said = [] }) e r in
         subst (λ o. Taken (request_to o setting s' m)) (sym f.found) (at_turned f.place f.about.within f.about.unrefused)
 
     refusing : (error : ErrorName) → Taken (sends s' (error_reply setting.agent.name m error ∷ []))
     refusing error = still (error_reply setting.agent.name m error ∷ []) (one_ends (error_reply setting.agent.name m error) refl)
 
-    answering : (o : Option ErrorName) → refusal setting.agent.name setting.stp_of s'.base.records m ≡ o → Taken (answers o setting s' m)
+    answering : (o : Option ErrorName) → refusal s'.base.now setting.agent.name setting.stp_of s'.base.records m ≡ o → Taken (answers o setting s' m)
     unfolding answers
     answering (Some error) r = refusing error
     answering None r = accepting (connection_of m.body) refl r
@@ -488,7 +488,7 @@ module _ (setting : Setting) (s : AgentState) (even : length s.children ≡ leng
 
     serving : (b : Bool) → Taken (serves b setting s' m)
     serving true = querying (is_recursive m.body)
-    serving false = answering (refusal setting.agent.name setting.stp_of s'.base.records m) refl
+    serving false = answering (refusal s'.base.now setting.agent.name setting.stp_of s'.base.records m) refl
 
   ---- Any entry
 

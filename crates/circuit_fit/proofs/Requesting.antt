@@ -180,23 +180,23 @@ module _ (agent : Agent) (asked all : List Message) (own : Record) (xs : List Ch
     unfolding is_in_place
     reserve_in_place q h = not_true own.mixed (first_true _ (not own.mixed) h)
 
-    pub first_then : (q : ReserveRequest) → own.rsm ≡ Rsm.ReserveStart → is_live own.lsm ≡ true → own.mixed ≡ false → (asked_criteria q own.committed ≡ None → ⊥) → Then (Body.Reserve q) (moves_if Side.Aggregator (requested (Body.Reserve q) c own) now own).rec
+    pub first_then : (q : ReserveRequest) → own.rsm ≡ Rsm.ReserveStart → is_live own.lsm ≡ true → own.mixed ≡ false → (asked_criteria now q own.committed ≡ None → ⊥) → Then (Body.Reserve q) (moves_if Side.Aggregator (requested now (Body.Reserve q) c own) now own).rec
     unfolding requested moves
-    first_then q s l n f = by_criteria (asked_criteria q own.committed) refl
+    first_then q s l n f = by_criteria (asked_criteria now q own.committed) refl
       where
-        by_criteria : (o : Option Criteria) → asked_criteria q own.committed ≡ o → Then (Body.Reserve q) (moves_if Side.Aggregator (reserve_move c o) now own).rec
+        by_criteria : (o : Option Criteria) → asked_criteria now q own.committed ≡ o → Then (Body.Reserve q) (moves_if Side.Aggregator (reserve_move c o) now own).rec
         by_criteria None e = absurd (f e)
         by_criteria (Some criteria) e = at_state (Body.Reserve q) Rsm.ReserveStart (ReservationMove.Reserve c criteria) s (reserve_then q criteria s l n)
 
-    pub request_then : (b : Body) → record_refusal b own ≡ None → Then b (moves_if Side.Aggregator (requested b c own) now own).rec
+    pub request_then : (b : Body) → record_refusal now b own ≡ None → Then b (moves_if Side.Aggregator (requested now b c own) now own).rec
     unfolding requested moves is_reservation
     request_then (Body.Reserve q) h =
-        let fits = unrefused_fits (Body.Reserve q) own h in
-        first_then q (reserve_row q own fits.row) fits.live (reserve_in_place q fits.in_place) (unrefused_criteria q own fits.modification)
+        let fits = unrefused_fits now (Body.Reserve q) own h in
+        first_then q (reserve_row q own fits.row) fits.live (reserve_in_place q fits.in_place) (unrefused_criteria now q own fits.modification)
     request_then (Body.ReserveCommit id) h =
-        let fits = unrefused_fits (Body.ReserveCommit id) own h in
+        let fits = unrefused_fits now (Body.ReserveCommit id) own h in
         at_state (Body.ReserveCommit id) Rsm.ReserveHeld (ReservationMove.Commit c) (commit_row id own fits.row) (commit_then id (commit_row id own fits.row) fits.live)
-    request_then (Body.ReserveAbort id) h = let fits = unrefused_fits (Body.ReserveAbort id) own h in abort_then id (abort_row id own fits.row) fits.live
+    request_then (Body.ReserveAbort id) h = let fits = unrefused_fits now (Body.ReserveAbort id) own h in abort_then id (abort_row id own fits.row) fits.live
     request_then (Body.Provision id) h = λ said. beside_fits (Body.Provision id) _ said (provisions_as Side.Aggregator own.psm (ProvisionMove.Provision c) now own) refl
     request_then (Body.Release id) h = λ said. beside_fits (Body.Release id) _ said (provisions_as Side.Aggregator own.psm (ProvisionMove.Release c) now own) refl
     request_then (Body.Terminate id) h = λ said. beside_fits (Body.Terminate id) _ said (lives_as (LifecycleMove.Terminate c) now own) refl

@@ -278,17 +278,17 @@ module _ (agent : Agent) (now : ℕ) (m : Message) (own : Record) (xs : List Chi
       ys = (pass_each m agent (takes m now own).rec next xs).children
 
   -- one that isn't refused
-  pub taken_fits : record_refusal m.body own ≡ None → ((n : Message) → Contains (pass_each m agent (takes m now own).rec next xs).asked n → Contains all n) → Fits agent.name all (takes m now own).rec (pass_each m agent (takes m now own).rec next xs).children
+  pub taken_fits : record_refusal now m.body own ≡ None → ((n : Message) → Contains (pass_each m agent (takes m now own).rec next xs).asked n → Contains all n) → Fits agent.name all (takes m now own).rec (pass_each m agent (takes m now own).rec next xs).children
   unfolding takes
   taken_fits h said = request_then agent asked all own xs next more fit m.header.correlation now m.body h said
 
   -- a reserve of a record that is as it was made
-  pub first_fits : (q : ReserveRequest) → m.body ≡ Body.Reserve q → own.rsm ≡ Rsm.ReserveStart → is_live own.lsm ≡ true → own.mixed ≡ false → (asked_criteria q own.committed ≡ None → ⊥) →
+  pub first_fits : (q : ReserveRequest) → m.body ≡ Body.Reserve q → own.rsm ≡ Rsm.ReserveStart → is_live own.lsm ≡ true → own.mixed ≡ false → (asked_criteria now q own.committed ≡ None → ⊥) →
       ((n : Message) → Contains (pass_each m agent (takes m now own).rec next xs).asked n → Contains all n) → Fits agent.name all (takes m now own).rec (pass_each m agent (takes m now own).rec next xs).children
   unfolding takes
   first_fits q e s l n f said =
-      subst (λ b. ((k : Message) → Contains (each (λ i x. ask_one (passed_on b (moves_if Side.Aggregator (requested b m.header.correlation own) now own).rec x) (kind_of b) agent i x) next xs).asked k → Contains all k) →
-      Fits agent.name all (moves_if Side.Aggregator (requested b m.header.correlation own) now own).rec (each (λ i x. ask_one (passed_on b (moves_if Side.Aggregator (requested b m.header.correlation own) now own).rec x) (kind_of b) agent i x) next xs).children) (sym e)
+      subst (λ b. ((k : Message) → Contains (each (λ i x. ask_one (passed_on b (moves_if Side.Aggregator (requested now b m.header.correlation own) now own).rec x) (kind_of b) agent i x) next xs).asked k → Contains all k) →
+      Fits agent.name all (moves_if Side.Aggregator (requested now b m.header.correlation own) now own).rec (each (λ i x. ask_one (passed_on b (moves_if Side.Aggregator (requested now b m.header.correlation own) now own).rec x) (kind_of b) agent i x) next xs).children) (sym e)
       (first_then agent asked all own xs next more fit m.header.correlation now q s l n f) said
 
 -- what a turn asks is among what it says

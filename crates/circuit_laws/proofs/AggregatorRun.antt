@@ -86,7 +86,7 @@ reserve source dest version =
       connection = None;
       source = Some source;
       dest = Some dest;
-      start = 100;
+      start = Some 100;
       end = 200;
       capacity = 600;
       version = version;
@@ -140,7 +140,7 @@ synced a count = record { agent = a; what = Happening.Sync count }
 -- both providers hold it
 abbrev asked_of_both : List Event
 asked_of_both =
-    was_asked 0 (What.Reserve (record { source = codes "w:lab"; dest = codes "e:store"; capacity = 600; start = 100; end = 200; version = None })) ∷ synced 3 1
+    was_asked 0 (What.Reserve (record { source = codes "w:lab"; dest = codes "e:store"; capacity = 600; start = 100; end = 200; version = None; directionality = Directionality.Bidirectional })) ∷ synced 3 1
     ∷ got 2 (to_joint 1 (reserve (codes "w:lab") (codes "e:store") None)) ∷ synced 2 1
     ∷ got 0 (to_west 2 (reserve (codes "w:lab") (codes "w:east") (Some 0))) ∷ took 0 (Input.Work 0 Machine.Reserve) ∷ synced 0 2
     ∷ got 1 (to_east 3 (reserve (codes "e:west") (codes "e:store") (Some 0))) ∷ took 1 (Input.Work 0 Machine.Reserve) ∷ synced 1 2 ∷ []
@@ -177,7 +177,7 @@ events = first ++ (commits ++ last)
 
 abbrev wishes : List Wish
 wishes =
-    (3, record { label = Some (codes "c1"); what = What.Reserve (record { source = codes "w:lab"; dest = codes "e:store"; capacity = 600; start = 100; end = 200; version = None }) })
+    (3, record { label = Some (codes "c1"); what = What.Reserve (record { source = codes "w:lab"; dest = codes "e:store"; capacity = 600; start = 100; end = 200; version = None; directionality = Directionality.Bidirectional }) })
     ∷ (3, record { label = Some (codes "c1"); what = What.Commit }) ∷ []
 
 asked_so : asks_of events ≡ numbered 0 wishes

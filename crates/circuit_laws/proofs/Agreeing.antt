@@ -29,7 +29,7 @@ use Rattle.circuit_fit.specs.Fits.{pending_of, IsFitting, IsKnown, Fits}
 use Rattle.circuit_link.specs.Children.{Child, IsFair}
 use Rattle.circuit_link.specs.Mates.{IsMate}
 use Rattle.circuit_link.specs.Sides.{version_of}
-use Rattle.circuit_laws.specs.Backed.{AsksFor}
+use Rattle.circuit_laws.proofs.Criteria.{AsksWhenTaken}
 use Rattle.circuit_laws.proofs.Agreed.{IsRowOf, HasIt, Commits, IsAgreed, row_then, has_then, known_row, free_even, not_longer, free_error, done_commits}
 use Rattle.circuit_laws.proofs.Attempts.{request_takes}
 use Rattle.circuit_laws.proofs.Learnt.{asked_connection}
@@ -211,7 +211,7 @@ module _ (parent child : List ℕ) (asked : List Message) (d : Child) (fair : Is
     heard_agreed = record { has = λ k i. has_then parent x y d.records k known_still (agreed.has k i); joined = heard_joined; done = heard_done }
 
   -- a request is passed on to it
-  module _ (m : Message) (now c : ℕ) (fine : record_refusal m.body own ≡ None) (y : ChildConnection) (is : y ≡ asked_view (passed_on m.body (takes m now own).rec x) (kind_of m.body) c x) where
+  module _ (m : Message) (now c : ℕ) (fine : record_refusal now m.body own ≡ None) (y : ChildConnection) (is : y ≡ asked_view (passed_on m.body (takes m now own).rec x) (kind_of m.body) c x) where
     abbrev r : Record
     r = (takes m now own).rec
 
@@ -230,11 +230,11 @@ module _ (parent child : List ℕ) (asked : List Message) (d : Child) (fair : Is
     -- no reserve is taken where the own record doesn't begin
     no_reserve : is_busy own.rsm ≡ true → (q : ReserveRequest) → m.body ≡ Body.Reserve q → ⊥
     no_reserve busy q e =
-        let start = reserve_row q own (subst (λ (b : Body). has_row b own ≡ true) e (unrefused_fits m.body own fine).row) in
+        let start = reserve_row q own (subst (λ (b : Body). has_row b own ≡ true) e (unrefused_fits now m.body own fine).row) in
         let w : false ≡ true = sym (ap is_busy start) ∙ busy in cc
 
     commit_state : (id : ℕ) → m.body ≡ Body.ReserveCommit id → own.rsm ≡ Rsm.ReserveHeld
-    commit_state id e = commit_row id own (subst (λ (b : Body). has_row b own ≡ true) e (unrefused_fits m.body own fine).row)
+    commit_state id e = commit_row id own (subst (λ (b : Body). has_row b own ≡ true) e (unrefused_fits now m.body own fine).row)
 
     -- it committed before, or holds and is to commit now
     abbrev Before : Criteria → Type 0
@@ -254,7 +254,7 @@ module _ (parent child : List ℕ) (asked : List Message) (d : Child) (fair : Is
     unfolding takes
     pending_own k busy e = by ((request_takes m.body Side.Aggregator m.header.correlation now own).pending k e)
       where
-        by : ((r.attempt ≡ own.attempt) × (own.pending ≡ Some k)) ⊎ ((a : ReserveRequest) × (m.body ≡ Body.Reserve a) × AsksFor a k × (r.attempt ≡ Some m.header.correlation)) → own.pending ≡ Some k
+        by : ((r.attempt ≡ own.attempt) × (own.pending ≡ Some k)) ⊎ ((a : ReserveRequest) × (m.body ≡ Body.Reserve a) × AsksWhenTaken a k × (r.attempt ≡ Some m.header.correlation)) → own.pending ≡ Some k
         by (inl w) = w.1
         by (inr w) = absurd (no_reserve busy w.0 w.1)
 
@@ -266,7 +266,7 @@ module _ (parent child : List ℕ) (asked : List Message) (d : Child) (fair : Is
     before k works = by (busy_own k works)
       where
         by : (is_busy own.rsm ≡ true) × ((own.rsm ≡ Rsm.ReserveCommitting) ⊎ ((id : ℕ) × (m.body ≡ Body.ReserveCommit id))) → Before k
-        by (busy, inl state) = inl (record { live = (unrefused_fits m.body own fine).live; state = state; pending = pending_own k busy works.pending })
+        by (busy, inl state) = inl (record { live = (unrefused_fits now m.body own fine).live; state = state; pending = pending_own k busy works.pending })
         by (busy, inr w) = inr w
 
     -- where it is to commit now the view holds, and knows its connection
@@ -274,7 +274,7 @@ module _ (parent child : List ℕ) (asked : List Message) (d : Child) (fair : Is
     held_now id e = (free, All-contains IsKnown xs x fit.known there (either (is_held x.phase) (is_held x.before) (f.rests free).0))
       where
         f : IsFitting parent asked Rsm.ReserveHeld (pending_of own) x
-        f = fits_at Rsm.ReserveHeld (λ w. cc) (commit_state id e) (unrefused_fits m.body own fine).live
+        f = fits_at Rsm.ReserveHeld (λ w. cc) (commit_state id e) (unrefused_fits now m.body own fine).live
 
         free : IsFree x
         free = by x.reserve_request refl

@@ -30,11 +30,11 @@ use Rattle.nsi_world.specs.Runs.{is_requester, world_after}
 use Rattle.nsi_world.specs.Heard.{WasSent, IsHeard}
 use Rattle.nsi_world.specs.Laws.{HeardWasSent}
 use Rattle.run_growth.specs.Cuts.{state_of_cut}
+use Rattle.run_growth.specs.SentLaws.{EachReserveSaysItsStart}
 use Rattle.circuit_link.specs.Serving.{taken_by}
-use Rattle.circuit_laws.specs.Backed.{AsksFor}
 use Rattle.circuit_laws.specs.Laws.{AttemptsWereAskedFor}
 use Rattle.circuit_laws.proofs.Kept.{IsKept, told_kept}
-use Rattle.circuit_laws.proofs.Criteria.{asks_for, Came, more_came, last_came}
+use Rattle.circuit_laws.proofs.Criteria.{AsksWhenTaken, asks_for, sent_asks, Came, more_came, last_came}
 
 ---- A record by itself
 
@@ -141,7 +141,7 @@ course_keeps _ _ _ (Course.goes_on r q p xs ys zs a b m) = keeps_then r q p (cou
 -- What is pending once it has taken a request was pending under the same attempt; or the request is a reserve that asks for it, which is the attempt.
 -- What is committed stays.
 pub record TakesAttempt (r : Record) (b : Body) (c : ℕ) (q : Record) : Type 0 where
-  pub pending : (k : Criteria) → q.pending ≡ Some k → ((q.attempt ≡ r.attempt) × (r.pending ≡ Some k)) ⊎ ((a : ReserveRequest) × (b ≡ Body.Reserve a) × AsksFor a k × (q.attempt ≡ Some c))
+  pub pending : (k : Criteria) → q.pending ≡ Some k → ((q.attempt ≡ r.attempt) × (r.pending ≡ Some k)) ⊎ ((a : ReserveRequest) × (b ≡ Body.Reserve a) × AsksWhenTaken a k × (q.attempt ≡ Some c))
   pub committed : q.committed ≡ r.committed
 
 stays_taken : (r : Record) (b : Body) (c : ℕ) (q : Record) → IsReservationSame r q → TakesAttempt r b c q
@@ -150,17 +150,17 @@ stays_taken r b c q s = record { pending = λ k e. inl (s.attempt, sym s.pending
 same_itself : (r : Record) → IsReservationSame r r
 same_itself r = record { rsm = refl; request = refl; attempt = refl; pending = refl; committed = refl }
 
-reserve_taken : (a : ReserveRequest) (side : Side) (c now : ℕ) (r : Record) → TakesAttempt r (Body.Reserve a) c (moves_if side (reserve_move c (asked_criteria a r.committed)) now r).rec
+reserve_taken : (a : ReserveRequest) (side : Side) (c now : ℕ) (r : Record) → TakesAttempt r (Body.Reserve a) c (moves_if side (reserve_move c (asked_criteria now a r.committed)) now r).rec
 unfolding moves reserves
-reserve_taken a side c now r = by (asked_criteria a r.committed) refl
+reserve_taken a side c now r = by (asked_criteria now a r.committed) refl
   where
-    by : (o : Option Criteria) → asked_criteria a r.committed ≡ o → TakesAttempt r (Body.Reserve a) c (moves_if side (reserve_move c o) now r).rec
+    by : (o : Option Criteria) → asked_criteria now a r.committed ≡ o → TakesAttempt r (Body.Reserve a) c (moves_if side (reserve_move c o) now r).rec
     by None e = stays_taken r (Body.Reserve a) c r (same_itself r)
     by (Some p) e = by_found (reserve_step r.rsm (event_of (ReservationMove.Reserve c p)))
       where
         by_found : (o : Option (Rsm × Option Kind)) → TakesAttempt r (Body.Reserve a) c (by_row o (λ next said. reservation_does next (ReservationMove.Reserve c p) now r) r).rec
         by_found None = stays_taken r (Body.Reserve a) c r (same_itself r)
-        by_found (Some row) = record { pending = λ k f. inr (a, refl, asks_for a r.committed k (e ∙ f), refl); committed = refl }
+        by_found (Some row) = record { pending = λ k f. inr (a, refl, asks_for now a r.committed k (e ∙ f), refl); committed = refl }
 
 commit_taken : (id c now : ℕ) (r : Record) → TakesAttempt r (Body.ReserveCommit id) c (reserves r.rsm (ReservationMove.Commit c) now r).rec
 unfolding reserves
@@ -178,7 +178,7 @@ abort_taken id c now r = by_found (reserve_step r.rsm (event_of (ReservationMove
     by_found None = stays_taken r (Body.ReserveAbort id) c r (same_itself r)
     by_found (Some row) = record { pending = λ k e. absurd (let z : None ≡ Some k = e in cc); committed = refl }
 
-pub request_takes : (b : Body) (side : Side) (c now : ℕ) (r : Record) → TakesAttempt r b c (moves_if side (requested b c r) now r).rec
+pub request_takes : (b : Body) (side : Side) (c now : ℕ) (r : Record) → TakesAttempt r b c (moves_if side (requested now b c r) now r).rec
 unfolding requested moves is_reservation_request
 request_takes (Body.Reserve a) side c now r = reserve_taken a side c now r
 request_takes (Body.ReserveCommit id) side c now r = commit_taken id c now r
@@ -217,12 +217,12 @@ pending_kept =
     }
   where
     by : (es : List Entry) (e : Entry) (m : Message) (side : Side) (now : ℕ) (r : Record) → e.input ≡ Input.Got m → r.owner ≡ m.header.requester → PendingCame (es ++ e ∷ []) r → (k : Criteria) →
-        (((taken_by side now m r).rec.attempt ≡ r.attempt) × (r.pending ≡ Some k)) ⊎ ((a : ReserveRequest) × (m.body ≡ Body.Reserve a) × AsksFor a k × ((taken_by side now m r).rec.attempt ≡ Some m.header.correlation)) →
+        (((taken_by side now m r).rec.attempt ≡ r.attempt) × (r.pending ≡ Some k)) ⊎ ((a : ReserveRequest) × (m.body ≡ Body.Reserve a) × AsksWhenTaken a k × ((taken_by side now m r).rec.attempt ≡ Some m.header.correlation)) →
         CameUnder (es ++ e ∷ []) (taken_by side now m r).rec k
-    by es e m side now r got owner h k (inl (a, p)) = under_attempt (es ++ e ∷ []) r (taken_by side now m r).rec k (moves_if_later side (requested m.body m.header.correlation r) now r).owner a (h k p)
+    by es e m side now r got owner h k (inl (a, p)) = under_attempt (es ++ e ∷ []) r (taken_by side now m r).rec k (moves_if_later side (requested now m.body m.header.correlation r) now r).owner a (h k p)
     by es e m side now r got owner h k (inr (a, is, asks, under)) =
         let q : Record = (taken_by side now m r).rec in
-        let from : m.header.requester ≡ q.owner = sym owner ∙ sym (moves_if_later side (requested m.body m.header.correlation r) now r).owner in
+        let from : m.header.requester ≡ q.owner = sym owner ∙ sym (moves_if_later side (requested now m.body m.header.correlation r) now r).owner in
         (m.header.correlation, under, last_came es e m q.owner a k got from is asks, refl)
 
 pub told_pending : (h : Home) → is_requester h.role ≡ false → (es : List Entry) (n : ℕ) → PendingCame es (record_at n (told h es).state.base.records)
@@ -230,8 +230,8 @@ told_pending h asked es n = told_kept PendingCame pending_kept h asked es n
 
 ---- Runs
 
-pub attempts_were_asked_for : HeardWasSent → AttemptsWereAskedFor
-attempts_were_asked_for heard homes events allowed b j n r k agent asked cut there its =
+pub attempts_were_asked_for : HeardWasSent → EachReserveSaysItsStart → AttemptsWereAskedFor
+attempts_were_asked_for heard starts homes events allowed b j n r k agent asked cut there its =
     let w : World = world_after empty events in
     let es : List Entry = take j (w.journal b) in
     let rs : List Record = (state_of_cut homes w b j).base.records in
@@ -239,4 +239,4 @@ attempts_were_asked_for heard homes events allowed b j n r k agent asked cut the
     let (c, under, x, its_own) = subst (λ (z : Record). PendingCame es z) same (told_pending (homes b) asked es n) k its in
     let h : IsHeard homes w b x.entry = All-contains (IsHeard homes w b) es x.entry (All-take (IsHeard homes w b) j (w.journal b) ((heard homes events allowed).heard b)) x.there in
     let s = subst (λ (i : Input). WasSent homes w b i) x.got h.sent in
-    (c, under, record { message = x.message; sent = s.0; to = s.1; from = x.from; reserve = x.reserve; body = x.body; asks = x.asks }, its_own)
+    (c, under, record { message = x.message; sent = s.0; to = s.1; from = x.from; reserve = x.reserve; body = x.body; asks = sent_asks starts homes w x.message x.reserve k s.0 x.body x.asks }, its_own)

@@ -1,5 +1,5 @@
 -- What a record has as committed, or pending, its owner has asked for.
-use Rattle.std.proofs.Common.{ℕ, ◌≡◌, ◌∙◌, ◌⊎◌, inl, inr, List, [], ◌∷◌, ◌++◌, take, Contains, Option, Some, None, option_to_list, refl, sym, ap, subst, arith}
+use Rattle.std.proofs.Common.{ℕ, ◌≡◌, ◌∙◌, ◌⊎◌, inl, inr, Bool, true, false, List, [], ◌∷◌, ◌++◌, take, Contains, Option, Some, None, unwrap_or, option_to_list, if◌then◌else◌, nat_lt, refl, sym, ap, subst, arith}
 use Rattle.std.proofs.lemmas.List.Elements.{All-contains, All-take, Contains-append_left, Contains-append_right, Contains-append_cases}
 use Rattle.std.proofs.lemmas.Option.{get_or_from_slice_get}
 use Rattle.nsi_base.specs.Range.{Span, span_of}
@@ -9,6 +9,7 @@ use Rattle.nsi_primitive.specs.declared.kind.Kind.{Kind}
 use Rattle.nsi_primitive.specs.declared.message.Body.{Body}
 use Rattle.nsi_primitive.specs.declared.message.Criteria.{Criteria}
 use Rattle.nsi_primitive.specs.declared.message.Message.{Message}
+use Rattle.nsi_primitive.specs.Messages.{start_at}
 use Rattle.nsi_primitive.specs.declared.message.ReserveRequest.{ReserveRequest}
 use Rattle.nsi_primitive.specs.declared.message.Service.{Service}
 use Rattle.nsi_primitive.specs.declared.state.Rsm.{Rsm}
@@ -29,11 +30,12 @@ use Rattle.connection_record.specs.Replies.{Moved, by_row}
 use Rattle.connection_record.proofs.Courses.{course_after}
 use Rattle.connection_record.proofs.Growing.{moves_if_later}
 use Rattle.agent_state.specs.State.{no_record, record_at}
-use Rattle.nsi_world.specs.Worlds.{Homes, World, empty}
+use Rattle.nsi_world.specs.Worlds.{Homes, World, empty, IsSent}
 use Rattle.nsi_world.specs.Runs.{world_after}
 use Rattle.nsi_world.specs.Heard.{WasSent, IsHeard}
 use Rattle.nsi_world.specs.Laws.{HeardWasSent}
 use Rattle.run_growth.specs.Cuts.{state_of_cut}
+use Rattle.run_growth.specs.SentLaws.{EachReserveSaysItsStart}
 use Rattle.circuit_link.specs.Serving.{taken_by}
 use Rattle.circuit_link.proofs.Answering.{only_one}
 use Rattle.circuit_fit.proofs.Owning.{lives_as, provisions_as}
@@ -111,36 +113,61 @@ same_criteria x y e = cc
 same_number : (n k : ℕ) → Some n ≡ Some k → n ≡ k
 same_number n k e = cc
 
-pub asks_for : (q : ReserveRequest) (ks : List Criteria) (k : Criteria) → asked_criteria q ks ≡ Some k → AsksFor q k
-asks_for q ks k e = by (span_of q.start q.end) (asked_version q.version (last ks)) refl refl e
+-- A reserve asks for criteria whenever it is taken: without a start at the second at which it is.
+pub record AsksWhenTaken (q : ReserveRequest) (k : Criteria) : Type 0 where
+  pub now : ℕ
+  pub interval : span_of (start_at now q) q.end ≡ Some k.interval
+  pub capacity : q.capacity ≡ k.capacity
+  pub version : (v : ℕ) → q.version ≡ Some v → v ≡ k.version
+
+pub asks_for : (now : ℕ) (q : ReserveRequest) (ks : List Criteria) (k : Criteria) → asked_criteria now q ks ≡ Some k → AsksWhenTaken q k
+asks_for now q ks k e = by (span_of (start_at now q) q.end) (asked_version q.version (last ks)) refl refl e
   where
-    by : (o : Option Span) (v : Option ℕ) → span_of q.start q.end ≡ o → asked_version q.version (last ks) ≡ v → criteria_with o v q.capacity ≡ Some k → AsksFor q k
+    by : (o : Option Span) (v : Option ℕ) → span_of (start_at now q) q.end ≡ o → asked_version q.version (last ks) ≡ v → criteria_with o v q.capacity ≡ Some k → AsksWhenTaken q k
     by None v s t f = absurd (cc)
     by (Some span) None s t f = absurd (cc)
     by (Some span) (Some version) s t f =
         let same : (let x : Criteria = record { version = version; interval = span; capacity = q.capacity } in x) ≡ k = same_criteria (record { version = version; interval = span; capacity = q.capacity }) k f in
         record {
+          now = now;
           interval = s ∙ ap (λ (z : Criteria). Some z.interval) same;
           capacity = ap (λ (z : Criteria). z.capacity) same;
           version = λ n g. same_number n version (sym (ap (λ (o : Option ℕ). asked_version o (last ks)) g) ∙ t) ∙ ap (λ (z : Criteria). z.version) same;
         }
 
+pub spans_same : (a : Span) (b : Span) → span_of a.start a.end ≡ Some b → b ≡ a
+spans_same a b e = by (nat_lt a.start a.end) e
+  where
+    by : (t : Bool) → (if t then Some a else None) ≡ Some b → b ≡ a
+    by true f = let z : a ≡ b = cc in sym z
+    by false f = absurd (cc)
+
+started : (q : ReserveRequest) (k : Criteria) (start : ℕ) → q.start ≡ Some start → AsksWhenTaken q k → AsksFor q k
+started q k start says asks =
+    let interval : span_of start q.end ≡ Some k.interval = ap (λ (z : Option ℕ). span_of (unwrap_or z asks.now) q.end) (sym says) ∙ asks.interval in
+    let same : start ≡ k.interval.start = ap (λ (z : Span). z.start) (sym (spans_same (record { start = start; end = q.end }) k.interval interval)) in
+    record { start = says ∙ ap (λ (z : ℕ). Some z) same; interval = ap (λ (z : ℕ). span_of z q.end) (sym same) ∙ interval; capacity = asks.capacity; version = asks.version }
+
+-- one that was sent says its start
+pub sent_asks : EachReserveSaysItsStart → (homes : Homes) (w : World) (m : Message) (q : ReserveRequest) (k : Criteria) → IsSent homes w m → m.body ≡ Body.Reserve q → AsksWhenTaken q k → AsksFor q k
+sent_asks starts homes w m q k sent is asks = let (start, says) = starts homes w m sent q is in started q k start says asks
+
 -- what it has once it has taken a request it had before, or the request asks for it
 abbrev HadOrAsked : Record → Body → Record → Type 0
-HadOrAsked r b q = (k : Criteria) → Has q k → Has r k ⊎ ((a : ReserveRequest) × (b ≡ Body.Reserve a) × AsksFor a k)
+HadOrAsked r b q = (k : Criteria) → Has q k → Has r k ⊎ ((a : ReserveRequest) × (b ≡ Body.Reserve a) × AsksWhenTaken a k)
 
-reserve_had : (a : ReserveRequest) (side : Side) (c now : ℕ) (r : Record) → HadOrAsked r (Body.Reserve a) (moves_if side (reserve_move c (asked_criteria a r.committed)) now r).rec
+reserve_had : (a : ReserveRequest) (side : Side) (c now : ℕ) (r : Record) → HadOrAsked r (Body.Reserve a) (moves_if side (reserve_move c (asked_criteria now a r.committed)) now r).rec
 unfolding moves reserves
-reserve_had a side c now r = by (asked_criteria a r.committed) refl
+reserve_had a side c now r = by (asked_criteria now a r.committed) refl
   where
-    by : (o : Option Criteria) → asked_criteria a r.committed ≡ o → HadOrAsked r (Body.Reserve a) (moves_if side (reserve_move c o) now r).rec
+    by : (o : Option Criteria) → asked_criteria now a r.committed ≡ o → HadOrAsked r (Body.Reserve a) (moves_if side (reserve_move c o) now r).rec
     by None e = λ k h. inl h
     by (Some p) e = by_found (reserve_step r.rsm (event_of (ReservationMove.Reserve c p)))
       where
         by_found : (o : Option (Rsm × Option Kind)) → HadOrAsked r (Body.Reserve a) (by_row o (λ next said. reservation_does next (ReservationMove.Reserve c p) now r) r).rec
         by_found None k h = inl h
         by_found (Some row) k (inl i) = inl (inl i)
-        by_found (Some row) k (inr f) = inr (a, refl, asks_for a r.committed k (e ∙ f))
+        by_found (Some row) k (inr f) = inr (a, refl, asks_for now a r.committed k (e ∙ f))
 
 commit_had : (c now : ℕ) (r : Record) → HadAll r (reserves r.rsm (ReservationMove.Commit c) now r).rec
 unfolding reserves
@@ -158,7 +185,7 @@ abort_had c now r = by_found (reserve_step r.rsm (event_of (ReservationMove.Abor
     by_found None = λ k h. h
     by_found (Some row) = dropped_pending r (reservation_does row.0 (ReservationMove.Abort c) now r).rec refl refl
 
-taken_had : (b : Body) (side : Side) (c now : ℕ) (r : Record) → HadOrAsked r b (moves_if side (requested b c r) now r).rec
+taken_had : (b : Body) (side : Side) (c now : ℕ) (r : Record) → HadOrAsked r b (moves_if side (requested now b c r) now r).rec
 unfolding requested moves
 taken_had (Body.Reserve a) side c now r = reserve_had a side c now r
 taken_had (Body.ReserveCommit id) side c now r = λ k h. inl (commit_had c now r k h)
@@ -182,7 +209,7 @@ pub record Came (owner : List ℕ) (es : List Entry) (k : Criteria) : Type 0 whe
   pub from : message.header.requester ≡ owner
   pub reserve : ReserveRequest
   pub body : message.body ≡ Body.Reserve reserve
-  pub asks : AsksFor reserve k
+  pub asks : AsksWhenTaken reserve k
 
 -- what a record has came so
 abbrev pub AllCame : List Entry → Record → Type 0
@@ -195,7 +222,7 @@ more_came owner es fs k c =
 of_owner : (es : List Entry) (r q : Record) → q.owner ≡ r.owner → HadAll r q → AllCame es r → AllCame es q
 of_owner es r q o had came k h = subst (λ (z : List ℕ). Came z es k) (sym o) (came k (had k h))
 
-abbrev pub last_came : (es : List Entry) (e : Entry) (m : Message) (owner : List ℕ) (a : ReserveRequest) (k : Criteria) → e.input ≡ Input.Got m → m.header.requester ≡ owner → m.body ≡ Body.Reserve a → AsksFor a k →
+abbrev pub last_came : (es : List Entry) (e : Entry) (m : Message) (owner : List ℕ) (a : ReserveRequest) (k : Criteria) → e.input ≡ Input.Got m → m.header.requester ≡ owner → m.body ≡ Body.Reserve a → AsksWhenTaken a k →
     Came owner (es ++ e ∷ []) k
 last_came es e m owner a k got from is asks =
     record { entry = e; there = Contains-append_right es (e ∷ []) e (0, omega arith, refl); message = m; got = got; from = from; reserve = a; body = is; asks = asks }
@@ -208,9 +235,9 @@ taken_came es e m side now r got owner came k h = by (taken_had m.body side m.he
     q = (taken_by side now m r).rec
 
     same : q.owner ≡ r.owner
-    same = (moves_if_later side (requested m.body m.header.correlation r) now r).owner
+    same = (moves_if_later side (requested now m.body m.header.correlation r) now r).owner
 
-    by : Has r k ⊎ ((a : ReserveRequest) × (m.body ≡ Body.Reserve a) × AsksFor a k) → Came q.owner (es ++ e ∷ []) k
+    by : Has r k ⊎ ((a : ReserveRequest) × (m.body ≡ Body.Reserve a) × AsksWhenTaken a k) → Came q.owner (es ++ e ∷ []) k
     by (inl had) = subst (λ (z : List ℕ). Came z (es ++ e ∷ []) k) (sym same) (came k had)
     by (inr (a, is, asks)) = last_came es e m q.owner a k got (sym owner ∙ sym same) is asks
 
@@ -234,8 +261,8 @@ all_kept =
 
 ---- Runs
 
-pub criteria_were_asked_for : HeardWasSent → CriteriaWereAskedFor
-criteria_were_asked_for heard homes events allowed b j n r k agent asked cut there its =
+pub criteria_were_asked_for : HeardWasSent → EachReserveSaysItsStart → CriteriaWereAskedFor
+criteria_were_asked_for heard starts homes events allowed b j n r k agent asked cut there its =
     let w : World = world_after empty events in
     let rs : List Record = (state_of_cut homes w b j).base.records in
     let same : record_at n rs ≡ r = get_or_from_slice_get rs n r no_record there in
@@ -248,4 +275,4 @@ criteria_were_asked_for heard homes events allowed b j n r k agent asked cut the
     sent_so : (homes : Homes) (w : World) (b : ℕ) (owner : List ℕ) (k : Criteria) (es : List Entry) (c : Came owner es k) → IsHeard homes w b c.entry → WasAskedFor homes w b owner k
     sent_so homes w b owner k es c h =
         let s = subst (λ (i : Input). WasSent homes w b i) c.got h.sent in
-        record { message = c.message; sent = s.0; to = s.1; from = c.from; reserve = c.reserve; body = c.body; asks = c.asks }
+        record { message = c.message; sent = s.0; to = s.1; from = c.from; reserve = c.reserve; body = c.body; asks = sent_asks starts homes w c.message c.reserve k s.0 c.body c.asks }

@@ -1,12 +1,12 @@
 -- Whatever an aggregator or a child of it takes, the criteria of the aggregator's records stand so against those of the child's.
-use Rattle.std.proofs.Common.{ℕ, ◌≡◌, ◌∙◌, ◌<◌, ◌⊎◌, inl, inr, Bool, true, false, List, [], ◌∷◌, ◌++◌, length, map, take, drop, get_or, slice_get, Contains, Option, Some, None, option_map, if◌then◌else◌, nat_lt, bytes_eq, refl, sym, ap, subst, arith}
+use Rattle.std.proofs.Common.{ℕ, ◌≡◌, ◌∙◌, ◌<◌, ◌⊎◌, inl, inr, Bool, true, false, List, [], ◌∷◌, ◌++◌, length, map, take, drop, get_or, slice_get, Contains, Option, Some, None, unwrap_or, option_map, bytes_eq, refl, sym, ap, subst, arith}
 use Rattle.std.specs.List.{All}
 use Rattle.std.proofs.lemmas.List.{length-map, get_or-map, take-append-drop}
 use Rattle.std.proofs.lemmas.Slice.Eq.{bytes_eq-Decides}
 use Rattle.std.proofs.lemmas.List.Elements.{All-contains, Contains-append_left, Contains-append_right}
 use Rattle.std.proofs.lemmas.Option.{get_or_from_slice_get, slice_get-get_or, slice_get_within}
 use Rattle.nsi_base.specs.Range.{Span, span_of}
-use Rattle.nsi_primitive.specs.Messages.{is_request}
+use Rattle.nsi_primitive.specs.Messages.{is_request, start_at}
 use Rattle.nsi_primitive.specs.declared.entry.Input.{Input}
 use Rattle.nsi_primitive.specs.declared.kind.Kind.{Kind}
 use Rattle.nsi_primitive.specs.declared.message.Body.{Body}
@@ -35,7 +35,7 @@ use Rattle.circuit_pairs.specs.Minding.{slot}
 use Rattle.circuit_pairs.specs.Pairs.{IsPair, AreBacked, IsBacked, IsOnce}
 use Rattle.circuit_pairs.proofs.Minding.{connected, notice_alike}
 use Rattle.run_growth.specs.Growth.{Stay}
-use Rattle.circuit_laws.specs.Backed.{AsksFor}
+use Rattle.circuit_laws.proofs.Criteria.{AsksWhenTaken, spans_same}
 use Rattle.circuit_laws.proofs.Agreed.{IsRowOf, HasIt, Commits, IsAgreed, agreed_then, agreed_rests, row_place, known_row}
 use Rattle.circuit_laws.proofs.Agreeing.{heard_agreed, asked_agreed}
 use Rattle.circuit_laws.proofs.Joining.{IsAskedAt, AllAskedAt, Joins, served_joins}
@@ -170,20 +170,13 @@ module _ (agent : Agent) (input : Input) (parent child : List ℕ) (asked : List
 ---- The child
 
 -- a reserve asks for one criteria
-spans_same : (a : Span) (b : Span) → span_of a.start a.end ≡ Some b → b ≡ a
-spans_same a b e = by (nat_lt a.start a.end) e
-  where
-    by : (t : Bool) → (if t then Some a else None) ≡ Some b → b ≡ a
-    by true f = let z : a ≡ b = cc in sym z
-    by false f = absurd (cc)
-
 made : (v w : ℕ) (i j : Span) (c d : ℕ) → v ≡ w → i ≡ j → c ≡ d → (let k : Criteria = record { version = v; interval = i; capacity = c } in k) ≡ record { version = w; interval = j; capacity = d }
 made v w i j c d e f g = rw (e, f, g) refl
 
-one_meant : (q : ReserveRequest) (h k : Criteria) → AsksFor q h → Means k q → h ≡ k
+one_meant : (q : ReserveRequest) (h k : Criteria) → AsksWhenTaken q h → Means k q → h ≡ k
 one_meant q h k asks means =
     made h.version k.version h.interval k.interval h.capacity k.capacity (sym (asks.version k.version means.version))
-    (spans_same k.interval h.interval (sym (ap (λ (z : ℕ). span_of z k.interval.end) means.start) ∙ (sym (ap (λ (z : ℕ). span_of q.start z) means.end) ∙ asks.interval)))
+    (spans_same k.interval h.interval (sym (ap (λ (z : Option ℕ). span_of (unwrap_or z asks.now) k.interval.end) means.start) ∙ (sym (ap (λ (z : ℕ). span_of (start_at asks.now q) z) means.end) ∙ asks.interval)))
     (sym asks.capacity ∙ means.capacity)
 
 later_contains : (r q : Record) (k : Criteria) → IsLater r q → Contains r.committed k → Contains q.committed k
@@ -259,7 +252,7 @@ module _ (parent child : List ℕ) (s : AgentState) (asked : List Message) (d : 
             once.once a.message w.message a.there w.there (reserve_is_request a.message a.reserve a.body) (reserve_is_request w.message w.reserve w.body) (sym w.under)
             in
             let reserves : a.reserve ≡ w.reserve = same_reserve a.reserve w.reserve (sym a.body ∙ (ap (λ (z : Message). z.body) same ∙ w.body)) in
-            one_meant w.reserve h k (subst (λ (z : ReserveRequest). AsksFor z h) reserves a.asks) w.is
+            one_meant w.reserve h k (subst (λ (z : ReserveRequest). AsksWhenTaken z h) reserves a.asks) w.is
 
         by : (q.committed ≡ r.committed) ⊎ ((h : Criteria) × (q.committed ≡ r.committed ++ h ∷ []) × Joins (ℕ × ℕ) parent child (slot child s.children) asked d pair fair tried pends i h) → Contains q.committed k
         by (inl e) =

@@ -18,7 +18,7 @@ use Rattle.circuit_link.specs.Children.{Child, IsFair}
 use Rattle.circuit_link.specs.Serving.{Serves, taken_by}
 use Rattle.circuit_link.proofs.Opening.{last_there}
 use Rattle.circuit_pairs.specs.Pairs.{IsPair}
-use Rattle.circuit_laws.specs.Backed.{AsksFor}
+use Rattle.circuit_laws.proofs.Criteria.{AsksWhenTaken}
 use Rattle.circuit_laws.proofs.Attempts.{KeepsAttempt, course_keeps, TakesAttempt, request_takes}
 use Rattle.circuit_laws.proofs.Tried.{is_busy, IsTriedBy, AllTried, its_place, taken_busy}
 
@@ -29,7 +29,7 @@ pub record IsAskedAt (asked : List Message) (attempt : Option ℕ) (k : Criteria
   pub its : attempt ≡ Some message.header.correlation
   pub reserve : ReserveRequest
   pub body : message.body ≡ Body.Reserve reserve
-  pub asks : AsksFor reserve k
+  pub asks : AsksWhenTaken reserve k
 
 -- what each record of the parent has as pending was asked for so
 abbrev pub AllAskedAt : List ℕ → List Message → List Record → Type 0
@@ -75,7 +75,7 @@ module _ (I : Type 0) (parent child : List ℕ) (xs : I → ChildConnection) (as
         joins k state held (inr (a, is, at, never)) = absurd (never state)
         joins k state held (inl (busy, same, commits)) = by_pending (taken.pending k held)
           where
-            by_pending : ((q.attempt ≡ r.attempt) × (r.pending ≡ Some k)) ⊎ ((a : ReserveRequest) × (m.body ≡ Body.Reserve a) × AsksFor a k × (q.attempt ≡ Some m.header.correlation)) → Joins n k
+            by_pending : ((q.attempt ≡ r.attempt) × (r.pending ≡ Some k)) ⊎ ((a : ReserveRequest) × (m.body ≡ Body.Reserve a) × AsksWhenTaken a k × (q.attempt ≡ Some m.header.correlation)) → Joins n k
             by_pending (inl (at, p)) = joins_at n k owned busy (pends n k owned p)
             by_pending (inr (a, is, wants, at)) = joins_at n k owned busy (record { message = m; there = were m got asks from; its = sym same ∙ at; reserve = a; body = is; asks = wants })
 
@@ -97,7 +97,7 @@ module _ (I : Type 0) (parent child : List ℕ) (xs : I → ChildConnection) (as
         by (inl e) = inl e
         by (inr (k, state, held, e, gone)) = inr (k, e, joins_at n k owned (ap is_busy state) (pends n k owned held))
     served_joins (Serves.leaves m new kind same silent) n l owned = inl (ap (λ (rs : List Record). (record_at n rs).committed) same)
-    served_joins (Serves.refuses m error new refused same only) n l owned = inl (ap (λ (rs : List Record). (record_at n rs).committed) same)
+    served_joins (Serves.refuses m error now new refused same only) n l owned = inl (ap (λ (rs : List Record). (record_at n rs).committed) same)
     served_joins (Serves.takes m p side now new about turn) n l owned = by (cases_eq n p)
       where
         at_place : record_at p records ≡ turn.after

@@ -52,7 +52,7 @@ module _ (P : List Entry → Record → Type 0) (kept : IsKept P) where
   served : (es : List Entry) (e : Entry) (name : List ℕ) (d : Child) (records : List Record) (seen : List Header) (out : List Message) → Serves name e.input d records seen out → All (es ++ e ∷ []) d.records → All (es ++ e ∷ []) records
   served es e name d records seen out (Serves.acts same courses) all = λ n. kept.course (es ++ e ∷ []) (record_at n d.records) (record_at n records) (courses.said n) (courses.each n) (all n)
   served es e name d records seen out (Serves.leaves m new kind same silent) all = subst (All (es ++ e ∷ [])) (sym same) all
-  served es e name d records seen out (Serves.refuses m error new refused same one) all = subst (All (es ++ e ∷ [])) (sym same) all
+  served es e name d records seen out (Serves.refuses m error now new refused same one) all = subst (All (es ++ e ∷ [])) (sym same) all
   served es e name d records seen out (Serves.takes m n side now new about turn) all =
       let r : Record = record_at n d.records in
       subst (All (es ++ e ∷ [])) (sym turn.records)

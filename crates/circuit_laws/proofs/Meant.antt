@@ -36,7 +36,7 @@ use Rattle.circuit_fit.specs.Fits.{pending_of, IsFitting, Fits}
 use Rattle.circuit_fit.proofs.Owning.{IsAsBefore}
 use Rattle.circuit_fit.proofs.Passing.{each_all}
 use Rattle.circuit_link.proofs.Aggregators.{From, request_from, answer_from}
-use Rattle.circuit_laws.specs.Backed.{AsksFor}
+use Rattle.circuit_laws.proofs.Criteria.{AsksWhenTaken}
 use Rattle.circuit_laws.proofs.Attempts.{course_keeps, request_takes}
 use Rattle.circuit_laws.proofs.Learnt.{IsReserved, reserved_more, asked_place, answer_views, request_views}
 use Rattle.circuit_laws.proofs.Tried.{is_busy, course_busy, taken_busy}
@@ -45,7 +45,7 @@ use Rattle.circuit_laws.proofs.Turned.{Turned}
 
 -- a reserve asks for these criteria
 pub record Means (k : Criteria) (q : ReserveRequest) : Type 0 where
-  pub start : q.start ≡ k.interval.start
+  pub start : q.start ≡ Some k.interval.start
   pub end : q.end ≡ k.interval.end
   pub capacity : q.capacity ≡ k.capacity
   pub version : q.version ≡ Some k.version
@@ -197,7 +197,7 @@ taken_work m now own never k busy e = (by_busy (taken_busy m.body Side.Aggregato
     by_busy (inl w) = w.0
     by_busy (inr w) = absurd (never w.0 w.1)
 
-    by_pending : ((q.attempt ≡ own.attempt) × (own.pending ≡ Some k)) ⊎ ((a : ReserveRequest) × (m.body ≡ Body.Reserve a) × AsksFor a k × (q.attempt ≡ Some m.header.correlation)) → own.pending ≡ Some k
+    by_pending : ((q.attempt ≡ own.attempt) × (own.pending ≡ Some k)) ⊎ ((a : ReserveRequest) × (m.body ≡ Body.Reserve a) × AsksWhenTaken a k × (q.attempt ≡ Some m.header.correlation)) → own.pending ≡ Some k
     by_pending (inl w) = w.1
     by_pending (inr w) = absurd (never w.0 w.1)
 
@@ -289,7 +289,7 @@ module _ (agent : Agent) (input : Input) (parent : List ℕ) (asked before out m
       by (Turned.by_request m now next legs got fine t) =
           let zs : List ChildConnection = with_path m.body xs legs in
           let u : Turn = request_turn agent now m own zs next in
-          let g = unrefused_fits m.body own fine in
+          let g = unrefused_fits now m.body own fine in
           subst (λ (q : Record). All (IsMeant out q) ys) (sym t.own) (subst (All (IsMeant out u.own)) (sym t.views)
           (request_meant agent m now next own zs out (λ n i. newer n (subst (λ (ms : List Message). Contains ms n) (sym t.asked) i)) (path_meant out own m.body xs legs now_all)
           (λ q is. path_free m.body xs legs (start_free parent asked own xs fit g.live

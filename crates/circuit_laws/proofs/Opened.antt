@@ -93,9 +93,9 @@ module _ (m : Message) (q : ReserveRequest) (body : m.body ≡ Body.Reserve q) (
     provided_between s (Some points) =
         let rs : List Record = (provider_new setting s m q points).records in
         let own : Record = record_at (length s.records) rs in
-        let x : Moved = moves_if Side.Provider (requested m.body m.header.correlation own) s.now own in
+        let x : Moved = moves_if Side.Provider (requested s.now m.body m.header.correlation own) s.now own in
         opened_at m q s.records (id_of setting.number s.next) points _ body unnamed
-        (tells_later (status_of s.now own) (id_of setting.number (s.next + 1)) s.now own x (moves_if_later Side.Provider (requested m.body m.header.correlation own) s.now own))
+        (tells_later (status_of s.now own) (id_of setting.number (s.next + 1)) s.now own x (moves_if_later Side.Provider (requested s.now m.body m.header.correlation own) s.now own))
 
     provided_opens : (s : State) → Opening (Input.Got m) s.records (provider_opens m.body setting stp_of s m).state.records
     provided_opens s = subst (λ (b : Body). Opening (Input.Got m) s.records (provider_opens b setting stp_of s m).state.records) (sym body) (provided_between s (points_of stp_of q))
@@ -109,7 +109,7 @@ module _ (m : Message) (q : ReserveRequest) (body : m.body ≡ Body.Reserve q) (
 
     provided_serves : (s : State) (b : Bool) → Opening (Input.Got m) s.records (provider_serves_by b setting stp_of s m).state.records
     provided_serves s true = Opening.none refl
-    provided_serves s false = provided_answers s (refusal setting.name stp_of s.records m)
+    provided_serves s false = provided_answers s (refusal s.now setting.name stp_of s.records m)
 
     provided_receives : (s : State) (a b : Bool) → Opening (Input.Got m) s.records (provider_receives a b setting stp_of s m).state.records
     unfolding provider_receives
@@ -155,7 +155,7 @@ module _ (m : Message) (q : ReserveRequest) (body : m.body ≡ Body.Reserve q) (
     aggregated_serves : (s : AgentState) → Opening (Input.Got m) s.base.records (serves (is_query m.body) setting s m).state.base.records
     aggregated_serves s =
         subst (λ (b : Bool). Opening (Input.Got m) s.base.records (serves b setting s m).state.base.records) (sym (ap is_query body))
-        (aggregated_answers s (refusal setting.agent.name setting.stp_of s.base.records m))
+        (aggregated_answers s (refusal s.base.now setting.agent.name setting.stp_of s.base.records m))
 
     aggregated_receives : (s : AgentState) (b : Bool) → Opening (Input.Got m) s.base.records (receives true b setting s m).state.base.records
     unfolding receives
@@ -185,7 +185,7 @@ by_serving : (name : List ℕ) (input : Input) (d : Child) (new : List Record) (
     ((m : Message) (q : ReserveRequest) → m.body ≡ Body.Reserve q → q.connection ≡ None → input ≡ Input.Got m → is_request m.body ≡ true → Opening input d.records new) → Opening input d.records new
 by_serving name input d new seen out (Serves.acts same courses) begun_by = Opening.none courses.long
 by_serving name input d new seen out (Serves.leaves m is_new kind same silent) begun_by = Opening.none (ap length same)
-by_serving name input d new seen out (Serves.refuses m error is_new refused same one_said) begun_by = Opening.none (ap length same)
+by_serving name input d new seen out (Serves.refuses m error now is_new refused same one_said) begun_by = Opening.none (ap length same)
 by_serving name input d new seen out (Serves.takes m n side now is_new about turn) begun_by = Opening.none (ap length turn.records ∙ length-set d.records n turn.after)
 by_serving name input d new seen out (Serves.opens m id service source dest side now is_new first turn) begun_by = begun_by m first.reserve first.body first.unnamed is_new.got is_new.request
 

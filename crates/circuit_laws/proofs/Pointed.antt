@@ -328,7 +328,7 @@ module _ (setting : Setting) where
 
     serves_says : (is_query : Bool) → Says (serves is_query setting s m)
     serves_says true = queries_says (is_recursive m.body)
-    serves_says false = answers_says (refusal setting.agent.name setting.stp_of s.base.records m)
+    serves_says false = answers_says (refusal s.base.now setting.agent.name setting.stp_of s.base.records m)
 
   receives_says : (s : AgentState) (m : Message) → length s.children ≡ length s.base.records → (a b : Bool) → Says (receives a b setting s m)
   unfolding receives hears saw

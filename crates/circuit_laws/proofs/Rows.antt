@@ -65,7 +65,7 @@ t1 =
     }
 
 abbrev ask : Ask
-ask = record { label = Some (codes "c1"); what = What.Reserve (record { source = codes "A"; dest = codes "B"; capacity = 600; start = 100; end = 200; version = None }) }
+ask = record { label = Some (codes "c1"); what = What.Reserve (record { source = codes "A"; dest = codes "B"; capacity = 600; start = 100; end = 200; version = None; directionality = Directionality.Bidirectional }) }
 
 abbrev commit : Ask
 commit = record { label = Some (codes "c1"); what = What.Commit }
@@ -80,7 +80,7 @@ reserve =
       connection = None;
       source = Some (codes "A");
       dest = Some (codes "B");
-      start = 100;
+      start = Some 100;
       end = 200;
       capacity = 600;
       version = None;

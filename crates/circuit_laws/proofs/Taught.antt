@@ -123,7 +123,7 @@ module _ (es : List Entry) where
     by_begun c n false e l = owes c n (omega (arith, l))
 
     taken_owes : Owes es y.rec
-    taken_owes c n l = came_then es c r y.rec (moves_if_later side (requested m.body m.header.correlation r) now r) (by_begun c n (c == m.header.correlation) refl (omega (arith, l, speaks.answers c n)))
+    taken_owes c n l = came_then es c r y.rec (moves_if_later side (requested now m.body m.header.correlation r) now r) (by_begun c n (c == m.header.correlation) refl (omega (arith, l, speaks.answers c n)))
 
     taken_says : (c : ℕ) (b : Body) → Contains (answering c y.out) b → CameOf es c r
     taken_says c b i = let w = said_counts c b y.out i in by_begun c w.0 (c == m.header.correlation) refl (omega (arith, w.1, speaks.answers c w.0))
@@ -208,7 +208,7 @@ module _ (name : List ℕ) (es : List Entry) (e : Entry) (m : Message) (side : S
       by_place (inr q) = subst (Owes fs) (sym (ap (record_at k) turn.records ∙ get_or-set_other rows n k turn.after no_record q)) (all k)
 
   taken_later : IsLater r z.rec
-  taken_later = moves_if_later side (requested m.body m.header.correlation r) now r
+  taken_later = moves_if_later side (requested now m.body m.header.correlation r) now r
 
   course_later : IsLater z.rec turn.after
   course_later = (course_after z.rec turn.after turn.said turn.course).later
@@ -222,7 +222,7 @@ module _ (name : List ℕ) (es : List Entry) (e : Entry) (m : Message) (side : S
       by_part : Contains (about (header_of owner name c) (addressed name z.rec.owner z.out)) b ⊎ Contains (about (header_of owner name c) turn.more) b → IsTaughtBy fs new owner c id
       by_part (inl j) =
           let w = addressed_in name z.rec.owner owner c z.out b j in
-          taught_at fs new n r turn.after owner c id b z.out there_within at_place all_later (sym taken_later.owner ∙ w.0) (moves_if_names side (requested m.body m.header.correlation r) now r).names w.1 k (taken_says fs m side now r (all n) here c b w.1)
+          taught_at fs new n r turn.after owner c id b z.out there_within at_place all_later (sym taken_later.owner ∙ w.0) (moves_if_names side (requested now m.body m.header.correlation r) now r).names w.1 k (taken_says fs m side now r (all n) here c b w.1)
       by_part (inr j) =
           let w = turn.tells.only owner c b j in
           taught_at fs new n z.rec turn.after owner c id b turn.said there_within at_place course_later (sym course_later.owner ∙ w.0) (course_after z.rec turn.after turn.said turn.course).names w.1 k
@@ -289,7 +289,7 @@ module _ (name : List ℕ) (es : List Entry) (e : Entry) (old new : List Record)
   entry_teaches (Serves.acts same courses) = (λ n. course_owes gs (record_at n old) (record_at n new) (courses.said n) (courses.each n) (all_more n), courses_say courses)
   entry_teaches (Serves.leaves m is_new kind same silent) =
       (λ n. subst (λ (rs : List Record). Owes gs (record_at n rs)) (sym same) (all_more n), λ owner c id b i k. absurd (not_there (about (header_of owner name c) more) b (silent (header_of owner name c)) i))
-  entry_teaches (Serves.refuses m error is_new refused same out) = (λ n. subst (λ (rs : List Record). Owes gs (record_at n rs)) (sym same) (all_more n), error_says m error out)
+  entry_teaches (Serves.refuses m error now is_new refused same out) = (λ n. subst (λ (rs : List Record). Owes gs (record_at n rs)) (sym same) (all_more n), error_says m error out)
   entry_teaches (Serves.takes m n side now is_new about turn) =
       let of : IsOf m (record_at n old) = IsOf.named (about.names ∙ ap (λ (i : ℕ). Some i) (sym about.its_id)) in (
         turn_owes name es e m side now n old new more is_new.got is_new.request about.within (sym about.owner) of all_more turn,
@@ -322,7 +322,7 @@ module _ (name : List ℕ) (es : List Entry) (e : Entry) (old new : List Record)
       y = (taken_by side now m r).rec
 
       later : IsLater r turn.after
-      later = later_trans r y turn.after (moves_if_later side (requested m.body m.header.correlation r) now r) (course_after y turn.after turn.said turn.course).later
+      later = later_trans r y turn.after (moves_if_later side (requested now m.body m.header.correlation r) now r) (course_after y turn.after turn.said turn.course).later
 
       of : IsOf m r
       of =

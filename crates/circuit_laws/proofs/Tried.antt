@@ -112,9 +112,9 @@ abort_busy Rsm.ReserveChecking id c now r s e = busy_itself r (Body.ReserveAbort
 abort_busy Rsm.ReserveCommitting id c now r s e = busy_itself r (Body.ReserveAbort id) c e
 abort_busy Rsm.ReserveAborting id c now r s e = busy_itself r (Body.ReserveAbort id) c e
 
-pub taken_busy : (b : Body) (side : Side) (c now : ℕ) (r : Record) → Busy r b c (moves_if side (requested b c r) now r).rec
+pub taken_busy : (b : Body) (side : Side) (c now : ℕ) (r : Record) → Busy r b c (moves_if side (requested now b c r) now r).rec
 unfolding requested moves is_reservation_request
-taken_busy (Body.Reserve a) side c now r = by (asked_criteria a r.committed)
+taken_busy (Body.Reserve a) side c now r = by (asked_criteria now a r.committed)
   where
     by : (o : Option Criteria) → Busy r (Body.Reserve a) c (moves_if side (reserve_move c o) now r).rec
     by None = busy_itself r (Body.Reserve a) c
@@ -245,7 +245,7 @@ module _ (I : Type 0) (parent child : List ℕ) (xs : I → ChildConnection) (as
         q = (taken_by side now m r).rec
 
         same_id : Some r.id ≡ Some q.id
-        same_id = ap (λ (n : ℕ). Some n) (sym (moves_if_later side (requested m.body c r) now r).id)
+        same_id = ap (λ (n : ℕ). Some n) (sym (moves_if_later side (requested now m.body c r) now r).id)
 
         reserving : (a : ReserveRequest) → m.body ≡ Body.Reserve a → (o : IsOwnOf m) → (xs o.view).attempt ≡ Some c
         reserving a is o = subst (λ (k : Kind). IsAttempt k c (xs o.view)) (ap kind_of is) o.attempt
@@ -282,7 +282,7 @@ module _ (I : Type 0) (parent child : List ℕ) (xs : I → ChildConnection) (as
           let r : Record = record_at n d.records in
           course_tried r (record_at n records) (courses.said n) (courses.each n) (tried n (sym (course_after r (record_at n records) (courses.said n) (courses.each n)).later.owner ∙ owned)) busy
       served_tried (Serves.leaves m new kind same silent) = subst (AllTried I parent xs) (sym same) tried
-      served_tried (Serves.refuses m error new refused same only) = subst (AllTried I parent xs) (sym same) tried
+      served_tried (Serves.refuses m error now new refused same only) = subst (AllTried I parent xs) (sym same) tried
       served_tried (Serves.takes m n side now new about turn) = λ k owned busy. by k owned busy (cases_eq k n)
         where
           r : Record
@@ -298,7 +298,7 @@ module _ (I : Type 0) (parent child : List ℕ) (xs : I → ChildConnection) (as
           its after_owned after_busy = course_tried q turn.after turn.said turn.course (taken_tried m side now r own (tried n r_owned) commit) after_busy
             where
               r_owned : r.owner ≡ parent
-              r_owned = sym (moves_if_later side (requested m.body m.header.correlation r) now r).owner ∙ (sym (course_after q turn.after turn.said turn.course).later.owner ∙ after_owned)
+              r_owned = sym (moves_if_later side (requested now m.body m.header.correlation r) now r).owner ∙ (sym (course_after q turn.after turn.said turn.course).later.owner ∙ after_owned)
 
               own : is_reservation (kind_of m.body) ≡ true → IsOwnOf m
               own kind = own_of m new (sym about.owner ∙ r_owned) about.provider kind
@@ -347,7 +347,7 @@ module _ (I : Type 0) (parent child : List ℕ) (xs : I → ChildConnection) (as
           its after_owned after_busy = course_tried q turn.after turn.said turn.course (taken_tried m side now r own (λ b. absurd (idle b)) (λ i is b t. absurd (idle b))) after_busy
             where
               r_owned : r.owner ≡ parent
-              r_owned = sym (moves_if_later side (requested m.body m.header.correlation r) now r).owner ∙ (sym (course_after q turn.after turn.said turn.course).later.owner ∙ after_owned)
+              r_owned = sym (moves_if_later side (requested now m.body m.header.correlation r) now r).owner ∙ (sym (course_after q turn.after turn.said turn.course).later.owner ∙ after_owned)
 
               own : is_reservation (kind_of m.body) ≡ true → IsOwnOf m
               own kind = own_of m new (sym (ap (λ (z : Record). z.owner) is_fresh) ∙ r_owned) first.provider kind

@@ -203,18 +203,18 @@ module _ (parent child : List ℕ) (asked : List Message) (d : Child) (fair : Is
     beside_carries o k c never = (view_attempt o k c x never, λ id e. asked_connection o k c x ∙ e)
 
     -- a reserve is passed on where the own record begins, and so to views that hold nothing
-    passed_carries : (b : Body) (own own1 : Record) (c : ℕ) → record_refusal b own ≡ None → (is_live own.lsm ≡ true → own.mixed ≡ false → own.rsm ≡ Rsm.ReserveStart → x.reserve_request ≡ None → is_held x.phase ≡ false) →
+    passed_carries : (now : ℕ) (b : Body) (own own1 : Record) (c : ℕ) → record_refusal now b own ≡ None → (is_live own.lsm ≡ true → own.mixed ≡ false → own.rsm ≡ Rsm.ReserveStart → x.reserve_request ≡ None → is_held x.phase ≡ false) →
         Carries (asked_view (passed_on b own1 x) (kind_of b) c x)
     unfolding passed_on asked_view open_request
-    passed_carries (Body.Reserve q) own own1 c fine idle =
-        let f = unrefused_fits (Body.Reserve q) own fine in
+    passed_carries now (Body.Reserve q) own own1 c fine idle =
+        let f = unrefused_fits now (Body.Reserve q) own fine in
         reserve_carries c (reserve_if own1.pending own1.service x) (λ b e. (passed_may (Body.Reserve q) own1 x b e).free) (idle f.live (unmixed q own f.in_place) (reserve_row q own f.row))
-    passed_carries (Body.ReserveCommit id) own own1 c fine idle = beside_carries (request_if true Kind.ReserveCommit x) Kind.ReserveCommit c (λ e. cc)
-    passed_carries (Body.ReserveAbort id) own own1 c fine idle = beside_carries (request_if (may_abort x.phase) Kind.ReserveAbort x) Kind.ReserveAbort c (λ e. cc)
-    passed_carries (Body.Provision id) own own1 c fine idle = beside_carries (request_if true Kind.Provision x) Kind.Provision c (λ e. cc)
-    passed_carries (Body.Release id) own own1 c fine idle = beside_carries (request_if true Kind.Release x) Kind.Release c (λ e. cc)
-    passed_carries (Body.Terminate id) own own1 c fine idle = beside_carries (request_if true Kind.Terminate x) Kind.Terminate c (λ e. cc)
-    passed_carries _ own own1 c fine idle = (refl, λ id k. k)
+    passed_carries now (Body.ReserveCommit id) own own1 c fine idle = beside_carries (request_if true Kind.ReserveCommit x) Kind.ReserveCommit c (λ e. cc)
+    passed_carries now (Body.ReserveAbort id) own own1 c fine idle = beside_carries (request_if (may_abort x.phase) Kind.ReserveAbort x) Kind.ReserveAbort c (λ e. cc)
+    passed_carries now (Body.Provision id) own own1 c fine idle = beside_carries (request_if true Kind.Provision x) Kind.Provision c (λ e. cc)
+    passed_carries now (Body.Release id) own own1 c fine idle = beside_carries (request_if true Kind.Release x) Kind.Release c (λ e. cc)
+    passed_carries now (Body.Terminate id) own own1 c fine idle = beside_carries (request_if true Kind.Terminate x) Kind.Terminate c (λ e. cc)
+    passed_carries now _ own own1 c fine idle = (refl, λ id k. k)
 
 pub turned_child : (agent : Agent) (input : Input) (own own' : Record) (more : List Message) (x y : ChildConnection) → ViewTurned agent input own own' more x y → y.child ≡ x.child
 turned_child agent input own own' more x y (ViewTurned.by_rest a same) = ap (λ (z : ChildConnection). z.child) same
@@ -248,7 +248,7 @@ module _ (agent : Agent) (input : Input) (parent child : List ℕ) (asked : List
       )
   turned_carries i n x y there of mate busy (ViewTurned.by_request m now next c zs got fine is inn same said) =
       let own : Record = record_at i.0 s.base.records in
-      let w = passed_carries parent child asked d fair x n mate busy m.body own (takes m now own).rec c fine (begins_idle i.0 x there) in
+      let w = passed_carries parent child asked d fair x n mate busy now m.body own (takes m now own).rec c fine (begins_idle i.0 x there) in
       (ap (λ (z : ChildConnection). z.attempt) same ∙ w.0, λ id e. ap (λ (z : ChildConnection). z.connection) same ∙ w.1 id e)
 
   pub turned_tried : AllTried (ℕ × ℕ) parent (slot child s.children) d.records → AllTried (ℕ × ℕ) parent (slot child s'.children) d.records

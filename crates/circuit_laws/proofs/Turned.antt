@@ -49,7 +49,7 @@ turn_itself t = record { own = refl; views = refl; asked = refl }
 pub data Turned (agent : Agent) (input : Input) (own : Record) (xs : List ChildConnection) (own' : Record) (ys : List ChildConnection) (asked : List Message) : Type 0 where
   by_rest : IsAsBefore own own' → ys ≡ xs → asked ≡ [] → Turned agent input own xs own' ys asked
   by_answer : (m : Message) (now next : ℕ) → input ≡ Input.Got m → IsTurn (answer_turn agent now m own xs next) own' ys asked → Turned agent input own xs own' ys asked
-  by_request : (m : Message) (now next : ℕ) (legs : List Leg) → input ≡ Input.Got m → record_refusal m.body own ≡ None →
+  by_request : (m : Message) (now next : ℕ) (legs : List Leg) → input ≡ Input.Got m → record_refusal now m.body own ≡ None →
       IsTurn (request_turn agent now m own (with_path m.body xs legs) next) own' ys asked → Turned agent input own xs own' ys asked
   by_opening : (m : Message) (q : ReserveRequest) (now next id source dest : ℕ) (legs : List Leg) → input ≡ Input.Got m → m.body ≡ Body.Reserve q → own ≡ no_record → xs ≡ [] →
       IsTurn (request_turn agent now m (fresh id m.header.requester (service_of q (name_or q.source) (name_or q.dest)) source dest) (with_path m.body [] legs) next) own' ys asked → Turned agent input own xs own' ys asked
@@ -167,7 +167,7 @@ module _ (setting : Setting) (s : AgentState) (m : Message) (even : length s.chi
   still : (out : List Message) → AreTurned setting.agent (Input.Got m) s.base.records s.children s.base.records s.children out
   still out = rest_turned setting.agent (Input.Got m) s.base.records s.base.records s.children s.children out (λ n. as_itself (record_at n s.base.records)) refl
 
-  at_turned : (n : ℕ) → n < length s.base.records → record_refusal m.body (record_at n s.base.records) ≡ None → Does (request_at setting s n m)
+  at_turned : (n : ℕ) → n < length s.base.records → record_refusal s.base.now m.body (record_at n s.base.records) ≡ None → Does (request_at setting s n m)
   unfolding request_at
   at_turned n l fine =
       placed_turned setting.agent (Input.Got m) s.base.records _ s.children _ n t.asked (spoken setting.agent t)
@@ -238,13 +238,13 @@ module _ (setting : Setting) (s : AgentState) (m : Message) (even : length s.chi
   opening (Body.Reserve q) e = between q (points_of setting.stp_of q) e
   opening _ e = still []
 
-  accepting : (o : Option ℕ) → connection_of m.body ≡ o → refusal setting.agent.name setting.stp_of s.base.records m ≡ None → Does (accepts o setting s m)
+  accepting : (o : Option ℕ) → connection_of m.body ≡ o → refusal s.base.now setting.agent.name setting.stp_of s.base.records m ≡ None → Does (accepts o setting s m)
   accepting None e r = opening m.body refl
   accepting (Some id) e r =
-      let f = found_by setting.agent.name setting.stp_of m id (record { records = s.base.records; seen = []; said = [] }) e r in
+      let f = found_by s.base.now setting.agent.name setting.stp_of m id (record { records = s.base.records; seen = []; said = [] }) e r in
       subst (λ o. Does (request_to o setting s m)) (sym f.found) (at_turned f.place f.about.within f.about.unrefused)
 
-  answering : (o : Option ErrorName) → refusal setting.agent.name setting.stp_of s.base.records m ≡ o → Does (answers o setting s m)
+  answering : (o : Option ErrorName) → refusal s.base.now setting.agent.name setting.stp_of s.base.records m ≡ o → Does (answers o setting s m)
   unfolding answers
   answering (Some error) r = still _
   answering None r = accepting (connection_of m.body) refl r
@@ -270,7 +270,7 @@ module _ (setting : Setting) (s : AgentState) (m : Message) (even : length s.chi
 
   serving : (b : Bool) → Does (serves b setting s m)
   serving true = querying (is_recursive m.body)
-  serving false = answering (refusal setting.agent.name setting.stp_of s.base.records m) refl
+  serving false = answering (refusal s.base.now setting.agent.name setting.stp_of s.base.records m) refl
 
 ---- Any entry
 

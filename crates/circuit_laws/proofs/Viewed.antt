@@ -71,7 +71,7 @@ pub data ViewTurned (agent : Agent) (input : Input) (own own' : Record) (more : 
   by_rest : IsAsBefore own own' → y ≡ x → ViewTurned agent input own own' more x y
   by_answer : (m : Message) (now next c : ℕ) (xs : List ChildConnection) → input ≡ Input.Got m → own' ≡ (answer_turn agent now m own xs next).own →
       Contains (answer_turn agent now m own xs next).children y → y ≡ asked_view (late_terminate (is_terminating own.lsm) m x) Kind.Terminate c (hear m x).view → ViewTurned agent input own own' more x y
-  by_request : (m : Message) (now next c : ℕ) (zs : List ChildConnection) → input ≡ Input.Got m → record_refusal m.body own ≡ None → own' ≡ (request_turn agent now m own zs next).own →
+  by_request : (m : Message) (now next c : ℕ) (zs : List ChildConnection) → input ≡ Input.Got m → record_refusal now m.body own ≡ None → own' ≡ (request_turn agent now m own zs next).own →
       Contains (request_turn agent now m own zs next).children y → y ≡ asked_view (passed_on m.body (takes m now own).rec x) (kind_of m.body) c x →
       ((z : Message) → Contains (option_to_list (request_of (passed_on m.body (takes m now own).rec x) agent.name c x)) z → Contains more z) → ViewTurned agent input own own' more x y
 

@@ -236,7 +236,7 @@ module _ (setting : Setting) where
 
   served : (is_query : Bool) (s : AgentState) (m : Message) → length s.children ≡ length s.base.records → GoOn s (serves is_query setting s m)
   served true s m even n = queried (is_recursive m.body) s m n
-  served false s m even n = answered s m (refusal setting.agent.name setting.stp_of s.base.records m) even n
+  served false s m even n = answered s m (refusal s.base.now setting.agent.name setting.stp_of s.base.records m) even n
 
   received : (asks is_old : Bool) (s : AgentState) (m : Message) → length s.children ≡ length s.base.records → GoOn s (receives asks is_old setting s m)
   unfolding receives hears

@@ -147,7 +147,8 @@ NoRecordIsShared t homes w =
 
 -- A reserve asks for criteria: for their schedule and capacity, and for their version where it gives one.
 pub record AsksFor (q : ReserveRequest) (k : Criteria) : Type 0 where
-  pub interval : span_of q.start q.end ≡ Some k.interval
+  pub start : q.start ≡ Some k.interval.start
+  pub interval : span_of k.interval.start q.end ≡ Some k.interval
   pub capacity : q.capacity ≡ k.capacity
   pub version : (v : ℕ) → q.version ≡ Some v → v ≡ k.version
 

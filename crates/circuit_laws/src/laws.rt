@@ -5,7 +5,7 @@ ghost use Rattle.circuit_laws.specs.Laws.{ViewsHavePhases, ChildrenHavePhases, V
 use child_connection::laws::places;
 use least_routes::laws::{least_path_or_none, routes_exist};
 use nsi_world::laws::{agents, sent};
-use run_growth::laws::{in_step, rising};
+use run_growth::laws::{in_step, rising, starts};
 
 /// In every run, by the phase of a view that a requester has, or an aggregator of a child, one reads off where the record of the agent that
 /// it asks stands, whatever cut of either is taken.
@@ -54,6 +54,7 @@ pub fn asked_for()
     ensures { CriteriaWereAskedFor }
 {
     sent();
+    starts();
 }
 
 /// What it has as pending was asked for by its owner too: by the reserve that is the record's attempt.
@@ -61,6 +62,7 @@ pub fn attempts()
     ensures { AttemptsWereAskedFor }
 {
     sent();
+    starts();
 }
 
 /// Each record was opened by a first reserve of its owner that was sent, and has that reserve's service: its two points, and all else. Where the

@@ -360,34 +360,34 @@ module _ (setting : Setting) (input : Input) (said : List Message) where
     taken n = turn_is setting.agent s.base.now m n s.base.records (children_for setting seen_now n m) s.base.next
 
     takes_at : (n : ℕ) → IsTurn Side.Aggregator name s.base.now m n s.base.records (request_at setting seen_now n m).state.base.records (request_at setting seen_now n m).out →
-        IsAbout name m n (child_of s.base said) → Does s (request_at setting seen_now n m)
+        IsAbout s.base.now name m n (child_of s.base said) → Does s (request_at setting seen_now n m)
     unfolding request_at
     takes_at n t a = Serves.takes m n Side.Aggregator s.base.now new a t
 
-    between : (o : Option (ℕ × ℕ)) (q : ReserveRequest) → points_of setting.stp_of q ≡ o → m.body ≡ Body.Reserve q → q.connection ≡ None → refusal name setting.stp_of s.base.records m ≡ None →
+    between : (o : Option (ℕ × ℕ)) (q : ReserveRequest) → points_of setting.stp_of q ≡ o → m.body ≡ Body.Reserve q → q.connection ≡ None → refusal s.base.now name setting.stp_of s.base.records m ≡ None →
         Does s (opens_between o setting seen_now m q)
     unfolding request_at
-    between None q p b c r = absurd ((first_by name setting.stp_of s.base.records m q b c r).1 p)
+    between None q p b c r = absurd ((first_by s.base.now name setting.stp_of s.base.records m q b c r).1 p)
     between (Some points) q p b c r =
-        Serves.opens m (id_of setting.agent.number s.base.next) _ points.0 points.1 Side.Aggregator s.base.now new (first_by name setting.stp_of s.base.records m q b c r).0
+        Serves.opens m (id_of setting.agent.number s.base.next) _ points.0 points.1 Side.Aggregator s.base.now new (first_by s.base.now name setting.stp_of s.base.records m q b c r).0
         (turn_is setting.agent s.base.now m (length s.base.records) _ (children_for setting (with_new setting seen_now m q points) (length s.base.records) m) (s.base.next + 1))
 
     left : is_reservation (kind_of m.body) ≡ false → Does s (record { state = seen_now; out = []; answer = None })
     left k = Serves.leaves m new k refl nothing_tells
 
-    opening : (body : Body) → m.body ≡ body → connection_of m.body ≡ None → refusal name setting.stp_of s.base.records m ≡ None → Does s (opens body setting seen_now m)
+    opening : (body : Body) → m.body ≡ body → connection_of m.body ≡ None → refusal s.base.now name setting.stp_of s.base.records m ≡ None → Does s (opens body setting seen_now m)
     opening (Body.Reserve q) e c r = between (points_of setting.stp_of q) q refl e (reserve_unnamed m.body q e c) r
     opening _ e c r = left (unnamed_kind m.body c (λ q w. absurd (let z = sym e ∙ w in cc)))
 
-    accepting : (o : Option ℕ) → connection_of m.body ≡ o → refusal name setting.stp_of s.base.records m ≡ None → Does s (accepts o setting seen_now m)
+    accepting : (o : Option ℕ) → connection_of m.body ≡ o → refusal s.base.now name setting.stp_of s.base.records m ≡ None → Does s (accepts o setting seen_now m)
     accepting None e r = opening m.body refl e r
     accepting (Some id) e r =
-        let f = found_by name setting.stp_of m id (child_of s.base said) e r in
+        let f = found_by s.base.now name setting.stp_of m id (child_of s.base said) e r in
         subst (λ o. Does s (request_to o setting seen_now m)) (sym f.found) (takes_at f.place (taken f.place) f.about)
 
-    answering : (o : Option ErrorName) → refusal name setting.stp_of s.base.records m ≡ o → Does s (answers o setting seen_now m)
+    answering : (o : Option ErrorName) → refusal s.base.now name setting.stp_of s.base.records m ≡ o → Does s (answers o setting seen_now m)
     unfolding answers
-    answering (Some error) r = Serves.refuses m error new (refused_by name setting.stp_of m error (child_of s.base said) r) refl refl
+    answering (Some error) r = Serves.refuses m error s.base.now new (refused_by s.base.now name setting.stp_of m error (child_of s.base said) r) refl refl
     answering None r = accepting (connection_of m.body) refl r
 
     -- a query is answered by rows, or refused
@@ -402,8 +402,8 @@ module _ (setting : Setting) (input : Input) (said : List Message) where
 
     telling : is_query m.body ≡ true → (b : Bool) (o : Option Body) → bytes_eq m.header.provider name ≡ b → answer_to name seen_now m ≡ o → Does s (sends seen_now (reply_by b o name m ∷ []))
     telling q true (Some body) p e = Serves.leaves m new (query_kind m.body q) refl (row_tells m.header body (tells_rows name seen_now m body e))
-    telling q true None p e = Serves.refuses m ErrorName.Nonexistent new (λ n id own names at. absurd (is_there n id q e names at)) refl refl
-    telling q false o p e = Serves.refuses m ErrorName.WrongProvider new (λ n id own names at. absurd (another p own)) refl refl
+    telling q true None p e = Serves.refuses m ErrorName.Nonexistent s.base.now new (λ n id own names at. absurd (is_there n id q e names at)) refl refl
+    telling q false o p e = Serves.refuses m ErrorName.WrongProvider s.base.now new (λ n id own names at. absurd (another p own)) refl refl
 
     -- a query about all that is below is answered, or its children are asked
     opening_query : is_query m.body ≡ true → (n : ℕ) (x : Sought) → AnswersNothing x.asked → (b : Bool) → Does s (opens_query b setting seen_now n m x)
@@ -424,8 +424,8 @@ module _ (setting : Setting) (input : Input) (said : List Message) where
 
     telling_below : is_query m.body ≡ true → (b : Bool) (o : Option ℕ) → bytes_eq m.header.provider name ≡ b → place_named m s.base.records ≡ o → Does s (asks_if_own b o setting seen_now m)
     telling_below q true (Some n) p e = asking_below q n
-    telling_below q true None p e = Serves.refuses m ErrorName.Nonexistent new (λ n id own names at. absurd (unplaced n id e names at)) refl refl
-    telling_below q false o p e = Serves.refuses m ErrorName.WrongProvider new (λ n id own names at. absurd (another p own)) refl refl
+    telling_below q true None p e = Serves.refuses m ErrorName.Nonexistent s.base.now new (λ n id own names at. absurd (unplaced n id e names at)) refl refl
+    telling_below q false o p e = Serves.refuses m ErrorName.WrongProvider s.base.now new (λ n id own names at. absurd (another p own)) refl refl
 
     answering_query : is_query m.body ≡ true → (b : Bool) → Does s (queries b setting seen_now m)
     answering_query q true = telling_below q (bytes_eq m.header.provider name) (place_named m s.base.records) refl refl
@@ -433,7 +433,7 @@ module _ (setting : Setting) (input : Input) (said : List Message) where
 
     serving : (b : Bool) → is_query m.body ≡ b → Does s (serves b setting seen_now m)
     serving true q = answering_query q (is_recursive m.body)
-    serving false q = answering (refusal name setting.stp_of s.base.records m) refl
+    serving false q = answering (refusal s.base.now name setting.stp_of s.base.records m) refl
 
   ---- Any message
 

@@ -96,7 +96,7 @@ module _ (parent name : List ℕ) (x : ChildConnection) (place : Option ℕ) (d 
     passing_mate (Serves.acts e v) other = as_done place records d.seen out refl e refl (courses_mate parent name x place d records out v unowed h)
     passing_mate (Serves.leaves m w k r o) other =
         as_done place d.records (with_taken m.header d.seen) out r w.counted refl (foreign_seen Place.Provider name parent 0 x place d 0 m out o w.untaken (other m w.got w.request w.untaken).0 h)
-    passing_mate (Serves.refuses m error w v r o) other =
+    passing_mate (Serves.refuses m error now w v r o) other =
         as_done place d.records (with_taken m.header d.seen) (error_reply name m error ∷ []) r w.counted o
         (foreign_refused Place.Provider name parent 0 x place d 0 m error w.untaken (other m w.got w.request w.untaken).0 h)
     passing_mate (Serves.takes m n side now w a t) other =
@@ -139,7 +139,7 @@ module _ (parent name : List ℕ) (x : ChildConnection) (place : Option ℕ) (d 
 
       ---- The own record takes it
 
-      module _ (n : ℕ) (side : Place) (now : ℕ) (u : is_taken m.header d.seen ≡ false) (a : IsAbout name m n d) where
+      module _ (n : ℕ) (side : Place) (now : ℕ) (u : is_taken m.header d.seen ≡ false) (a : IsAbout now name m n d) where
         seat : place ≡ Some n
         seat = let w = h.seated.known a.id (sym own.connection ∙ a.names) in w.1 ∙ ap Some (fair.ids w.0 n (h.seated.seated w.0 w.1).0 a.within (w.2 ∙ sym a.its_id))
 
@@ -150,13 +150,13 @@ module _ (parent name : List ℕ) (x : ChildConnection) (place : Option ℕ) (d 
         unfolding record_of
         here_is = ap (λ o. record_of o d.records) seat
 
-        fine : record_refusal m.body (record_of place d.records) ≡ None
-        fine = ap (λ r. record_refusal m.body r) here_is ∙ a.unrefused
+        fine : record_refusal now m.body (record_of place d.records) ≡ None
+        fine = ap (λ r. record_refusal now m.body r) here_is ∙ a.unrefused
 
         taken : Link x (took_in own.c (side_of parent name place d) (taken_by side now m (record_at n d.records)))
         taken =
             subst (λ r. Link x (took_in own.c (side_of parent name place d) (taken_by side now m r))) here_is
-            (subst (λ b. Link x (took_in own.c (side_of parent name place d) (moves_if side (requested m.body b (record_of place d.records)) now (record_of place d.records)))) (sym (ap (λ (z : Header). z.correlation) own.header))
+            (subst (λ b. Link x (took_in own.c (side_of parent name place d) (moves_if side (requested now m.body b (record_of place d.records)) now (record_of place d.records)))) (sym (ap (λ (z : Header). z.correlation) own.header))
             (taking_link side m.body own.kind own.c now x (side_of parent name place d) own.its_kind own.reservation fine own.asked (untaken_at u) h.linked))
 
         some_none : Some a.id ≡ None → ⊥
@@ -175,7 +175,7 @@ module _ (parent name : List ℕ) (x : ChildConnection) (place : Option ℕ) (d 
 
       ---- A record is opened for it
 
-      module _ (id : ℕ) (s : Service) (source dest : ℕ) (side : Place) (now : ℕ) (u : is_taken m.header d.seen ≡ false) (b : IsFirst name m) where
+      module _ (id : ℕ) (s : Service) (source dest : ℕ) (side : Place) (now : ℕ) (u : is_taken m.header d.seen ≡ false) (b : IsFirst now name m) where
         owner_is : m.header.requester ≡ parent
         owner_is = ap (λ (z : Header). z.requester) own.header
 
@@ -212,7 +212,7 @@ module _ (parent name : List ℕ) (x : ChildConnection) (place : Option ℕ) (d 
             turn_mate side name parent now x (Some (length d.records)) bigger (length d.records) m records out (last_within id m.header.requester s source dest) t
             (grown_unowed id m.header.requester s source dest) b.provider (ap (λ y. y.owner) last_one) u
             (open_start side name parent now x bigger (length d.records) m own.c b.reserve (last_within id m.header.requester s source dest) (ap (λ y. y.owner) last_one ∙ owner_is) (ap (λ y. y.rsm) last_one)
-            (λ e. b.asks (sym (ap (λ y. asked_criteria b.reserve y.committed) last_one) ∙ e)) b.body own.header u asked_reserve
+            (λ e. b.asks (sym (ap (λ y. asked_criteria now b.reserve y.committed) last_one) ∙ e)) b.body own.header u asked_reserve
             (new_link name parent x place d id m.header.requester s source dest empty h.linked) (new_seated name parent x place d id m.header.requester s source dest owner_is empty h.seated))
 
         longer_now : IsTurn side name now m (length d.records) bigger.records records out → length d.records < length records
@@ -221,7 +221,7 @@ module _ (parent name : List ℕ) (x : ChildConnection) (place : Option ℕ) (d 
       pub own_mate : Serves name input d records seen out → Owned
       own_mate (Serves.acts e v) = stays (as_done place records d.seen out refl e refl (courses_mate parent name x place d records out v unowed h))
       own_mate (Serves.leaves n w k r o) = absurd (true≢false (sym kinds ∙ ap (λ (z : Message). is_reservation (kind_of z.body)) (sym (same_as n w.got)) ∙ k))
-      own_mate (Serves.refuses n error w v r o) =
+      own_mate (Serves.refuses n error now w v r o) =
           let e = same_as n w.got in
           stays
           (as_done place d.records (with_taken m.header d.seen) (error_reply name m error ∷ []) r (w.counted ∙ ap (λ (z : Message). with_taken z.header d.seen) e) (o ∙ ap (λ z. error_reply name z error ∷ []) e)
@@ -230,11 +230,11 @@ module _ (parent name : List ℕ) (x : ChildConnection) (place : Option ℕ) (d 
           let e = same_as n w.got in
           stays
           (as_done place records (with_taken m.header d.seen) out refl (w.counted ∙ ap (λ (z : Message). with_taken z.header d.seen) e) refl
-          (own_turn k side now (ap (λ (z : Message). is_taken z.header d.seen) (sym e) ∙ w.untaken) (subst (λ z. IsAbout name z k d) e a) (subst (λ z. IsTurn side name now z k d.records records out) e t)))
+          (own_turn k side now (ap (λ (z : Message). is_taken z.header d.seen) (sym e) ∙ w.untaken) (subst (λ z. IsAbout now name z k d) e a) (subst (λ z. IsTurn side name now z k d.records records out) e t)))
       own_mate (Serves.opens n id s source dest side now w b t) =
           let e = same_as n w.got in
           let u : is_taken m.header d.seen ≡ false = ap (λ (z : Message). is_taken z.header d.seen) (sym e) ∙ w.untaken in
-          let b' = subst (λ z. IsFirst name z) e b in
+          let b' = subst (λ z. IsFirst now name z) e b in
           let t' = subst (λ (z : Message). IsTurn side name now z (length d.records) (d.records ++ fresh id z.header.requester s source dest ∷ []) records out) e t in (
             Some (length d.records),
             as_done (Some (length d.records)) records (with_taken m.header d.seen) out refl (w.counted ∙ ap (λ (z : Message). with_taken z.header d.seen) e) refl (opened_turn id s source dest side now u b' t'),

@@ -161,11 +161,11 @@ module _ (side : Place) (name parent : List ℕ) (now : ℕ) (x : ChildConnectio
   abbrev first : Child
   first = goes_on d (first_records side name parent now x (Some n) d n m) (first_seen side name parent now x (Some n) d n m) (first_out side name parent now x (Some n) d n m)
 
-  pub open_start : (c : ℕ) (q : ReserveRequest) → n < length d.records → (record_at n d.records).owner ≡ parent → (record_at n d.records).rsm ≡ Rsm.ReserveStart → (asked_criteria q (record_at n d.records).committed ≡ None → ⊥) →
+  pub open_start : (c : ℕ) (q : ReserveRequest) → n < length d.records → (record_at n d.records).owner ≡ parent → (record_at n d.records).rsm ≡ Rsm.ReserveStart → (asked_criteria now q (record_at n d.records).committed ≡ None → ⊥) →
       m.body ≡ Body.Reserve q → m.header ≡ header_of parent name c → is_taken m.header d.seen ≡ false → x.reserve_request ≡ Some (sent c Kind.Reserve) → Link x (side_of parent name (Some n) d) → IsSeated parent name x (Some n) d →
       IsMate parent name x (Some n) (goes_on d (first_records side name parent now x (Some n) d n m) (first_seen side name parent now x (Some n) d n m) (first_out side name parent now x (Some n) d n m))
   unfolding record_of owed requested moves is_reservation
-  open_start c q l owned start criteria body hd u r h f = by_criteria (asked_criteria q row.committed) refl
+  open_start c q l owned start criteria body hd u r h f = by_criteria (asked_criteria now q row.committed) refl
     where
       row : Record
       row = record_at n d.records
@@ -182,7 +182,7 @@ module _ (side : Place) (name parent : List ℕ) (now : ℕ) (x : ChildConnectio
       taken : Link x (took_in c (side_of parent name (Some n) d) z)
       taken =
           subst (λ y. Link x (took_in c (side_of parent name (Some n) d) y))
-          (sym (ap (λ b. moves_if side (requested b m.header.correlation row) now row) body ∙ ap (λ b. moves_if side (requested (Body.Reserve q) b row) now row) (ap (λ y. y.correlation) hd) ∙ taken_move side (Body.Reserve q) c now row t.move t.is))
+          (sym (ap (λ b. moves_if side (requested now b m.header.correlation row) now row) body ∙ ap (λ b. moves_if side (requested now (Body.Reserve q) b row) now row) (ap (λ y. y.correlation) hd) ∙ taken_move side (Body.Reserve q) c now row t.move t.is))
           (Link.asked c Kind.Reserve r w.phase w.attempt t.pending)
 
       reserves_here : is_reservation (kind_of m.body) ≡ true
@@ -191,7 +191,7 @@ module _ (side : Place) (name parent : List ℕ) (now : ℕ) (x : ChildConnectio
       heeded : IsHeeded x c
       heeded = inl w.attempt
 
-      opening : (a : Criteria) → asked_criteria q row.committed ≡ Some a → IsOpening parent name x n first
+      opening : (a : Criteria) → asked_criteria now q row.committed ≡ Some a → IsOpening parent name x n first
       opening a e =
           record {
             c = c;
@@ -208,7 +208,7 @@ module _ (side : Place) (name parent : List ℕ) (now : ℕ) (x : ChildConnectio
           moved_so : z ≡ y
           moved_so =
               ap (λ o. moves_if side o now row)
-              (ap (λ b. requested b m.header.correlation row) body ∙ ap (λ y. reserve_move m.header.correlation y) e ∙ ap (λ y. reserve_move y (Some a)) (ap (λ y. y.correlation) hd)) ∙
+              (ap (λ b. requested now b m.header.correlation row) body ∙ ap (λ y. reserve_move m.header.correlation y) e ∙ ap (λ y. reserve_move y (Some a)) (ap (λ y. y.correlation) hd)) ∙
               ap (λ y. reserves y (ReservationMove.Reserve c a) now row) start
 
           alone_y : IsAlone c y.rec
@@ -221,7 +221,7 @@ module _ (side : Place) (name parent : List ℕ) (now : ℕ) (x : ChildConnectio
           by_part b g (inl j) = not_there (about (header_of parent name c) d.said) b w.none j
           by_part b g (inr j) = started_says c now a row b (subst (λ v. Contains (answering c v.out) b) moved_so (told_in side name parent now x (Some n) d n m c Kind.Reserve l refl owned hd u r c b j)) g
 
-      by_criteria : (o : Option Criteria) → asked_criteria q row.committed ≡ o → IsMate parent name x (Some n) first
+      by_criteria : (o : Option Criteria) → asked_criteria now q row.committed ≡ o → IsMate parent name x (Some n) first
       by_criteria None e = absurd (criteria e)
       by_criteria (Some a) e =
           record {

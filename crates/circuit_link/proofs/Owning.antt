@@ -42,9 +42,9 @@ reserved_alone : (now : ℕ) (r : Record) (move : ReservationMove) (b : ℕ) →
 reserved_alone now r move b a =
     record { provision = λ n. (reserves_others r.rsm move now r b n).0 ∙ a.provision n; life = λ n. (reserves_others r.rsm move now r b n).1 ∙ a.life n }
 
-pub reservation_alone : (side : Place) (body : Body) (c now : ℕ) (r : Record) (b : ℕ) → is_reservation (kind_of body) ≡ true → IsAlone b r → IsAlone b (moves_if side (requested body c r) now r).rec
+pub reservation_alone : (side : Place) (body : Body) (c now : ℕ) (r : Record) (b : ℕ) → is_reservation (kind_of body) ≡ true → IsAlone b r → IsAlone b (moves_if side (requested now body c r) now r).rec
 unfolding requested moves is_reservation
-reservation_alone side (Body.Reserve q) c now r b e a = by_criteria (asked_criteria q r.committed)
+reservation_alone side (Body.Reserve q) c now r b e a = by_criteria (asked_criteria now q r.committed)
   where
     by_criteria : (o : Option Criteria) → IsAlone b (moves_if side (reserve_move c o) now r).rec
     by_criteria None = a
@@ -83,7 +83,7 @@ module _ (side : Place) (name parent : List ℕ) (now : ℕ) (x : ChildConnectio
   then_side = side_of parent name place (goes_on d rows takes tells)
 
   names : Names row step
-  names = moves_if_names side (requested m.body m.header.correlation row) now row
+  names = moves_if_names side (requested now m.body m.header.correlation row) now row
 
   -- the own record takes the view's own request of the reservation machine
   module _ (c : ℕ) (k : Kind) (l : n < length d.records) (e : place ≡ Some n) (owned : (record_at n d.records).owner ≡ parent) (hd : m.header ≡ header_of parent name c) (u : is_taken m.header d.seen ≡ false) (r : x.reserve_request ≡ Some (sent c k)) where

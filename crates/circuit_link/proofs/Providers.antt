@@ -145,27 +145,27 @@ module _ (setting : Setting) (input : Input) (said : List Message) where
       new : IsNew input m (child_of s said) (with_taken m.header s.seen)
       new = record { got = got; request = req; untaken = u; counted = refl }
 
-      between : (o : Option (ℕ × ℕ)) (q : ReserveRequest) → points_of stp_of q ≡ o → m.body ≡ Body.Reserve q → q.connection ≡ None → refusal setting.name stp_of s.records m ≡ None → Does s (opens_between o setting seen_now m q)
-      between None q p b c r = absurd ((first_by setting.name stp_of s.records m q b c r).1 p)
+      between : (o : Option (ℕ × ℕ)) (q : ReserveRequest) → points_of stp_of q ≡ o → m.body ≡ Body.Reserve q → q.connection ≡ None → refusal s.now setting.name stp_of s.records m ≡ None → Does s (opens_between o setting seen_now m q)
+      between None q p b c r = absurd ((first_by s.now setting.name stp_of s.records m q b c r).1 p)
       between (Some points) q p b c r =
-          Serves.opens m (id_of setting.number s.next) _ points.0 points.1 Side.Provider s.now new (first_by setting.name stp_of s.records m q b c r).0
+          Serves.opens m (id_of setting.number s.next) _ points.0 points.1 Side.Provider s.now new (first_by s.now setting.name stp_of s.records m q b c r).0
           (turn (with_new setting seen_now m q points) (length s.records))
 
       left : is_reservation (kind_of m.body) ≡ false → Does s (unchanged seen_now)
       left k = Serves.leaves m new k refl nothing_tells
 
-      opening : (body : Body) → m.body ≡ body → connection_of m.body ≡ None → refusal setting.name stp_of s.records m ≡ None → Does s (opens body setting stp_of seen_now m)
+      opening : (body : Body) → m.body ≡ body → connection_of m.body ≡ None → refusal s.now setting.name stp_of s.records m ≡ None → Does s (opens body setting stp_of seen_now m)
       opening (Body.Reserve q) e c r = between (points_of stp_of q) q refl e (reserve_unnamed m.body q e c) r
       opening _ e c r = left (unnamed_kind m.body c (λ q w. absurd (let z = sym e ∙ w in cc)))
 
-      accepting : (o : Option ℕ) → connection_of m.body ≡ o → refusal setting.name stp_of s.records m ≡ None → Does s (accepts o setting stp_of seen_now m)
+      accepting : (o : Option ℕ) → connection_of m.body ≡ o → refusal s.now setting.name stp_of s.records m ≡ None → Does s (accepts o setting stp_of seen_now m)
       accepting None e r = opening m.body refl e r
       accepting (Some id) e r =
-          let f = found_by setting.name stp_of m id (child_of s said) e r in
+          let f = found_by s.now setting.name stp_of m id (child_of s said) e r in
           subst (λ k. Does s (taken_at setting seen_now k m)) (sym (ap (λ o. unwrap_or o 0) f.found)) (Serves.takes m f.place Side.Provider s.now new f.about (turn seen_now f.place))
 
-      answering : (o : Option ErrorName) → refusal setting.name stp_of s.records m ≡ o → Does s (answers o setting stp_of seen_now m)
-      answering (Some error) r = Serves.refuses m error new (refused_by setting.name stp_of m error (child_of s said) r) refl refl
+      answering : (o : Option ErrorName) → refusal s.now setting.name stp_of s.records m ≡ o → Does s (answers o setting stp_of seen_now m)
+      answering (Some error) r = Serves.refuses m error s.now new (refused_by s.now setting.name stp_of m error (child_of s said) r) refl refl
       answering None r = accepting (connection_of m.body) refl r
 
     -- a query is answered by rows, or refused
@@ -184,12 +184,12 @@ module _ (setting : Setting) (input : Input) (said : List Message) where
       telling : is_query m.body ≡ true → (b : Bool) (o : Option Body) → bytes_eq m.header.provider setting.name ≡ b → answer_to setting.name s.now s.records m ≡ o
           → Does s (says (seen_now stp_of s got req u) (reply_by b o setting.name m ∷ []))
       telling q true (Some body) p e = Serves.leaves m (new stp_of s got req u) (query_kind m.body q) refl (row_tells m.header body (providers_tell_rows setting.name s.now s.records m body e))
-      telling q true None p e = Serves.refuses m ErrorName.Nonexistent (new stp_of s got req u) (λ n id own names at. absurd (is_there n id q e names at)) refl refl
-      telling q false o p e = Serves.refuses m ErrorName.WrongProvider (new stp_of s got req u) (λ n id own names at. absurd (another p own)) refl refl
+      telling q true None p e = Serves.refuses m ErrorName.Nonexistent s.now (new stp_of s got req u) (λ n id own names at. absurd (is_there n id q e names at)) refl refl
+      telling q false o p e = Serves.refuses m ErrorName.WrongProvider s.now (new stp_of s got req u) (λ n id own names at. absurd (another p own)) refl refl
 
       serving : (b : Bool) → is_query m.body ≡ b → Does s (serves b setting stp_of (seen_now stp_of s got req u) m)
       serving true q = telling q (bytes_eq m.header.provider setting.name) (answer_to setting.name s.now s.records m) refl refl
-      serving false q = answering stp_of s got req u (refusal setting.name stp_of s.records m) refl
+      serving false q = answering stp_of s got req u (refusal s.now setting.name stp_of s.records m) refl
 
     receiving : (stp_of : List ℕ → Option ℕ) (s : State) (a b : Bool) → input ≡ Input.Got m → is_request m.body ≡ a → is_taken m.header s.seen ≡ b → Does s (receives a b setting stp_of s m)
     unfolding receives

@@ -22,14 +22,14 @@ second_none None b h = h
 second_none (Some x) b h = absurd (cc)
 
 -- the record that a request names
-pub record IsFound (name : List ℕ) (m : Message) (id : ℕ) (d : Child) : Type 0 where
+pub record IsFound (now : ℕ) (name : List ℕ) (m : Message) (id : ℕ) (d : Child) : Type 0 where
   pub place : ℕ
   pub found : place_of id m.header.requester d.records ≡ Some place
-  pub about : IsAbout name m place d
+  pub about : IsAbout now name m place d
 
-pub found_by : (name : List ℕ) (stp_of : List ℕ → Option ℕ) (m : Message) (id : ℕ) (d : Child) → connection_of m.body ≡ Some id → refusal name stp_of d.records m ≡ None → IsFound name m id d
-found_by name stp_of m id d c r =
-    let t : IsTakenAt m d.records id = unrefused_at name stp_of d.records m id c r in
+pub found_by : (now : ℕ) (name : List ℕ) (stp_of : List ℕ → Option ℕ) (m : Message) (id : ℕ) (d : Child) → connection_of m.body ≡ Some id → refusal now name stp_of d.records m ≡ None → IsFound now name m id d
+found_by now name stp_of m id d c r =
+    let t : IsTakenAt now m d.records id = unrefused_at now name stp_of d.records m id c r in
     let here : record_at t.place d.records ≡ t.own = get_or_from_slice_get d.records t.place t.own no_record t.there in
     record {
       place = t.place;
@@ -37,28 +37,28 @@ found_by name stp_of m id d c r =
       about =
           record {
             within = slice_get_within d.records t.place t.own t.there;
-            provider = unrefused_agent name stp_of d.records m r;
+            provider = unrefused_agent now name stp_of d.records m r;
             owner = ap (λ y. y.owner) here ∙ t.owner;
             id = id;
             names = c;
             its_id = ap (λ y. y.id) here ∙ t.named;
-            unrefused = subst (λ y. record_refusal m.body y ≡ None) (sym here) t.unrefused;
+            unrefused = subst (λ y. record_refusal now m.body y ≡ None) (sym here) t.unrefused;
           };
     }
 
 -- what a first reserve that isn't refused asks
-pub first_by : (name : List ℕ) (stp_of : List ℕ → Option ℕ) (rs : List Record) (m : Message) (q : ReserveRequest) → m.body ≡ Body.Reserve q → q.connection ≡ None → refusal name stp_of rs m ≡ None →
-    IsFirst name m × (points_of stp_of q ≡ None → ⊥)
+pub first_by : (now : ℕ) (name : List ℕ) (stp_of : List ℕ → Option ℕ) (rs : List Record) (m : Message) (q : ReserveRequest) → m.body ≡ Body.Reserve q → q.connection ≡ None → refusal now name stp_of rs m ≡ None →
+    IsFirst now name m × (points_of stp_of q ≡ None → ⊥)
 unfolding refusal unnamed_refusal connection_of
-first_by name stp_of rs m q b c r = (record { provider = unrefused_agent name stp_of rs m r; reserve = q; body = b; unnamed = c; asks = λ e. first_criteria stp_of q unrefused e }, λ e. pointless unrefused e)
+first_by now name stp_of rs m q b c r = (record { provider = unrefused_agent now name stp_of rs m r; reserve = q; body = b; unnamed = c; asks = λ e. first_criteria now stp_of q unrefused e }, λ e. pointless unrefused e)
   where
-    unnamed : refusal_about (connection_of m.body) m.header.requester stp_of rs m.body ≡ None
-    unnamed = second_none (refused_if (not (bytes_eq m.header.provider name)) ErrorName.WrongProvider) (refusal_about (connection_of m.body) m.header.requester stp_of rs m.body) r
+    unnamed : refusal_about now (connection_of m.body) m.header.requester stp_of rs m.body ≡ None
+    unnamed = second_none (refused_if (not (bytes_eq m.header.provider name)) ErrorName.WrongProvider) (refusal_about now (connection_of m.body) m.header.requester stp_of rs m.body) r
 
-    unrefused : first_refusal stp_of q ≡ None
-    unrefused = sym (ap (λ o. refusal_about o m.header.requester stp_of rs (Body.Reserve q)) c) ∙ sym (ap (λ z. refusal_about (connection_of z) m.header.requester stp_of rs z) b) ∙ unnamed
+    unrefused : first_refusal now stp_of q ≡ None
+    unrefused = sym (ap (λ o. refusal_about now o m.header.requester stp_of rs (Body.Reserve q)) c) ∙ sym (ap (λ z. refusal_about now (connection_of z) m.header.requester stp_of rs z) b) ∙ unnamed
 
-    pointless : first_refusal stp_of q ≡ None → points_of stp_of q ≡ None → ⊥
+    pointless : first_refusal now stp_of q ≡ None → points_of stp_of q ≡ None → ⊥
     pointless h e = grind (arith, h, e)
 
 -- a request without a connection that is no reserve isn't the reservation's
@@ -79,18 +79,18 @@ unfolding connection_of
 reserve_unnamed body q e c = sym (ap connection_of e) ∙ c
 
 -- a request that is refused is refused as the record that it names says
-pub refused_by : (name : List ℕ) (stp_of : List ℕ → Option ℕ) (m : Message) (error : ErrorName) (d : Child) → refusal name stp_of d.records m ≡ Some error → IsRefused name m error d
+pub refused_by : (now : ℕ) (name : List ℕ) (stp_of : List ℕ → Option ℕ) (m : Message) (error : ErrorName) (d : Child) → refusal now name stp_of d.records m ≡ Some error → IsRefused now name m error d
 unfolding refusal
-refused_by name stp_of m error d r n id p c f = sym (ap (λ o. named_refusal o m.body) row) ∙ at
+refused_by now name stp_of m error d r n id p c f = sym (ap (λ o. named_refusal now o m.body) row) ∙ at
   where
     right : bytes_eq m.header.provider name ≡ true
     right = (bytes_eq-Decides m.header.provider name).1 p
 
-    named : refusal_about (connection_of m.body) m.header.requester stp_of d.records m.body ≡ Some error
-    named = sym (ap (λ b. or_else (refused_if (not b) ErrorName.WrongProvider) (refusal_about (connection_of m.body) m.header.requester stp_of d.records m.body)) right) ∙ r
+    named : refusal_about now (connection_of m.body) m.header.requester stp_of d.records m.body ≡ Some error
+    named = sym (ap (λ b. or_else (refused_if (not b) ErrorName.WrongProvider) (refusal_about now (connection_of m.body) m.header.requester stp_of d.records m.body)) right) ∙ r
 
-    at : named_refusal (record_for id m.header.requester d.records) m.body ≡ Some error
-    at = sym (ap (λ o. refusal_about o m.header.requester stp_of d.records m.body) c) ∙ named
+    at : named_refusal now (record_for id m.header.requester d.records) m.body ≡ Some error
+    at = sym (ap (λ o. refusal_about now o m.header.requester stp_of d.records m.body) c) ∙ named
 
     found : n < length d.records
     found = (position-Some (λ y. (id == y.id) && bytes_eq m.header.requester y.owner) d.records n no_record f).0

@@ -105,9 +105,9 @@ lives_rows : (k : Lsm) (move : LifecycleMove) (now : ℕ) (r : Record) → tally
 unfolding lives lifecycle_step lifecycle_event tally
 lives_rows k move now r = grind arith
 
-taken_rows : (side : Side) (b : Body) (c now : ℕ) (r : Record) → tally with_rows (moves_if side (requested b c r) now r).out ≡ 0
+taken_rows : (side : Side) (b : Body) (c now : ℕ) (r : Record) → tally with_rows (moves_if side (requested now b c r) now r).out ≡ 0
 unfolding requested moves tally
-taken_rows side (Body.Reserve q) c now r = by_criteria (asked_criteria q r.committed)
+taken_rows side (Body.Reserve q) c now r = by_criteria (asked_criteria now q r.committed)
   where
     by_criteria : (o : Option Criteria) → tally with_rows (moves_if side (reserve_move c o) now r).out ≡ 0
     by_criteria None = refl
@@ -119,5 +119,5 @@ taken_rows side (Body.Release id) c now r = provisions_rows side r.psm (Provisio
 taken_rows side (Body.Terminate id) c now r = lives_rows r.lsm (LifecycleMove.Terminate c) now r
 taken_rows side _ c now r = refl
 
-pub taken_rowless : (side : Side) (b : Body) (c now : ℕ) (r : Record) → AreRowless (moves_if side (requested b c r) now r).out
-taken_rowless side b c now r = untallied (moves_if side (requested b c r) now r).out (taken_rows side b c now r)
+pub taken_rowless : (side : Side) (b : Body) (c now : ℕ) (r : Record) → AreRowless (moves_if side (requested now b c r) now r).out
+taken_rowless side b c now r = untallied (moves_if side (requested now b c r) now r).out (taken_rows side b c now r)

@@ -50,7 +50,7 @@ module _ (side : Place) (name parent : List ℕ) (now : ℕ) (x : ChildConnectio
   row = record_at n d.records
 
   abbrev pub first_move : Moved
-  first_move = moves_if side (requested m.body m.header.correlation (record_at n d.records)) now (record_at n d.records)
+  first_move = moves_if side (requested now m.body m.header.correlation (record_at n d.records)) now (record_at n d.records)
 
   abbrev pub first_records : List Record
   first_records = slice_set d.records n first_move.rec
@@ -65,10 +65,10 @@ module _ (side : Place) (name parent : List ℕ) (now : ℕ) (x : ChildConnectio
   IsForeign = (c : ℕ) → IsHeeded x c → m.header ≡ header_of parent name c → ⊥
 
   pub later : IsLater row first_move.rec
-  later = moves_if_later side (requested m.body m.header.correlation row) now row
+  later = moves_if_later side (requested now m.body m.header.correlation row) now row
 
   names : Names row first_move
-  names = moves_if_names side (requested m.body m.header.correlation row) now row
+  names = moves_if_names side (requested now m.body m.header.correlation row) now row
 
   speaks : Speaks (Some m.header.correlation) no_ids row first_move
   speaks = takes_speaks side m.body m.header.correlation now row

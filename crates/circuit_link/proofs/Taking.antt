@@ -146,15 +146,15 @@ module _ (now c : ℕ) (x : ChildConnection) (s : Side) where
   -- which move the request is, and where it leaves the view
   pub record IsTakenBy (body : Body) : Type 0 where
     pub move : ReservationMove
-    pub is : requested body c s.rec ≡ Some (Move.Reservation move)
+    pub is : requested now body c s.rec ≡ Some (Move.Reservation move)
     pub pending : Pending c x (took_in c s (reserves s.rec.rsm move now s.rec))
 
-  pub reserve_taken : (q : ReserveRequest) → s.rec.rsm ≡ Rsm.ReserveStart → (asked_criteria q s.rec.committed ≡ None → ⊥) → x.reserve_request ≡ Some (sent c Kind.Reserve) →
+  pub reserve_taken : (q : ReserveRequest) → s.rec.rsm ≡ Rsm.ReserveStart → (asked_criteria now q s.rec.committed ≡ None → ⊥) → x.reserve_request ≡ Some (sent c Kind.Reserve) →
       IsUnseen c Kind.Reserve x s → IsTakenBy (Body.Reserve q)
   unfolding requested phase_of
-  reserve_taken q e f r u = by_criteria (asked_criteria q s.rec.committed) refl
+  reserve_taken q e f r u = by_criteria (asked_criteria now q s.rec.committed) refl
     where
-      by_criteria : (o : Option Criteria) → asked_criteria q s.rec.committed ≡ o → IsTakenBy (Body.Reserve q)
+      by_criteria : (o : Option Criteria) → asked_criteria now q s.rec.committed ≡ o → IsTakenBy (Body.Reserve q)
       by_criteria None h = absurd (f h)
       by_criteria (Some criteria) h =
           record {
@@ -177,24 +177,24 @@ module _ (now c : ℕ) (x : ChildConnection) (s : Side) where
   unfolding requested phase_of
   abort_taken id e r u = record { move = ReservationMove.Abort c; is = refl; pending = abort_link s.rec.rsm e r u.phase u.none u.calm }
 
-  pub own_taken : (body : Body) (k : Kind) → kind_of body ≡ k → is_reservation k ≡ true → record_refusal body s.rec ≡ None → x.reserve_request ≡ Some (sent c k) → IsUnseen c k x s → IsTakenBy body
+  pub own_taken : (body : Body) (k : Kind) → kind_of body ≡ k → is_reservation k ≡ true → record_refusal now body s.rec ≡ None → x.reserve_request ≡ Some (sent c k) → IsUnseen c k x s → IsTakenBy body
   unfolding is_reservation
   own_taken (Body.Reserve q) k e i h r u =
-      let fit = unrefused_fits (Body.Reserve q) s.rec h in
-      reserve_taken q (reserve_row q s.rec fit.row) (unrefused_criteria q s.rec fit.modification) (r ∙ ap (λ z. Some (sent c z)) (sym e)) (subst (λ z. IsUnseen c z x s) (sym e) u)
+      let fit = unrefused_fits now (Body.Reserve q) s.rec h in
+      reserve_taken q (reserve_row q s.rec fit.row) (unrefused_criteria now q s.rec fit.modification) (r ∙ ap (λ z. Some (sent c z)) (sym e)) (subst (λ z. IsUnseen c z x s) (sym e) u)
   own_taken (Body.ReserveCommit id) k e i h r u =
-      commit_taken id (commit_row id s.rec (unrefused_fits (Body.ReserveCommit id) s.rec h).row) (r ∙ ap (λ z. Some (sent c z)) (sym e)) (subst (λ z. IsUnseen c z x s) (sym e) u)
+      commit_taken id (commit_row id s.rec (unrefused_fits now (Body.ReserveCommit id) s.rec h).row) (r ∙ ap (λ z. Some (sent c z)) (sym e)) (subst (λ z. IsUnseen c z x s) (sym e) u)
   own_taken (Body.ReserveAbort id) k e i h r u =
-      abort_taken id (abort_row id s.rec (unrefused_fits (Body.ReserveAbort id) s.rec h).row) (r ∙ ap (λ z. Some (sent c z)) (sym e)) (subst (λ z. IsUnseen c z x s) (sym e) u)
+      abort_taken id (abort_row id s.rec (unrefused_fits now (Body.ReserveAbort id) s.rec h).row) (r ∙ ap (λ z. Some (sent c z)) (sym e)) (subst (λ z. IsUnseen c z x s) (sym e) u)
   own_taken _ k e i h r u = absurd (let q = e in let w = i in cc)
 
-pub taken_move : (place : Place) (body : Body) (c now : ℕ) (r : Record) (move : ReservationMove) → requested body c r ≡ Some (Move.Reservation move) →
-    moves_if place (requested body c r) now r ≡ reserves r.rsm move now r
+pub taken_move : (place : Place) (body : Body) (c now : ℕ) (r : Record) (move : ReservationMove) → requested now body c r ≡ Some (Move.Reservation move) →
+    moves_if place (requested now body c r) now r ≡ reserves r.rsm move now r
 unfolding moves
 taken_move place body c now r move q = ap (λ o. moves_if place o now r) q
 
-pub taking_link : (place : Place) (body : Body) (k : Kind) (c now : ℕ) (x : ChildConnection) (s : Side) → kind_of body ≡ k → is_reservation k ≡ true → record_refusal body s.rec ≡ None →
-    x.reserve_request ≡ Some (sent c k) → s.seen c ≡ false → Link x s → Link x (took_in c s (moves_if place (requested body c s.rec) now s.rec))
+pub taking_link : (place : Place) (body : Body) (k : Kind) (c now : ℕ) (x : ChildConnection) (s : Side) → kind_of body ≡ k → is_reservation k ≡ true → record_refusal now body s.rec ≡ None →
+    x.reserve_request ≡ Some (sent c k) → s.seen c ≡ false → Link x s → Link x (took_in c s (moves_if place (requested now body c s.rec) now s.rec))
 taking_link place body k c now x s e i h r u l =
     let w = unseen_view c k x s l r u in
     let t = own_taken now c x s body k e i h r w in

@@ -52,8 +52,8 @@ CoursesKeepLink =
 abbrev pub TakingKeepsLink : Type 0
 TakingKeepsLink =
     (place : Place) (body : Body) (k : Kind) (c now : ℕ) (x : ChildConnection) (s : Side) → kind_of body ≡ k → is_reservation k ≡ true →
-    record_refusal body s.rec ≡ None → x.reserve_request ≡ Some (sent c k) → s.seen c ≡ false → Link x s →
-    Link x (took_in c s (moves_if place (requested body c s.rec) now s.rec))
+    record_refusal now body s.rec ≡ None → x.reserve_request ≡ Some (sent c k) → s.seen c ≡ false → Link x s →
+    Link x (took_in c s (moves_if place (requested now body c s.rec) now s.rec))
 
 -- or refuses it
 abbrev pub RefusingKeepsLink : Type 0

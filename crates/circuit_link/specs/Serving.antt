@@ -54,7 +54,7 @@ pub record TakeCourses (name : List ℕ) (old new : List Record) (out : List Mes
 
 -- what a request is to a record
 abbrev pub taken_by : Side → ℕ → Message → Record → Moved
-taken_by side now m r = moves_if side (requested m.body m.header.correlation r) now r
+taken_by side now m r = moves_if side (requested now m.body m.header.correlation r) now r
 
 -- the record at a place takes a request, and then does something by itself
 pub record IsTurn (side : Side) (name : List ℕ) (now : ℕ) (m : Message) (n : ℕ) (old new : List Record) (out : List Message) : Type 0 where
@@ -81,37 +81,37 @@ pub record IsNew (input : Input) (m : Message) (d : Child) (seen : List Header) 
   pub counted : seen ≡ with_taken m.header d.seen
 
 -- a request names a record of its sender, which doesn't refuse it
-pub record IsAbout (name : List ℕ) (m : Message) (n : ℕ) (d : Child) : Type 0 where
+pub record IsAbout (now : ℕ) (name : List ℕ) (m : Message) (n : ℕ) (d : Child) : Type 0 where
   pub within : n < length d.records
   pub provider : m.header.provider ≡ name
   pub owner : (record_at n d.records).owner ≡ m.header.requester
   pub id : ℕ
   pub names : connection_of m.body ≡ Some id
   pub its_id : (record_at n d.records).id ≡ id
-  pub unrefused : record_refusal m.body (record_at n d.records) ≡ None
+  pub unrefused : record_refusal now m.body (record_at n d.records) ≡ None
 
 -- a request is a first reserve that may be asked
-pub record IsFirst (name : List ℕ) (m : Message) : Type 0 where
+pub record IsFirst (now : ℕ) (name : List ℕ) (m : Message) : Type 0 where
   pub provider : m.header.provider ≡ name
   pub reserve : ReserveRequest
   pub body : m.body ≡ Body.Reserve reserve
   pub unnamed : reserve.connection ≡ None
-  pub asks : asked_criteria reserve [] ≡ None → ⊥
+  pub asks : asked_criteria now reserve [] ≡ None → ⊥
 
 -- a request is refused: one about a record of its sender, for the reason that this record has
-abbrev pub IsRefused : (name : List ℕ) → Message → ErrorName → Child → Type 0
-IsRefused name m error d =
+abbrev pub IsRefused : (now : ℕ) (name : List ℕ) → Message → ErrorName → Child → Type 0
+IsRefused now name m error d =
     (n id : ℕ) → m.header.provider ≡ name → connection_of m.body ≡ Some id → place_of id m.header.requester d.records ≡ Some n →
-    record_refusal m.body (record_at n d.records) ≡ Some error
+    record_refusal now m.body (record_at n d.records) ≡ Some error
 
 -- An entry: no request is taken, and records do something by themselves; or one is taken that isn't the reservation's, as a query is, and what is
 -- said then concerns no view; or it is refused; or a record takes it; or a record is opened for it.
 pub data Serves (name : List ℕ) (input : Input) (d : Child) (records : List Record) (seen : List Header) (out : List Message) : Type 0 where
   acts : seen ≡ d.seen → TakeCourses name d.records records out → Serves name input d records seen out
   leaves : (m : Message) → IsNew input m d seen → is_reservation (kind_of m.body) ≡ false → records ≡ d.records → TellsNothing out → Serves name input d records seen out
-  refuses : (m : Message) (error : ErrorName) → IsNew input m d seen → IsRefused name m error d → records ≡ d.records → out ≡ error_reply name m error ∷ [] → Serves name input d records seen out
-  takes : (m : Message) (n : ℕ) (side : Side) (now : ℕ) → IsNew input m d seen → IsAbout name m n d → IsTurn side name now m n d.records records out → Serves name input d records seen out
-  opens : (m : Message) (id : ℕ) (service : Service) (source dest : ℕ) (side : Side) (now : ℕ) → IsNew input m d seen → IsFirst name m →
+  refuses : (m : Message) (error : ErrorName) (now : ℕ) → IsNew input m d seen → IsRefused now name m error d → records ≡ d.records → out ≡ error_reply name m error ∷ [] → Serves name input d records seen out
+  takes : (m : Message) (n : ℕ) (side : Side) (now : ℕ) → IsNew input m d seen → IsAbout now name m n d → IsTurn side name now m n d.records records out → Serves name input d records seen out
+  opens : (m : Message) (id : ℕ) (service : Service) (source dest : ℕ) (side : Side) (now : ℕ) → IsNew input m d seen → IsFirst now name m →
       IsTurn side name now m (length d.records) (d.records ++ fresh id m.header.requester service source dest ∷ []) records out → Serves name input d records seen out
 
 ---- A request and a view

@@ -174,13 +174,13 @@ module _ (set : Setting) (child : List ℕ) (d : Child) (fair : IsFair set.agent
       opening (Body.Reserve q) = between (points_of set.stp_of q) q
       opening _ = resting [] (none_reserves child)
 
-      accepting : (o : Option ℕ) → connection_of m.body ≡ o → refusal parent set.stp_of s'.base.records m ≡ None → Now (accepts o set s' m)
+      accepting : (o : Option ℕ) → connection_of m.body ≡ o → refusal s'.base.now parent set.stp_of s'.base.records m ≡ None → Now (accepts o set s' m)
       accepting None e r = opening m.body
       accepting (Some id) e r =
-          let f = found_by parent set.stp_of m id (record { records = s'.base.records; seen = []; said = [] }) e r in
+          let f = found_by s'.base.now parent set.stp_of m id (record { records = s'.base.records; seen = []; said = [] }) e r in
           subst (λ o. Now (request_to o set s' m)) (sym f.found) (request_pair s' f.place m (omega (arith, f.about.within, ap length same, ap length rows, even)) (omega (arith, ids)) same_slot)
 
-      answering : (o : Option ErrorName) → refusal parent set.stp_of s'.base.records m ≡ o → Now (answers o set s' m)
+      answering : (o : Option ErrorName) → refusal s'.base.now parent set.stp_of s'.base.records m ≡ o → Now (answers o set s' m)
       unfolding answers
       answering (Some error) r = resting (error_reply parent m error ∷ []) (error_reserves child parent m error)
       answering None r = accepting (connection_of m.body) refl r
@@ -207,7 +207,7 @@ module _ (set : Setting) (child : List ℕ) (d : Child) (fair : IsFair set.agent
 
       serving : (b : Bool) → Now (serves b set s' m)
       serving true = querying (is_recursive m.body)
-      serving false = answering (refusal parent set.stp_of s'.base.records m) refl
+      serving false = answering (refusal s'.base.now parent set.stp_of s'.base.records m) refl
 
     ---- A message of a child
 

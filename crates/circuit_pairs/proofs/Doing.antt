@@ -48,13 +48,13 @@ Checks b c r q =
     ((r.rsm ≡ Rsm.ReserveChecking) × (q.pending ≡ r.pending) × (q.reserve_request ≡ r.reserve_request)) ⊎
     ((p : ReserveRequest) × (b ≡ Body.Reserve p) × (q.reserve_request ≡ Some c) × ((v : ℕ) → p.version ≡ Some v → option_map version_of q.pending ≡ Some v))
 
-begun_version : (q : ReserveRequest) (cs : List Criteria) (p : Criteria) (v : ℕ) → asked_criteria q cs ≡ Some p → q.version ≡ Some v → p.version ≡ v
-begun_version q cs p v e h = grind (arith, e, h)
+begun_version : (now : ℕ) (q : ReserveRequest) (cs : List Criteria) (p : Criteria) (v : ℕ) → asked_criteria now q cs ≡ Some p → q.version ≡ Some v → p.version ≡ v
+begun_version now q cs p v e h = grind (arith, e, h)
 
-reserve_checks : (k : Rsm) (q : ReserveRequest) (c now : ℕ) (p : Criteria) (r : Record) → r.rsm ≡ k → asked_criteria q r.committed ≡ Some p → (reserves k (ReservationMove.Reserve c p) now r).rec.rsm ≡ Rsm.ReserveChecking →
+reserve_checks : (k : Rsm) (q : ReserveRequest) (c now : ℕ) (p : Criteria) (r : Record) → r.rsm ≡ k → asked_criteria now q r.committed ≡ Some p → (reserves k (ReservationMove.Reserve c p) now r).rec.rsm ≡ Rsm.ReserveChecking →
     Checks (Body.Reserve q) c r (reserves k (ReservationMove.Reserve c p) now r).rec
 unfolding reserves reserve_step event_of
-reserve_checks Rsm.ReserveStart q c now p r e a h = inr (q, refl, refl, λ v g. ap Some (begun_version q r.committed p v a g))
+reserve_checks Rsm.ReserveStart q c now p r e a h = inr (q, refl, refl, λ v g. ap Some (begun_version now q r.committed p v a g))
 reserve_checks Rsm.ReserveChecking q c now p r e a h = inl (e, refl, refl)
 reserve_checks Rsm.ReserveHeld q c now p r e a h = inl (h, refl, refl)
 reserve_checks Rsm.ReserveFailed q c now p r e a h = inl (h, refl, refl)
@@ -88,11 +88,11 @@ provision_checks : (side : Side) (b : Body) (c : ℕ) (move : ProvisionMove) (no
 unfolding moves
 provision_checks side b c move now r h = inl (sym (provisions_rsm side r.psm move now r) ∙ h, provisions_pending side r.psm move now r, provisions_request side r.psm move now r)
 
-taken_checks : (side : Side) (b : Body) (c now : ℕ) (r : Record) → (moves_if side (requested b c r) now r).rec.rsm ≡ Rsm.ReserveChecking → Checks b c r (moves_if side (requested b c r) now r).rec
+taken_checks : (side : Side) (b : Body) (c now : ℕ) (r : Record) → (moves_if side (requested now b c r) now r).rec.rsm ≡ Rsm.ReserveChecking → Checks b c r (moves_if side (requested now b c r) now r).rec
 unfolding requested moves
-taken_checks side (Body.Reserve q) c now r h = by_criteria (asked_criteria q r.committed) refl h
+taken_checks side (Body.Reserve q) c now r h = by_criteria (asked_criteria now q r.committed) refl h
   where
-    by_criteria : (o : Option Criteria) → asked_criteria q r.committed ≡ o → (moves_if side (reserve_move c o) now r).rec.rsm ≡ Rsm.ReserveChecking → Checks (Body.Reserve q) c r (moves_if side (reserve_move c o) now r).rec
+    by_criteria : (o : Option Criteria) → asked_criteria now q r.committed ≡ o → (moves_if side (reserve_move c o) now r).rec.rsm ≡ Rsm.ReserveChecking → Checks (Body.Reserve q) c r (moves_if side (reserve_move c o) now r).rec
     by_criteria None e h = inl (h, refl, refl)
     by_criteria (Some p) e h = reserve_checks r.rsm q c now p r refl e h
 taken_checks side (Body.ReserveCommit id) c now r h = inl (commit_checks r.rsm c now r refl h)
@@ -104,9 +104,9 @@ taken_checks side (Body.Terminate id) c now r h =
 taken_checks side _ c now r h = inl (h, refl, refl)
 
 -- only a request to terminate ends it
-taken_ends : (side : Side) (b : Body) (c now : ℕ) (r : Record) → is_live (moves_if side (requested b c r) now r).rec.lsm ≡ false → (is_live r.lsm ≡ false) ⊎ ((id : ℕ) × (b ≡ Body.Terminate id))
+taken_ends : (side : Side) (b : Body) (c now : ℕ) (r : Record) → is_live (moves_if side (requested now b c r) now r).rec.lsm ≡ false → (is_live r.lsm ≡ false) ⊎ ((id : ℕ) × (b ≡ Body.Terminate id))
 unfolding requested moves
-taken_ends side (Body.Reserve q) c now r h = by_criteria (asked_criteria q r.committed) h
+taken_ends side (Body.Reserve q) c now r h = by_criteria (asked_criteria now q r.committed) h
   where
     by_criteria : (o : Option Criteria) → is_live (moves_if side (reserve_move c o) now r).rec.lsm ≡ false → (is_live r.lsm ≡ false) ⊎ ((id : ℕ) × (Body.Reserve q ≡ Body.Terminate id))
     by_criteria None h = inl h
@@ -119,9 +119,9 @@ taken_ends side (Body.Terminate id) c now r h = inr (id, refl)
 taken_ends side _ c now r h = inl h
 
 -- at once nothing is confirmed
-taken_confirms : (side : Side) (b : Body) (c now : ℕ) (r : Record) → tally confirmed_in (moves_if side (requested b c r) now r).out ≡ 0
+taken_confirms : (side : Side) (b : Body) (c now : ℕ) (r : Record) → tally confirmed_in (moves_if side (requested now b c r) now r).out ≡ 0
 unfolding requested moves tally is_fit
-taken_confirms side (Body.Reserve q) c now r = by_criteria (asked_criteria q r.committed)
+taken_confirms side (Body.Reserve q) c now r = by_criteria (asked_criteria now q r.committed)
   where
     by_criteria : (o : Option Criteria) → tally confirmed_in (moves_if side (reserve_move c o) now r).out ≡ 0
     by_criteria None = refl
@@ -231,10 +231,10 @@ module _ (parent name : List ℕ) (asked : List Message) (d : Child) (was : IsAs
     header o = headers_same m.header.correlation m.header.correlation m.header.requester parent m.header.provider name refl (sym owner ∙ o) to
 
     taken_owner : taken.rec.owner ≡ row.owner
-    taken_owner = (moves_if_later side (requested m.body m.header.correlation row) now row).owner
+    taken_owner = (moves_if_later side (requested now m.body m.header.correlation row) now row).owner
 
     taken_id : taken.rec.id ≡ row.id
-    taken_id = (moves_if_later side (requested m.body m.header.correlation row) now row).id
+    taken_id = (moves_if_later side (requested now m.body m.header.correlation row) now row).id
 
     after_owner : t.after.owner ≡ row.owner
     after_owner = (course_after taken.rec t.after t.said t.course).later.owner ∙ taken_owner
@@ -319,17 +319,17 @@ module _ (parent name : List ℕ) (asked : List Message) (d : Child) (was : IsAs
 
   ---- Any entry
 
-  ends_here : (m : Message) (n : ℕ) → IsAbout name m n d → (id : ℕ) → m.body ≡ Body.Terminate id → (record_at n d.records).id ≡ id
+  ends_here : (now : ℕ) (m : Message) (n : ℕ) → IsAbout now name m n d → (id : ℕ) → m.body ≡ Body.Terminate id → (record_at n d.records).id ≡ id
   unfolding connection_of
-  ends_here m n a id e = a.its_id ∙ same_id_of a.id id (sym a.names ∙ ap connection_of e)
+  ends_here now m n a id e = a.its_id ∙ same_id_of a.id id (sym a.names ∙ ap connection_of e)
 
   pub serving_asked : (input : Input) (records : List Record) (seen : List Header) (out : List Message) → ((m : Message) → input ≡ Input.Got m → is_request m.body ≡ true → m.header.requester ≡ parent → Contains asked m) →
       Serves name input d records seen out → IsAskedFor parent name asked (goes_on d records seen out)
   serving_asked input records seen out mine (Serves.acts e v) = subst (λ hs. IsAskedFor parent name asked (goes_on d records hs out)) (sym e) (courses_asked records out v)
   serving_asked input records seen out mine (Serves.leaves m w k r o) = subst (λ rs. IsAskedFor parent name asked (goes_on d rs seen out)) (sym r) (same_asked seen out (nothing_confirms out o))
-  serving_asked input records seen out mine (Serves.refuses m error w v r o) = subst (λ rs. IsAskedFor parent name asked (goes_on d rs seen out)) (sym r) (same_asked seen out (error_confirms out m error o))
+  serving_asked input records seen out mine (Serves.refuses m error now w v r o) = subst (λ rs. IsAskedFor parent name asked (goes_on d rs seen out)) (sym r) (same_asked seen out (error_confirms out m error o))
   serving_asked input records seen out mine (Serves.takes m n side now w a t) =
-      turn_asked side now m (λ r. mine m w.got w.request r) a.provider d.records n a.within records out t a.owner (ends_here m n a) was.checks was.ended seen
+      turn_asked side now m (λ r. mine m w.got w.request r) a.provider d.records n a.within records out t a.owner (ends_here now m n a) was.checks was.ended seen
   serving_asked input records seen out mine (Serves.opens m id s source dest side now w b t) =
       turn_asked side now m (λ r. mine m w.got w.request r) b.provider (d.records ++ new ∷ []) (length d.records) (omega (arith, length-append d.records (new ∷ []))) records out t
       (ap (λ (z : Record). z.owner) at_last) (λ i e. absurd (no_terminate i (sym b.body ∙ e))) (λ k. checked k (cases_eq k (length d.records))) (λ k. dead k (cases_eq k (length d.records))) seen

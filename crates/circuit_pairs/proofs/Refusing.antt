@@ -108,9 +108,9 @@ unfolding lives lifecycle_step lifecycle_event is_error tally
 terminate_errors k c now r = grind arith
 
 -- a request that is taken isn't answered by an error at once
-taken_errors : (side : Side) (b : Body) (c now : ℕ) (r : Record) → tally error_in (moves_if side (requested b c r) now r).out ≡ 0
+taken_errors : (side : Side) (b : Body) (c now : ℕ) (r : Record) → tally error_in (moves_if side (requested now b c r) now r).out ≡ 0
 unfolding requested moves tally
-taken_errors side (Body.Reserve q) c now r = by_criteria (asked_criteria q r.committed)
+taken_errors side (Body.Reserve q) c now r = by_criteria (asked_criteria now q r.committed)
   where
     by_criteria : (o : Option Criteria) → tally error_in (moves_if side (reserve_move c o) now r).out ≡ 0
     by_criteria None = refl
@@ -125,9 +125,9 @@ taken_errors side _ c now r = refl
 ---- What is refused
 
 -- a record that has a row for an abort refuses it only where it doesn't live
-dead_abort : (r : Record) (id : ℕ) (error : ErrorName) → (r.rsm ≡ Rsm.ReserveHeld) ⊎ (r.rsm ≡ Rsm.ReserveFailed) ⊎ (r.rsm ≡ Rsm.ReserveTimeout) → record_refusal (Body.ReserveAbort id) r ≡ Some error → is_live r.lsm ≡ false
+dead_abort : (now : ℕ) (r : Record) (id : ℕ) (error : ErrorName) → (r.rsm ≡ Rsm.ReserveHeld) ⊎ (r.rsm ≡ Rsm.ReserveFailed) ⊎ (r.rsm ≡ Rsm.ReserveTimeout) → record_refusal now (Body.ReserveAbort id) r ≡ Some error → is_live r.lsm ≡ false
 unfolding has_row is_in_place modification_refusal reserve_step
-dead_abort r id error h e = by_life (is_live r.lsm) refl
+dead_abort now r id error h e = by_life (is_live r.lsm) refl
   where
     by_life : (b : Bool) → is_live r.lsm ≡ b → b ≡ false
     by_life false l = refl
@@ -211,7 +211,7 @@ module _ (parent name : List ℕ) (asked : List Message) (d : Child) (fair : IsF
       taken = taken_by side now m (record_at n rows)
 
       after_owner : t.after.owner ≡ row.owner
-      after_owner = (course_after taken.rec t.after t.said t.course).later.owner ∙ (moves_if_later side (requested m.body m.header.correlation row) now row).owner
+      after_owner = (course_after taken.rec t.after t.said t.course).later.owner ∙ (moves_if_later side (requested now m.body m.header.correlation row) now row).owner
 
       other : row.owner ≡ parent → (c ≡ m.header.correlation → ⊥) → owed c error_number taken.rec ≡ 0
       other w a =
@@ -245,10 +245,10 @@ module _ (parent name : List ℕ) (asked : List Message) (d : Child) (fair : IsF
           by_own p (inr h) = other p h
 
   -- the refusal of the abort itself
-  refused_dead : (m : Message) (error : ErrorName) → (m.header.requester ≡ parent → Contains asked m) → is_request m.body ≡ true → is_taken m.header d.seen ≡ false → IsRefused name m error d → may_abort x.before ≡ true → m.header ≡ header_of parent name c →
+  refused_dead : (now : ℕ) (m : Message) (error : ErrorName) → (m.header.requester ≡ parent → Contains asked m) → is_request m.body ≡ true → is_taken m.header d.seen ≡ false → IsRefused now name m error d → may_abort x.before ≡ true → m.header ≡ header_of parent name c →
       (id : ℕ) × (x.connection ≡ Some id) × IsTold parent name asked (IsTerminateOf id)
   unfolding record_of is_reservation
-  refused_dead m error mine q u why may h =
+  refused_dead now m error mine q u why may h =
       let fresh : is_taken (header_of parent name c) d.seen ≡ false = ap (λ z. is_taken z d.seen) (sym h) ∙ u in
       let s : IsAsked parent name c asked (IsSame Kind.ReserveAbort x.connection) = unseen c Kind.ReserveAbort req fresh in
       let r : m.header.requester ≡ parent = ap (λ (z : Header). z.requester) h in
@@ -257,14 +257,14 @@ module _ (parent name : List ℕ) (asked : List Message) (d : Child) (fair : IsF
       let known : x.connection ≡ Some b.0 = sym s.is.1 ∙ sym (ap (λ (z : Message). connection_of z.body) same) ∙ b.2 in
       let at = mate_placed parent name x place d fair mate b.0 known in
       let seat = mate.seated.known b.0 known in
-      let refusal : record_refusal m.body (record_at at.0 d.records) ≡ Some error =
+      let refusal : record_refusal now m.body (record_at at.0 d.records) ≡ Some error =
       why at.0 b.0 (ap (λ (z : Header). z.provider) h) b.2 (subst (λ p. place_of b.0 p d.records ≡ Some at.0) (sym r) at.2)
       in
       let here : record_of place d.records ≡ record_at at.0 d.records = ap (λ w. record_of w d.records) at.1 in
       let calm = (unseen_view c Kind.ReserveAbort x (side_of parent name place d) mate.linked req fresh).calm in
       let stands = gives_back x.before (back x) (record_of place d.records) may calm.quiet.rests in
       let dead : is_live (record_at at.0 d.records).lsm ≡ false =
-      dead_abort (record_at at.0 d.records) b.0 error (subst (λ (z : Record). (z.rsm ≡ Rsm.ReserveHeld) ⊎ (z.rsm ≡ Rsm.ReserveFailed) ⊎ (z.rsm ≡ Rsm.ReserveTimeout)) here stands) (sym (ap (λ z. record_refusal z (record_at at.0 d.records)) b.1) ∙ refusal)
+      dead_abort now (record_at at.0 d.records) b.0 error (subst (λ (z : Record). (z.rsm ≡ Rsm.ReserveHeld) ⊎ (z.rsm ≡ Rsm.ReserveFailed) ⊎ (z.rsm ≡ Rsm.ReserveTimeout)) here stands) (sym (ap (λ z. record_refusal now z (record_at at.0 d.records)) b.1) ∙ refusal)
       in
       let id : (record_at at.0 d.records).id ≡ b.0 = ap (λ z. (record_at z d.records).id) (same_some at.0 seat.0 (sym at.1 ∙ seat.1)) ∙ seat.2 in
       (b.0, known, subst (λ z. IsTold parent name asked (IsTerminateOf z)) id (was.ended at.0 ((mate.seated.seated at.0 at.1).1) dead))
@@ -281,7 +281,7 @@ module _ (parent name : List ℕ) (asked : List Message) (d : Child) (fair : IsF
       let (n, w, j) = v.only parent c (Body.Error o e) i in
       absurd (says_none (record_at n d.records) (record_at n records) (v.said n) o e (v.each n) (none_owed n w) j)
   serving_refuses input records seen out mine (Serves.leaves m w k r q) may o e i = absurd (not_there (about (header_of parent name c) out) (Body.Error o e) (q (header_of parent name c)) i)
-  serving_refuses input records seen out mine (Serves.refuses m error w v r q) may o e i = refused_dead m error (λ p. mine m w.got w.request p) w.request w.untaken v may (error_there m error out (Body.Error o e) q i)
+  serving_refuses input records seen out mine (Serves.refuses m error now w v r q) may o e i = refused_dead now m error (λ p. mine m w.got w.request p) w.request w.untaken v may (error_there m error out (Body.Error o e) q i)
   serving_refuses input records seen out mine (Serves.takes m n side now w a t) may o e i =
       absurd
       (turn_none side now m d.records n records out t (λ p. mine m w.got w.request p) w.request a.owner (none_owed n)

@@ -81,7 +81,7 @@ reserve_kind q x = refl
 reserve_connection : (q : ReserveAsk) (x : ChildConnection) → connection_of (reserve_of q x) ≡ x.connection
 reserve_connection q x = by_known x.connection refl
   where
-    by_known : (o : Option ℕ) → x.connection ≡ o → connection_of (Body.Reserve (reserve_for (service_if o x) q.version q.start q.end q.capacity x)) ≡ x.connection
+    by_known : (o : Option ℕ) → x.connection ≡ o → connection_of (Body.Reserve (reserve_for (service_if o q.directionality x) q.version q.start q.end q.capacity x)) ≡ x.connection
     by_known None e = first_names _ q.version q.start q.end q.capacity x ∙ sym e
     by_known (Some id) e = modification_names q.version q.start q.end q.capacity x
 

@@ -46,7 +46,7 @@ request_kind x s c k (Link.asked d l r' p a y) r = ap is_reservation (same_kind 
 pub seen_fewer : (name : List ℕ) (input : Input) (d : Child) (records : List Record) (seen : List Header) (out : List Message) → Serves name input d records seen out → (h : Header) → is_taken h seen ≡ false → is_taken h d.seen ≡ false
 seen_fewer name input d records seen out (Serves.acts e v) h u = sym (ap (is_taken h) e) ∙ u
 seen_fewer name input d records seen out (Serves.leaves m w k r o) h u = taken_before h m.header d.seen w.untaken (sym (ap (is_taken h) w.counted) ∙ u)
-seen_fewer name input d records seen out (Serves.refuses m error w v r o) h u = taken_before h m.header d.seen w.untaken (sym (ap (is_taken h) w.counted) ∙ u)
+seen_fewer name input d records seen out (Serves.refuses m error now w v r o) h u = taken_before h m.header d.seen w.untaken (sym (ap (is_taken h) w.counted) ∙ u)
 seen_fewer name input d records seen out (Serves.takes m n side now w a t) h u = taken_before h m.header d.seen w.untaken (sym (ap (is_taken h) w.counted) ∙ u)
 seen_fewer name input d records seen out (Serves.opens m id s source dest side now w b t) h u = taken_before h m.header d.seen w.untaken (sym (ap (is_taken h) w.counted) ∙ u)
 

@@ -80,12 +80,12 @@ other_beside side (Some (Move.Lifecycle move)) c now r h = lifecycle_beside move
 other_beside side (Some (Move.Reservation move)) c now r h = absurd h
 other_beside side (Some (Move.Close agent)) c now r h = absurd h
 
-requested_other : (body : Body) (c : ℕ) (r : Record) → is_reservation_request body ≡ false → IsOther c (requested body c r)
+requested_other : (now : ℕ) (body : Body) (c : ℕ) (r : Record) → is_reservation_request body ≡ false → IsOther c (requested now body c r)
 unfolding requested is_reservation_request
-requested_other body c r e = grind (arith, e)
+requested_other now body c r e = grind (arith, e)
 
-pub request_beside : (side : Side) (body : Body) (c now : ℕ) (r : Record) → is_reservation_request body ≡ false → IsBeside c r (moves_if side (requested body c r) now r)
-request_beside side body c now r e = other_beside side (requested body c r) c now r (requested_other body c r e)
+pub request_beside : (side : Side) (body : Body) (c now : ℕ) (r : Record) → is_reservation_request body ≡ false → IsBeside c r (moves_if side (requested now body c r) now r)
+request_beside side body c now r e = other_beside side (requested now body c r) c now r (requested_other now body c r e)
 
 ---- What owes nothing says nothing
 

@@ -89,7 +89,7 @@ pub record AreTerminated : Type 0 where
   it_is_terminated_then : (moved (Move.Close (codes "p1")) 50 (terminate (unanswered Rsm.ReserveCommitting)).rec).rec.lsm ≡ Lsm.Terminated
   only_its_end_waits : first_machine (terminate (unanswered Rsm.ReserveChecking)).rec ≡ Some Machine.Lifecycle
   nothing_waits_then : first_machine (moved (Move.Close (codes "p1")) 50 (terminate (unanswered Rsm.ReserveChecking)).rec).rec ≡ None
-  a_second_terminate_is_refused : record_refusal (Body.Terminate 1) (terminate provisioned).rec ≡ Some ErrorName.Gone
+  a_second_terminate_is_refused : record_refusal 0 (Body.Terminate 1) (terminate provisioned).rec ≡ Some ErrorName.Gone
 
 are_terminated : AreTerminated
 unfolding reserves reserve_step event_of provisions provision_step provision_event lives lifecycle_step lifecycle_event reservation_closing provision_closing closes moves waits is_live is_provisioning is_terminating first_machine
@@ -121,9 +121,9 @@ pub record AreForced : Type 0 where
       (Body.ErrorEvent
       (record { connection = 1; event = FaultEvent.ForcedEnd; notification = 1; originating_connection = 1; originating_nsa = codes "p1"; time = 50 })) ∷ []
   it_is_told_once : (fail (fail committed).rec).out ≡ []
-  a_provision_is_refused_then : record_refusal (Body.Provision 1) (fail committed).rec ≡ Some ErrorName.InvalidTransition
-  a_release_is_taken_then : record_refusal (Body.Release 1) (fail provisioned).rec ≡ None
-  a_terminate_is_taken_then : record_refusal (Body.Terminate 1) (fail committed).rec ≡ None
+  a_provision_is_refused_then : record_refusal 0 (Body.Provision 1) (fail committed).rec ≡ Some ErrorName.InvalidTransition
+  a_release_is_taken_then : record_refusal 0 (Body.Release 1) (fail provisioned).rec ≡ None
+  a_terminate_is_taken_then : record_refusal 0 (Body.Terminate 1) (fail committed).rec ≡ None
 
 are_forced : AreForced
 unfolding lives lifecycle_step lifecycle_event moves is_live has_row is_in_place modification_refusal provision_step
@@ -155,8 +155,8 @@ pub record AreProvisioned : Type 0 where
   provisioned_it_is_confirmed_at_once : (provision provisioned).out ≡ reply 5 (Body.ProvisionConfirmed 1) ∷ []
   released_it_is_confirmed_at_once : (release committed).out ≡ reply 5 (Body.ReleaseConfirmed 1) ∷ []
   an_aggregator_asks_again : (moves Side.Aggregator (Move.Provision (ProvisionMove.Provision 5)) 50 provisioned).out ≡ []
-  nothing_to_provision_is_refused : record_refusal (Body.Provision 1) made ≡ Some ErrorName.InvalidTransition
-  a_provision_in_the_work_is_refused : record_refusal (Body.Provision 1) (provision committed).rec ≡ Some ErrorName.InvalidTransition
+  nothing_to_provision_is_refused : record_refusal 0 (Body.Provision 1) made ≡ Some ErrorName.InvalidTransition
+  a_provision_in_the_work_is_refused : record_refusal 0 (Body.Provision 1) (provision committed).rec ≡ Some ErrorName.InvalidTransition
 
 are_provisioned : AreProvisioned
 unfolding provisions provision_step provision_event moves is_live has_row is_in_place

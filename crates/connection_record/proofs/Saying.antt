@@ -203,17 +203,17 @@ abbrev IsRequested : Option Move → ℕ → Type 0
 IsRequested None c = Unit {0}
 IsRequested (Some move) c = (begun_of move ≡ Some c) × (draws_none move ≡ true)
 
-requested_begins : (body : Body) (c : ℕ) (r : Record) → IsRequested (requested body c r) c
+requested_begins : (now : ℕ) (body : Body) (c : ℕ) (r : Record) → IsRequested (requested now body c r) c
 unfolding requested
-requested_begins body c r = grind arith
+requested_begins now body c r = grind arith
 
 moves_if_speaks : (side : Side) (o : Option Move) (c now : ℕ) (r : Record) → IsRequested o c → Speaks (Some c) no_ids r (moves_if side o now r)
 moves_if_speaks side None c now r h = stays_speaks (Some c) no_ids r
 moves_if_speaks side (Some move) c now r h = subst (λ b. Speaks b no_ids r (moves side move now r)) h.0 (quiet_speaks side move now r h.1)
 
 -- what a request makes of a record
-pub takes_speaks : (side : Side) (body : Body) (c now : ℕ) (r : Record) → Speaks (Some c) no_ids r (moves_if side (requested body c r) now r)
-takes_speaks side body c now r = moves_if_speaks side (requested body c r) c now r (requested_begins body c r)
+pub takes_speaks : (side : Side) (body : Body) (c now : ℕ) (r : Record) → Speaks (Some c) no_ids r (moves_if side (requested now body c r) now r)
+takes_speaks side body c now r = moves_if_speaks side (requested now body c r) c now r (requested_begins now body c r)
 
 -- work begins nothing, and draws nothing
 abbrev IsWork : Option Move → Type 0

@@ -33,20 +33,20 @@ first_none : (a b : Option ErrorName) → or_else a b ≡ None → a ≡ None
 first_none None b h = refl
 first_none (Some x) b h = absurd (cc)
 
-pub unrefused_fits : (body : Body) (r : Record) → record_refusal body r ≡ None → IsFitFor body r
-unrefused_fits body r h = record { live = not_refused (is_live r.lsm) ErrorName.Gone gone; in_place = both.0; row = both.1; modification = second_none place (modification_refusal body r) later }
+pub unrefused_fits : (now : ℕ) (body : Body) (r : Record) → record_refusal now body r ≡ None → IsFitFor now body r
+unrefused_fits now body r h = record { live = not_refused (is_live r.lsm) ErrorName.Gone gone; in_place = both.0; row = both.1; modification = second_none place (modification_refusal now body r) later }
   where
     place : Option ErrorName
     place = refused_if (not (is_in_place body r && has_row body r)) ErrorName.InvalidTransition
 
     gone : refused_if (not (is_live r.lsm)) ErrorName.Gone ≡ None
-    gone = first_none (refused_if (not (is_live r.lsm)) ErrorName.Gone) (or_else place (modification_refusal body r)) h
+    gone = first_none (refused_if (not (is_live r.lsm)) ErrorName.Gone) (or_else place (modification_refusal now body r)) h
 
-    later : or_else place (modification_refusal body r) ≡ None
-    later = second_none (refused_if (not (is_live r.lsm)) ErrorName.Gone) (or_else place (modification_refusal body r)) h
+    later : or_else place (modification_refusal now body r) ≡ None
+    later = second_none (refused_if (not (is_live r.lsm)) ErrorName.Gone) (or_else place (modification_refusal now body r)) h
 
     both : (is_in_place body r ≡ true) × (has_row body r ≡ true)
-    both = both_true (is_in_place body r) (has_row body r) ErrorName.InvalidTransition (first_none place (modification_refusal body r) later)
+    both = both_true (is_in_place body r) (has_row body r) ErrorName.InvalidTransition (first_none place (modification_refusal now body r) later)
 
 pub reserve_row : (q : ReserveRequest) (r : Record) → has_row (Body.Reserve q) r ≡ true → r.rsm ≡ Rsm.ReserveStart
 unfolding has_row step
@@ -61,21 +61,21 @@ unfolding has_row step
 abort_row id r h = grind arith
 
 -- a reserve that isn't refused asks for criteria
-pub unrefused_criteria : (q : ReserveRequest) (r : Record) → modification_refusal (Body.Reserve q) r ≡ None → asked_criteria q r.committed ≡ None → ⊥
+pub unrefused_criteria : (now : ℕ) (q : ReserveRequest) (r : Record) → modification_refusal now (Body.Reserve q) r ≡ None → asked_criteria now q r.committed ≡ None → ⊥
 unfolding modification_refusal
-unrefused_criteria q r h e = grind (arith, h, e)
+unrefused_criteria now q r h e = grind (arith, h, e)
 
-pub first_criteria : (stp_of : List ℕ → Option ℕ) (q : ReserveRequest) → first_refusal stp_of q ≡ None → asked_criteria q [] ≡ None → ⊥
-first_criteria stp_of q h e = grind (arith, h, e)
+pub first_criteria : (now : ℕ) (stp_of : List ℕ → Option ℕ) (q : ReserveRequest) → first_refusal now stp_of q ≡ None → asked_criteria now q [] ≡ None → ⊥
+first_criteria now stp_of q h e = grind (arith, h, e)
 
 ---- At an agent
 
-pub unrefused_agent : (agent : List ℕ) (stp_of : List ℕ → Option ℕ) (records : List Record) (m : Message) → refusal agent stp_of records m ≡ None → m.header.provider ≡ agent
+pub unrefused_agent : (now : ℕ) (agent : List ℕ) (stp_of : List ℕ → Option ℕ) (records : List Record) (m : Message) → refusal now agent stp_of records m ≡ None → m.header.provider ≡ agent
 unfolding refusal
-unrefused_agent agent stp_of records m h =
+unrefused_agent now agent stp_of records m h =
     (bytes_eq-Decides m.header.provider agent).0
     (not_refused (bytes_eq m.header.provider agent) ErrorName.WrongProvider
-    (first_none (refused_if (not (bytes_eq m.header.provider agent)) ErrorName.WrongProvider) (about (connection_of m.body) m.header.requester stp_of records m.body) h))
+    (first_none (refused_if (not (bytes_eq m.header.provider agent)) ErrorName.WrongProvider) (about now (connection_of m.body) m.header.requester stp_of records m.body) h))
 
 -- some record
 abbrev nobody : Record
@@ -86,23 +86,23 @@ both_parts true true h = (refl, refl)
 both_parts true false h = absurd (cc)
 both_parts false b h = absurd (cc)
 
-pub unrefused_at : (agent : List ℕ) (stp_of : List ℕ → Option ℕ) (records : List Record) (m : Message) (id : ℕ) → connection_of m.body ≡ Some id →
-    refusal agent stp_of records m ≡ None → IsTakenAt m records id
+pub unrefused_at : (now : ℕ) (agent : List ℕ) (stp_of : List ℕ → Option ℕ) (records : List Record) (m : Message) (id : ℕ) → connection_of m.body ≡ Some id →
+    refusal now agent stp_of records m ≡ None → IsTakenAt now m records id
 unfolding refusal
-unrefused_at agent stp_of records m id c h = by_place (place_of id m.header.requester records) refl
+unrefused_at now agent stp_of records m id c h = by_place (place_of id m.header.requester records) refl
   where
-    about_none : about (connection_of m.body) m.header.requester stp_of records m.body ≡ None
+    about_none : about now (connection_of m.body) m.header.requester stp_of records m.body ≡ None
     about_none =
         second_none (refused_if (not (bytes_eq m.header.provider agent)) ErrorName.WrongProvider)
-        (about (connection_of m.body) m.header.requester stp_of records m.body) h
+        (about now (connection_of m.body) m.header.requester stp_of records m.body) h
 
-    named_none : named_refusal (record_for id m.header.requester records) m.body ≡ None
-    named_none = sym (ap (λ o. about o m.header.requester stp_of records m.body) c) ∙ about_none
+    named_none : named_refusal now (record_for id m.header.requester records) m.body ≡ None
+    named_none = sym (ap (λ o. about now o m.header.requester stp_of records m.body) c) ∙ about_none
 
-    by_place : (o : Option ℕ) → place_of id m.header.requester records ≡ o → IsTakenAt m records id
+    by_place : (o : Option ℕ) → place_of id m.header.requester records ≡ o → IsTakenAt now m records id
     by_place None e =
         absurd
-        (let clash : Some ErrorName.Nonexistent ≡ None = sym (ap (λ p. named_refusal (option_and_then (λ n. slice_get records n) p) m.body) e) ∙ named_none in cc)
+        (let clash : Some ErrorName.Nonexistent ≡ None = sym (ap (λ p. named_refusal now (option_and_then (λ n. slice_get records n) p) m.body) e) ∙ named_none in cc)
     by_place (Some n) e =
         let found = position-Some (λ r. eqb id r.id && bytes_eq m.header.requester r.owner) records n nobody e in
         let row : Record = get_or records n nobody in
@@ -115,5 +115,5 @@ unrefused_at agent stp_of records m id c h = by_place (place_of id m.header.requ
           there = there;
           named = sym (eqb-true id row.id parts.0);
           owner = sym ((bytes_eq-Decides m.header.requester row.owner).0 parts.1);
-          unrefused = sym (ap (λ p. named_refusal (option_and_then (λ n. slice_get records n) p) m.body) e ∙ ap (λ x. named_refusal x m.body) there) ∙ named_none;
+          unrefused = sym (ap (λ p. named_refusal now (option_and_then (λ n. slice_get records n) p) m.body) e ∙ ap (λ x. named_refusal now x m.body) there) ∙ named_none;
         }

@@ -69,15 +69,15 @@ abbrev pub reserve_move : ℕ → Option Criteria → Option Move
 reserve_move c None = None
 reserve_move c (Some criteria) = Some (Move.Reservation (ReservationMove.Reserve c criteria))
 
--- the move that a request is
-unfoldable pub requested : Body → ℕ → Record → Option Move
-requested (Body.Reserve q) c r = reserve_move c (asked_criteria q r.committed)
-requested (Body.ReserveCommit _) c r = Some (Move.Reservation (ReservationMove.Commit c))
-requested (Body.ReserveAbort _) c r = Some (Move.Reservation (ReservationMove.Abort c))
-requested (Body.Provision _) c r = Some (Move.Provision (ProvisionMove.Provision c))
-requested (Body.Release _) c r = Some (Move.Provision (ProvisionMove.Release c))
-requested (Body.Terminate _) c r = Some (Move.Lifecycle (LifecycleMove.Terminate c))
-requested _ c r = None
+-- the move that a request is, where it is taken at that second
+unfoldable pub requested : (now : ℕ) → Body → ℕ → Record → Option Move
+requested now (Body.Reserve q) c r = reserve_move c (asked_criteria now q r.committed)
+requested now (Body.ReserveCommit _) c r = Some (Move.Reservation (ReservationMove.Commit c))
+requested now (Body.ReserveAbort _) c r = Some (Move.Reservation (ReservationMove.Abort c))
+requested now (Body.Provision _) c r = Some (Move.Provision (ProvisionMove.Provision c))
+requested now (Body.Release _) c r = Some (Move.Provision (ProvisionMove.Release c))
+requested now (Body.Terminate _) c r = Some (Move.Lifecycle (LifecycleMove.Terminate c))
+requested now _ c r = None
 
 ---- Waiting work
 

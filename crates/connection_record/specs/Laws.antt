@@ -66,7 +66,7 @@ MovesSpeak = (side : Side) (move : Move) (now : ℕ) (r : Record) → Speaks (be
 
 -- a request begins nothing but itself
 abbrev pub RequestsSpeak : Type 0
-RequestsSpeak = (side : Side) (body : Body) (c now : ℕ) (r : Record) → Speaks (Some c) no_ids r (moves_if side (requested body c r) now r)
+RequestsSpeak = (side : Side) (body : Body) (c now : ℕ) (r : Record) → Speaks (Some c) no_ids r (moves_if side (requested now body c r) now r)
 
 abbrev pub WorksSpeak : Type 0
 WorksSpeak =
@@ -113,7 +113,7 @@ TellingActs = (before : Plane) (c now : ℕ) (r : Record) (x : Moved) → IsAct 
 -- a request to another machine leaves the reservation alone
 abbrev pub RequestsLeave : Type 0
 RequestsLeave =
-    (side : Side) (body : Body) (c now : ℕ) (r : Record) → is_reservation_request body ≡ false → IsBeside c r (moves_if side (requested body c r) now r)
+    (side : Side) (body : Body) (c now : ℕ) (r : Record) → is_reservation_request body ≡ false → IsBeside c r (moves_if side (requested now body c r) now r)
 
 -- what owes nothing under a correlation, and begins nothing there, answers nothing under it
 abbrev pub OwingIsSaying : Type 0
@@ -127,23 +127,23 @@ CoursesKeep = (r q : Record) (out : List Reply) → Course r q out → IsAfter r
 ---- Refusals
 
 abbrev pub UnrefusedFits : Type 0
-UnrefusedFits = (body : Body) (r : Record) → record_refusal body r ≡ None → IsFitFor body r
+UnrefusedFits = (now : ℕ) (body : Body) (r : Record) → record_refusal now body r ≡ None → IsFitFor now body r
 
 -- a reserve that isn't refused asks for criteria
 abbrev pub ModificationAsks : Type 0
-ModificationAsks = (q : ReserveRequest) (r : Record) → modification_refusal (Body.Reserve q) r ≡ None → asked_criteria q r.committed ≡ None → ⊥
+ModificationAsks = (now : ℕ) (q : ReserveRequest) (r : Record) → modification_refusal now (Body.Reserve q) r ≡ None → asked_criteria now q r.committed ≡ None → ⊥
 
 abbrev pub FirstAsks : Type 0
-FirstAsks = (stp_of : List ℕ → Option ℕ) (q : ReserveRequest) → first_refusal stp_of q ≡ None → asked_criteria q [] ≡ None → ⊥
+FirstAsks = (now : ℕ) (stp_of : List ℕ → Option ℕ) (q : ReserveRequest) → first_refusal now stp_of q ≡ None → asked_criteria now q [] ≡ None → ⊥
 
 abbrev pub UnrefusedNamesAgent : Type 0
 UnrefusedNamesAgent =
-    (agent : List ℕ) (stp_of : List ℕ → Option ℕ) (records : List Record) (m : Message) → refusal agent stp_of records m ≡ None → m.header.provider ≡ agent
+    (now : ℕ) (agent : List ℕ) (stp_of : List ℕ → Option ℕ) (records : List Record) (m : Message) → refusal now agent stp_of records m ≡ None → m.header.provider ≡ agent
 
 abbrev pub UnrefusedIsTaken : Type 0
 UnrefusedIsTaken =
-    (agent : List ℕ) (stp_of : List ℕ → Option ℕ) (records : List Record) (m : Message) (id : ℕ) → connection_of m.body ≡ Some id →
-    refusal agent stp_of records m ≡ None → IsTakenAt m records id
+    (now : ℕ) (agent : List ℕ) (stp_of : List ℕ → Option ℕ) (records : List Record) (m : Message) (id : ℕ) → connection_of m.body ≡ Some id →
+    refusal now agent stp_of records m ≡ None → IsTakenAt now m records id
 
 ---- The written tables
 

@@ -10,6 +10,7 @@ use Rattle.nsi_primitive.specs.declared.message.Body.{Body}
 use Rattle.nsi_primitive.specs.declared.message.Cause.{Cause}
 use Rattle.nsi_primitive.specs.declared.message.Criteria.{Criteria}
 use Rattle.nsi_primitive.specs.declared.message.Exception.{Exception}
+use Rattle.nsi_primitive.specs.Messages.{start_at}
 use Rattle.nsi_primitive.specs.declared.message.ReserveRequest.{ReserveRequest}
 use Rattle.nsi_primitive.specs.declared.message.Service.{Service}
 use Rattle.reserve_machine.specs.declared.table.RsmEvent.{RsmEvent}
@@ -148,9 +149,9 @@ criteria_with None version mbps = None
 criteria_with (Some span) None mbps = None
 criteria_with (Some span) (Some version) mbps = Some (record { version = version; interval = span; capacity = mbps })
 
--- what a reserve asks, where its schedule and its version have a form
-abbrev pub asked_criteria : ReserveRequest → List Criteria → Option Criteria
-asked_criteria q committed = criteria_with (span_of q.start q.end) (asked_version q.version (last committed)) q.capacity
+-- what a reserve that is taken at a second asks, where its schedule and its version have a form
+abbrev pub asked_criteria : (now : ℕ) → ReserveRequest → List Criteria → Option Criteria
+asked_criteria now q committed = criteria_with (span_of (start_at now q) q.end) (asked_version q.version (last committed)) q.capacity
 
 ---- Time
 

@@ -1,7 +1,7 @@
 -- Which requests are refused, and why: the first that applies.
 use Rattle.std.specs.Prelude.{ℕ, Bool, true, false, not, List, Option, Some, None, ◌==◌, ◌&&◌, nat_le, is_some, is_none, bytes_eq, option_and_then, slice_get, position}
 use Rattle.nsi_base.specs.Range.{span_of}
-use Rattle.nsi_primitive.specs.Messages.{connection_of}
+use Rattle.nsi_primitive.specs.Messages.{connection_of, start_at}
 use Rattle.nsi_primitive.specs.declared.kind.Directionality.{Directionality}
 use Rattle.nsi_primitive.specs.declared.kind.ErrorName.{ErrorName}
 use Rattle.nsi_primitive.specs.declared.state.Lsm.{Lsm}
@@ -78,8 +78,9 @@ version_refusal (Some given) (Some c) = refused_if (nat_le given c.version) Erro
 version_refusal None (Some c) = refused_if (nat_le 2147483647 c.version) ErrorName.Version
 version_refusal given None = None
 
-abbrev pub schedule_refusal : ReserveRequest → Option ErrorName
-schedule_refusal q = refused_if (is_none (span_of q.start q.end)) ErrorName.Schedule
+-- a schedule without a second, where the reserve comes at that second
+abbrev pub schedule_refusal : (now : ℕ) → ReserveRequest → Option ErrorName
+schedule_refusal now q = refused_if (is_none (span_of (start_at now q) q.end)) ErrorName.Schedule
 
 abbrev pub both : Option ℕ → Option ℕ → Option (ℕ × ℕ)
 both None dest = None
@@ -91,40 +92,40 @@ abbrev pub points_of : (List ℕ → Option ℕ) → ReserveRequest → Option (
 points_of stp_of q = both (option_and_then stp_of q.source) (option_and_then stp_of q.dest)
 
 -- a first reserve, which names no connection
-abbrev pub first_refusal : (List ℕ → Option ℕ) → ReserveRequest → Option ErrorName
-first_refusal stp_of q = or_else (schedule_refusal q) (refused_if (is_none (points_of stp_of q)) ErrorName.UnknownStp)
+abbrev pub first_refusal : (now : ℕ) → (List ℕ → Option ℕ) → ReserveRequest → Option ErrorName
+first_refusal now stp_of q = or_else (schedule_refusal now q) (refused_if (is_none (points_of stp_of q)) ErrorName.UnknownStp)
 
 -- a request without a connection
-unfoldable pub unnamed_refusal : Body → (List ℕ → Option ℕ) → Option ErrorName
-unnamed_refusal (Body.Reserve q) stp_of = first_refusal stp_of q
-unnamed_refusal _ stp_of = None
+unfoldable pub unnamed_refusal : (now : ℕ) → Body → (List ℕ → Option ℕ) → Option ErrorName
+unnamed_refusal now (Body.Reserve q) stp_of = first_refusal now stp_of q
+unnamed_refusal now _ stp_of = None
 
 -- a modification, after all that is asked of every request
-unfoldable pub modification_refusal : Body → Record → Option ErrorName
-modification_refusal (Body.Reserve q) r =
-    or_else (refused_if (not (keeps_service q r)) ErrorName.Payload) (or_else (schedule_refusal q) (version_refusal q.version (last r.committed)))
-modification_refusal _ r = None
+unfoldable pub modification_refusal : (now : ℕ) → Body → Record → Option ErrorName
+modification_refusal now (Body.Reserve q) r =
+    or_else (refused_if (not (keeps_service q r)) ErrorName.Payload) (or_else (schedule_refusal now q) (version_refusal q.version (last r.committed)))
+modification_refusal now _ r = None
 
 -- a request about a record
-abbrev pub record_refusal : Body → Record → Option ErrorName
-record_refusal body r =
+abbrev pub record_refusal : (now : ℕ) → Body → Record → Option ErrorName
+record_refusal now body r =
     or_else (refused_if (not (is_live r.lsm)) ErrorName.Gone)
-    (or_else (refused_if (not (is_in_place body r && has_row body r)) ErrorName.InvalidTransition) (modification_refusal body r))
+    (or_else (refused_if (not (is_in_place body r && has_row body r)) ErrorName.InvalidTransition) (modification_refusal now body r))
 
 -- the record has to be there, and the owner's
-abbrev pub named_refusal : Option Record → Body → Option ErrorName
-named_refusal None body = Some ErrorName.Nonexistent
-named_refusal (Some r) body = record_refusal body r
+abbrev pub named_refusal : (now : ℕ) → Option Record → Body → Option ErrorName
+named_refusal now None body = Some ErrorName.Nonexistent
+named_refusal now (Some r) body = record_refusal now body r
 
 abbrev pub record_for : ℕ → List ℕ → List Record → Option Record
 record_for id owner records = option_and_then (λ n. slice_get records n) (place_of id owner records)
 
-abbrev pub about : Option ℕ → List ℕ → (List ℕ → Option ℕ) → List Record → Body → Option ErrorName
-about None owner stp_of records body = unnamed_refusal body stp_of
-about (Some id) owner stp_of records body = named_refusal (record_for id owner records) body
+abbrev pub about : (now : ℕ) → Option ℕ → List ℕ → (List ℕ → Option ℕ) → List Record → Body → Option ErrorName
+about now None owner stp_of records body = unnamed_refusal now body stp_of
+about now (Some id) owner stp_of records body = named_refusal now (record_for id owner records) body
 
--- why an agent refuses a request, or that it doesn't
-unfoldable pub refusal : List ℕ → (List ℕ → Option ℕ) → List Record → Message → Option ErrorName
-refusal agent stp_of records m =
+-- why an agent refuses a request that comes at a second, or that it doesn't
+unfoldable pub refusal : (now : ℕ) → List ℕ → (List ℕ → Option ℕ) → List Record → Message → Option ErrorName
+refusal now agent stp_of records m =
     or_else (refused_if (not (bytes_eq m.header.provider agent)) ErrorName.WrongProvider)
-    (about (connection_of m.body) m.header.requester stp_of records m.body)
+    (about now (connection_of m.body) m.header.requester stp_of records m.body)

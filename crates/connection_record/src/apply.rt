@@ -330,14 +330,14 @@ impl Record {
         }
     }
 
-    /// The move that a request is.
+    /// The move that a request is, where it is taken at that second.
     #[tactic(auto, unfolding(crate::specs::Applied::requested))]
-    pub fn requested(&self, body: &Body, correlation: Id) -> Option<Move>
-        ensures { result ≡ requested body.now correlation self.now }
+    pub fn requested(&self, body: &Body, correlation: Id, now: Second) -> Option<Move>
+        ensures { result ≡ requested now body.now correlation self.now }
     {
         match body {
             Body::Reserve(request) => {
-                let criteria = self.asked_criteria(request)?;
+                let criteria = self.asked_criteria(request, now)?;
                 Some(Move::Reservation(ReservationMove::Reserve {
                     correlation,
                     criteria,

@@ -300,11 +300,11 @@ impl Record {
         }))
     }
 
-    /// What a reserve asks, where its schedule and its version have a form.
-    pub(crate) fn asked_criteria(&self, request: &ReserveRequest) -> Option<Criteria>
-        ensures { result ≡ asked_criteria request.now self.now.committed }
+    /// What a reserve that is taken at a second asks, where its schedule and its version have a form.
+    pub(crate) fn asked_criteria(&self, request: &ReserveRequest, now: Second) -> Option<Criteria>
+        ensures { result ≡ asked_criteria now request.now self.now.committed }
     {
-        let interval = Interval::new(request.start, request.end)?;
+        let interval = Interval::new(request.start_at(now), request.end)?;
         let version = self.asked_version(request.version)?;
         Some(Criteria {
             version,

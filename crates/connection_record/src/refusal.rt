@@ -7,28 +7,28 @@ ghost use Rattle.connection_record.specs.Refusal.{has_row, is_in_place, agrees, 
 
 use crate::record::Record;
 use lifecycle_machine::{LsmEvent, step as life};
-use nsi_base::{Interval, Name, Version};
+use nsi_base::{Interval, Name, Second, Version};
 use nsi_primitive::{Body, Directionality, ErrorName, Lsm, ReserveRequest, Side};
 use provision_machine::{PsmEvent, step as provision};
 use reserve_machine::{RsmEvent, step};
 
-/// A schedule that has no second.
-pub fn schedule_refusal(request: &ReserveRequest) -> Option<ErrorName>
-    ensures refusal { result ≡ schedule_refusal request.now }
+/// A schedule that has no second. One without a start starts when it is taken.
+pub fn schedule_refusal(request: &ReserveRequest, now: Second) -> Option<ErrorName>
+    ensures refusal { result ≡ schedule_refusal now request.now }
     ensures plain { IfSome result (λ error. has_further_keys error ≡ false) }
 {
-    match Interval::new(request.start, request.end) {
+    match Interval::new(request.start_at(now), request.end) {
         Some(_) => None,
         None => Some(ErrorName::Schedule),
     }
 }
 
 impl Record {
-    /// Why a request about the connection is refused, by the first rule that applies: it has ended; the request has no
-    /// place in its state; a modification gives other points or another direction, a schedule without a second, or a
-    /// version that isn't larger than the last.
-    pub fn refusal(&self, body: &Body) -> Option<ErrorName>
-        ensures refusal { result ≡ record_refusal body.now self.now }
+    /// Why a request about the connection that comes at a second is refused, by the first rule that applies: it has
+    /// ended; the request has no place in its state; a modification gives other points or another direction, a schedule
+    /// without a second, or a version that isn't larger than the last.
+    pub fn refusal(&self, body: &Body, now: Second) -> Option<ErrorName>
+        ensures refusal { result ≡ record_refusal now body.now self.now }
         ensures plain { IfSome result (λ error. has_further_keys error ≡ false) }
     {
         if !self.is_live() {
@@ -37,7 +37,7 @@ impl Record {
         if !(self.is_in_place(body) && self.has_row(body)) {
             return Some(ErrorName::InvalidTransition);
         }
-        self.modification_refusal(body)
+        self.modification_refusal(body, now)
     }
 
     #[tactic(auto, unfolding(crate::specs::Refusal::has_row))]
@@ -77,8 +77,8 @@ impl Record {
     }
 
     #[tactic(auto, unfolding(crate::specs::Refusal::modification_refusal))]
-    fn modification_refusal(&self, body: &Body) -> Option<ErrorName>
-        ensures refusal { result ≡ modification_refusal body.now self.now }
+    fn modification_refusal(&self, body: &Body, now: Second) -> Option<ErrorName>
+        ensures refusal { result ≡ modification_refusal now body.now self.now }
         ensures plain { IfSome result (λ error. has_further_keys error ≡ false) }
     {
         let Body::Reserve(request) = body else {
@@ -87,7 +87,7 @@ impl Record {
         if !self.keeps_service(request) {
             return Some(ErrorName::Payload);
         }
-        if let Some(error) = schedule_refusal(request) {
+        if let Some(error) = schedule_refusal(request, now) {
             return Some(error);
         }
         self.version_refusal(request.version)

@@ -90,10 +90,10 @@ module _ (es : List Entry) (out : List Message) where
 
   -- a reserve: a first one between the view's points, or a modification of the connection that it knows
   reserve_is : (o : Option ℕ) (q : ReserveAsk) (parent : List ℕ) (c : ℕ) (x : ChildConnection) → x.connection ≡ o → IsKnowing es out x →
-      Contains out (to_child parent c x (Body.Reserve (reserve_for (service_if o x) q.version q.start q.end q.capacity x))) → IsAttempted es out x.child x.source x.dest c
+      Contains out (to_child parent c x (Body.Reserve (reserve_for (service_if o q.directionality x) q.version q.start q.end q.capacity x))) → IsAttempted es out x.child x.source x.dest c
   unfolding reserve_for
   reserve_is None q parent c x e h there =
-      let r : ReserveRequest = first_reserve (service_between x) q.version q.start q.end q.capacity x in
+      let r : ReserveRequest = first_reserve (service_between q.directionality x) q.version q.start q.end q.capacity x in
       inl (record { message = to_child parent c x (Body.Reserve r); there = there; to = refl; under = refl; reserve = r; body = refl; is = record { unnamed = refl; points = record { source = refl; dest = refl } } })
   reserve_is (Some id) q parent c x e h there =
       let r : ReserveRequest = modification x.connection q.version q.start q.end q.capacity in

@@ -100,7 +100,7 @@ module _ (m : Message) (q : ReserveRequest) (body : m.body ≡ Body.Reserve q) (
   served : (s : AgentState) → Pointed setting.stp_of s.base.records (serves (is_query m.body) setting s m).state.base.records
   served s =
       subst (λ (b : Bool). Pointed setting.stp_of s.base.records (serves b setting s m).state.base.records) (sym (ap is_query body))
-      (answered s (refusal setting.agent.name setting.stp_of s.base.records m))
+      (answered s (refusal s.base.now setting.agent.name setting.stp_of s.base.records m))
 
   received : (s : AgentState) (b : Bool) → Pointed setting.stp_of s.base.records (receives true b setting s m).state.base.records
   unfolding receives
@@ -124,7 +124,7 @@ by_serving : (stp_of : List ℕ → Option ℕ) (name : List ℕ) (input : Input
     ((m : Message) (q : ReserveRequest) → m.body ≡ Body.Reserve q → q.connection ≡ None → input ≡ Input.Got m → is_request m.body ≡ true → Pointed stp_of d.records new) → Pointed stp_of d.records new
 by_serving stp_of name input d new seen out (Serves.acts same courses) begun_by = Pointed.none courses.long
 by_serving stp_of name input d new seen out (Serves.leaves m is_new kind same silent) begun_by = Pointed.none (ap length same)
-by_serving stp_of name input d new seen out (Serves.refuses m error is_new refused same one_said) begun_by = Pointed.none (ap length same)
+by_serving stp_of name input d new seen out (Serves.refuses m error now is_new refused same one_said) begun_by = Pointed.none (ap length same)
 by_serving stp_of name input d new seen out (Serves.takes m n side now is_new about turn) begun_by = Pointed.none (ap length turn.records ∙ length-set d.records n turn.after)
 by_serving stp_of name input d new seen out (Serves.opens m id service source dest side now is_new first turn) begun_by = begun_by m first.reserve first.body first.unnamed is_new.got is_new.request
 

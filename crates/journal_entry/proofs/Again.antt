@@ -1,13 +1,15 @@
 -- What is written is read again.
-use Rattle.std.proofs.Common.{◌≡◌, ℕ, zero, suc, ◌+◌, ◌-◌, ◌^◌, ◌<◌, ◌≤◌, cond, List, [], ◌∷◌, ◌++◌, length, take, get_or, Some, None, option_map, Ok, refl, sym, ap, ◌∙◌, append_assoc, arith, All}
+use Rattle.std.proofs.Common.{true, ◌≡◌, ℕ, zero, suc, ◌+◌, ◌-◌, ◌^◌, ◌<◌, ◌≤◌, cond, List, [], ◌∷◌, ◌++◌, length, take, get_or, Some, None, option_map, Ok, refl, sym, ap, ◌∙◌, append_assoc, arith, All}
 use Rattle.std.specs.Int.{w32, w64, to_be_bytes}
 use Rattle.std.specs.List.{flat_map, AllByRecursion}
 use Rattle.std.proofs.lemmas.List.{length-append, append-nil, take_more, take_all}
 use Rattle.std.proofs.lemmas.List.Concat.{flat_map-append}
 use Rattle.std.proofs.lemmas.List.Elements.{All-same, All-push, recursion_from_All}
 use Rattle.std.proofs.lemmas.Slice.Eq.{bytes_eq-Decides}
+use Rattle.nsi_primitive.specs.declared.ask.Ask.{Ask}
 use Rattle.nsi_primitive.specs.declared.entry.Entry.{Entry}
 use Rattle.nsi_primitive.specs.declared.entry.Input.{Input}
+use Rattle.nsi_primitive.specs.declared.message.Message.{Message}
 use Rattle.nsi_primitive.specs.declared.message.Parcel.{Parcel}
 use Rattle.nsi_primitive.specs.declared.state.Machine.{Machine}
 use Rattle.ask_text.specs.Asks.{ask_text}
@@ -16,11 +18,11 @@ use Rattle.json_primitives.specs.Lines.{object_of}
 use Rattle.json_primitives.specs.Spelling.{spelling_in, parcel_spelling_in, parcel_spelling}
 use Rattle.nsi_base.specs.Options.{◌>>=◌}
 use Rattle.nsi_base.specs.Range.{greatest_second, greatest_record}
-use Rattle.journal_entry.specs.Forms.{times_of, form_byte, form_of}
+use Rattle.journal_entry.specs.Forms.{times_of, holds_ask, holds_message, form_byte, form_of}
 use Rattle.journal_entry.specs.declared.form.Form.{Form}
 use Rattle.journal_entry.specs.Fields.{number_at, bounded_at, text_at, text_field}
-use Rattle.journal_entry.specs.Lines.{what_is_read, as_spelled, parcel_in, message_in, ack_in}
-use Rattle.journal_entry.specs.Entries.{machine_of, ask_at, got_at, machine_at, work_at, force_at, acked_at, input_at, entry_at}
+use Rattle.journal_entry.specs.Lines.{what_is_read, as_spelled, parcel_in, if_held as message_held, message_in, ack_in}
+use Rattle.journal_entry.specs.Entries.{machine_of, if_held as ask_held, held_ask_in, ask_at, got_at, machine_at, work_at, force_at, acked_at, input_at, entry_at}
 use Rattle.journal_entry.specs.Spelling.{machine_byte, tag_of, body_of, entry_spelling, entry_of, IsReadAgain, HasParts}
 use Rattle.journal_entry.specs.Payloads.{entries_in, payload_of, payload_spelling, not_empty, batch_of}
 use Rattle.journal_entry.proofs.Parts.{wide32, wide64, number_again, bounded_again, text_again}
@@ -32,6 +34,14 @@ parcel_again form p e =
     ap (λ r. what_is_read r >>= as_spelled form (parcel_spelling_in (times_of form) p)) e
     ∙ ap (λ t. cond t (Some p) None) ((bytes_eq-Decides (parcel_spelling_in (times_of form) p) (parcel_spelling_in (times_of form) p)).1 refl)
 
+message_again : (form : Form) (m : Message) → object_of (spelling_in (times_of form) m) ≡ Ok (Parcel.Message m) → holds_message form m ≡ true → message_in form (spelling_in (times_of form) m) ≡ Some m
+unfolding message_in
+message_again form m e h = rw (parcel_again form (Parcel.Message m) e) (ap (λ t. cond t (Some m) None) h)
+
+ask_again : (form : Form) (a : Ask) → ask_of (ask_text a) ≡ Some a → holds_ask form a ≡ true → held_ask_in form (ask_text a) ≡ Some a
+unfolding held_ask_in
+ask_again form a e h = ap (λ o. o >>= ask_held form) e ∙ ap (λ t. cond t (Some a) None) h
+
 -- ---- inputs
 
 machine_again : (m : Machine) → machine_of (machine_byte m) ≡ Some m
@@ -40,12 +50,12 @@ machine_again Machine.Provision = refl
 machine_again Machine.Lifecycle = refl
 
 input_again : (form : Form) (i : Input) (rest : List ℕ) → HasParts form i → input_at form (tag_of i) (body_of form i ++ rest) ≡ Some (i, rest)
-unfolding input_at ask_at got_at work_at force_at acked_at machine_at message_in ack_in
+unfolding input_at ask_at got_at work_at force_at acked_at machine_at ack_in
 input_again form (Input.Ask number ask) rest h =
-    ap (λ bytes. number_at w32 bytes >>= λ n. text_at n.1 >>= λ text. ask_of text.0 >>= λ a. Some (Input.Ask n.0 a, text.1)) (append_assoc (to_be_bytes w32 number) (text_field (ask_text ask)) rest)
-    ∙ rw (number_again w32 (2 ^ 32) wide32 number (text_field (ask_text ask) ++ rest) h.0, text_again (ask_text ask) rest h.2, h.1) refl
+    ap (λ bytes. number_at w32 bytes >>= λ n. text_at n.1 >>= λ text. held_ask_in form text.0 >>= λ a. Some (Input.Ask n.0 a, text.1)) (append_assoc (to_be_bytes w32 number) (text_field (ask_text ask)) rest)
+    ∙ rw (number_again w32 (2 ^ 32) wide32 number (text_field (ask_text ask) ++ rest) h.0, text_again (ask_text ask) rest h.2, ask_again form ask h.1 h.3) refl
 input_again form (Input.Got message) rest h =
-    rw (text_again (spelling_in (times_of form) message) rest h.1, parcel_again form (Parcel.Message message) h.0) refl
+    rw (text_again (spelling_in (times_of form) message) rest h.1, message_again form message h.0 h.2) refl
 input_again form (Input.Work number machine) rest h =
     ap (λ bytes. bounded_at w32 greatest_record bytes >>= λ n. machine_at n.1 >>= λ m. Some (Input.Work n.0 m.0, m.1)) (append_assoc (to_be_bytes w32 number) (machine_byte machine ∷ []) rest)
     ∙ rw (bounded_again w32 (2 ^ 32) wide32 greatest_record number (machine_byte machine ∷ rest) (omega (arith, h)) h, machine_again machine) refl

@@ -8,26 +8,31 @@ use Rattle.nsi_primitive.specs.Kinds.{kind_name}
 use Rattle.nsi_primitive.specs.declared.ask.What.{What}
 use Rattle.nsi_primitive.specs.declared.entry.Entry.{Entry}
 use Rattle.nsi_primitive.specs.declared.entry.Input.{Input}
+use Rattle.nsi_primitive.specs.declared.kind.Directionality.{Directionality}
 use Rattle.nsi_primitive.specs.declared.kind.Kind.{Kind}
 use Rattle.nsi_primitive.specs.declared.message.Body.{Body}
 use Rattle.nsi_primitive.specs.declared.message.Identity.{Identity}
 use Rattle.nsi_primitive.specs.declared.message.Message.{Message}
 use Rattle.nsi_primitive.specs.declared.state.Machine.{Machine}
+use Rattle.nsi_base.specs.Digits.{value_from, number_of}
 use Rattle.nsi_base.specs.Words.{words_of}
 use Rattle.ask_text.specs.Asks.{verb_of}
-use Rattle.ask_text.specs.Reading.{labelled_in, plain_named, by_verb, ask_of}
+use Rattle.ask_text.specs.Reading.{labelled_in, version_in, way_in, reserve_in, plain_named, by_verb, ask_of}
 use Rattle.json_fields.specs.Keys.{name_of}
 use Rattle.json_fields.specs.Objects.{with_fields}
 use Rattle.json_primitives.specs.Rows.{rows_in}
 use Rattle.json_primitives.specs.Spelling.{data_of, ack_data}
 use Rattle.journal_entry.specs.declared.form.Form.{Form}
 use Rattle.journal_entry.specs.Fields.{number_at, bounded_at, text_at}
-use Rattle.journal_entry.specs.Entries.{ask_at, machine_at, work_at, force_at, input_at, entry_at}
+use Rattle.journal_entry.specs.Entries.{held_ask_in, ask_at, machine_at, work_at, force_at, input_at, entry_at}
 use Rattle.journal_entry.specs.Spelling.{entry_spelling, entry_of}
 use Rattle.journal_entry.specs.Payloads.{entries_in, payload_of, batch_of}
 use Rattle.journal_entry.specs.Journals.{recovers}
 
 -- ---- inputs, at second 258
+
+abbrev at_7 : Input → Entry
+at_7 input = record { second = 7; input = input }
 
 abbrev at_258 : Input → Entry
 at_258 input = record { second = 258; input = input }
@@ -77,12 +82,27 @@ unfolding entry_at input_at force_at bounded_at number_at
 force_read = refl
 
 ask_read : entry_of Form.Two (1 ∷ 0 ∷ 0 ∷ 0 ∷ 0 ∷ 0 ∷ 0 ∷ 0 ∷ 7 ∷ 0 ∷ 0 ∷ 0 ∷ 1 ∷ 0 ∷ 0 ∷ 0 ∷ 0 ∷ 0 ∷ 0 ∷ 0 ∷ 9 ∷ codes "commit c1") ≡ Some (record { second = 7; input = Input.Ask 1 (record { label = Some (codes "c1"); what = What.Commit }) }, 30)
-unfolding entry_at input_at ask_at text_at bounded_at number_at ask_of words_of by_verb plain_named labelled_in verb_of
+unfolding entry_at input_at held_ask_in ask_at text_at bounded_at number_at ask_of words_of by_verb plain_named labelled_in verb_of
 ask_read = refl
+
+-- an ask for one way is an entry of the second form alone
+abbrev one_way_bytes : List ℕ
+one_way_bytes = 1 ∷ 0 ∷ 0 ∷ 0 ∷ 0 ∷ 0 ∷ 0 ∷ 0 ∷ 7 ∷ 0 ∷ 0 ∷ 0 ∷ 1 ∷ 0 ∷ 0 ∷ 0 ∷ 0 ∷ 0 ∷ 0 ∷ 0 ∷ 30 ∷ codes "reserve c1 A B 600 100 200 one"
+
+abbrev one_way : Entry
+one_way =
+    at_7 (Input.Ask 1 (record {
+      label = Some (codes "c1");
+      what = What.Reserve (record { source = codes "A"; dest = codes "B"; capacity = 600; start = 100; end = 200; version = None; directionality = Directionality.Unidirectional });
+    }))
+
+one_way_read : (entry_of Form.Two one_way_bytes ≡ Some (one_way, 51)) × (entry_of Form.One one_way_bytes ≡ None)
+unfolding entry_at input_at held_ask_in ask_at text_at bounded_at number_at ask_of words_of by_verb reserve_in version_in way_in value_from number_of verb_of digits
+one_way_read = (refl, refl)
 
 -- a blank behind an ask
 blank_behind : entry_of Form.Two (1 ∷ 0 ∷ 0 ∷ 0 ∷ 0 ∷ 0 ∷ 0 ∷ 0 ∷ 7 ∷ 0 ∷ 0 ∷ 0 ∷ 1 ∷ 0 ∷ 0 ∷ 0 ∷ 0 ∷ 0 ∷ 0 ∷ 0 ∷ 10 ∷ codes "commit c1 ") ≡ None
-unfolding entry_at input_at ask_at text_at bounded_at number_at ask_of words_of by_verb plain_named labelled_in
+unfolding entry_at input_at held_ask_in ask_at text_at bounded_at number_at ask_of words_of by_verb plain_named labelled_in
 blank_behind = refl
 
 -- the second behind the last one

@@ -26,11 +26,11 @@ use Rattle.nsi_base.specs.Options.{◌>>=◌}
 use Rattle.journal_entry.specs.declared.fault.EntryFault.{EntryFault}
 use Rattle.journal_entry.specs.declared.fault.PayloadFault.{PayloadFault}
 use Rattle.journal_entry.specs.Faults.{Gives, GivesAll}
-use Rattle.journal_entry.specs.Forms.{times_of, form_byte, form_of}
+use Rattle.journal_entry.specs.Forms.{times_of, holds_ask, holds_message, form_byte, form_of}
 use Rattle.journal_entry.specs.declared.form.Form.{Form}
 use Rattle.journal_entry.specs.Fields.{IsByte, number_at, bounded_at, text_at, text_field}
-use Rattle.journal_entry.specs.Lines.{what_is_read, as_spelled, parcel_in, if_message, if_ack, message_in, ack_in}
-use Rattle.journal_entry.specs.Entries.{machine_of, ask_at, got_at, machine_at, work_at, force_at, acked_at, input_at, entry_at}
+use Rattle.journal_entry.specs.Lines.{what_is_read, as_spelled, parcel_in, if_message, if_ack, if_held as message_held, message_in, ack_in}
+use Rattle.journal_entry.specs.Entries.{machine_of, if_held as ask_held, held_ask_in, ask_at, got_at, machine_at, work_at, force_at, acked_at, input_at, entry_at}
 use Rattle.journal_entry.specs.Spelling.{machine_byte, tag_of, body_of, entry_spelling}
 use Rattle.journal_entry.specs.Payloads.{onto, entries_in, payload_of, IsSpelledPayload}
 use Rattle.journal_entry.proofs.Parts.{IsBytes, IsBytes-rest, bind_some, test_some, some_is, Takes, Takes-then, wide32, wide64, number_takes, bounded_takes, text_takes}
@@ -60,11 +60,24 @@ from_ack : (p : Parcel) (i : Identity) → if_ack p ≡ Some i → p ≡ Parcel.
 from_ack (Parcel.Message n) i e = absurd cc
 from_ack (Parcel.Ack j) i e = ap (λ k. Parcel.Ack k) (some_is j i e)
 
+-- a test of what was read
+held_some : {A : Type 0} (b : Bool) (x y : A) → cond b (Some x) None ≡ Some y → x ≡ y
+held_some b x y e = (test_some b x y e).1
+
 message_is_spelled : (form : Form) (text : List ℕ) (m : Message) → message_in form text ≡ Some m → spelling_in (times_of form) m ≡ text
 unfolding message_in
 message_is_spelled form text m e =
-    let b = bind_some (parcel_in form text) if_message m e in
-    ap (parcel_spelling_in (times_of form)) (sym (from_message b.0 m b.2)) ∙ parcel_is_spelled form text b.0 b.1
+    let b = bind_some (parcel_in form text) (λ parcel. if_message parcel >>= λ message. message_held form message) m e in
+    let c = bind_some (if_message b.0) (λ message. message_held form message) m b.2 in
+    let same : c.0 ≡ m = held_some (holds_message form c.0) c.0 m c.2 in
+    let is : b.0 ≡ Parcel.Message m = from_message b.0 c.0 c.1 ∙ ap (λ k. Parcel.Message k) same in
+    ap (parcel_spelling_in (times_of form)) (sym is) ∙ parcel_is_spelled form text b.0 b.1
+
+held_ask_is_spelled : (form : Form) (text : List ℕ) (a : Ask) → held_ask_in form text ≡ Some a → ask_text a ≡ text
+unfolding held_ask_in
+held_ask_is_spelled form text a e =
+    let b = bind_some (ask_of text) (ask_held form) a e in
+    ask_is_spelled text a (b.1 ∙ ap (λ x. Some x) (held_some (holds_ask form b.0) b.0 a b.2))
 
 ack_is_spelled : (form : Form) (text : List ℕ) (i : Identity) → ack_in form text ≡ Some i → parcel_spelling (Parcel.Ack i) ≡ text
 unfolding ack_in
@@ -85,14 +98,14 @@ stands_in form bytes i rest x e t = subst (Stands form (tag_of i) bytes) (some_i
 spelled_field : (bytes text spelled rest : List ℕ) → IsBytes bytes → text_at bytes ≡ Some (text, rest) → spelled ≡ text → Takes bytes (text_field spelled) rest
 spelled_field bytes text spelled rest fits e s = subst (λ t. Takes bytes (text_field t) rest) (sym s) (text_takes bytes text rest fits e)
 
-ask_takes : (form : Form) (bytes : List ℕ) (x : Input × List ℕ) → IsBytes bytes → ask_at bytes ≡ Some x → Stands form 1 bytes x
+ask_takes : (form : Form) (bytes : List ℕ) (x : Input × List ℕ) → IsBytes bytes → ask_at form bytes ≡ Some x → Stands form 1 bytes x
 unfolding ask_at
 ask_takes form bytes x fits e =
-    let a = bind_some (number_at w32 bytes) (λ number. text_at number.1 >>= λ text. ask_of text.0 >>= λ ask. Some (Input.Ask number.0 ask, text.1)) x e in
-    let b = bind_some (text_at a.0.1) (λ text. ask_of text.0 >>= λ ask. Some (Input.Ask a.0.0 ask, text.1)) x a.2 in
-    let c = bind_some (ask_of b.0.0) (λ ask. Some (Input.Ask a.0.0 ask, b.0.1)) x b.2 in
+    let a = bind_some (number_at w32 bytes) (λ number. text_at number.1 >>= λ text. held_ask_in form text.0 >>= λ ask. Some (Input.Ask number.0 ask, text.1)) x e in
+    let b = bind_some (text_at a.0.1) (λ text. held_ask_in form text.0 >>= λ ask. Some (Input.Ask a.0.0 ask, text.1)) x a.2 in
+    let c = bind_some (held_ask_in form b.0.0) (λ ask. Some (Input.Ask a.0.0 ask, b.0.1)) x b.2 in
     let t0 = number_takes w32 (2 ^ 32) wide32 bytes a.0.0 a.0.1 fits a.1 in
-    let t1 = spelled_field a.0.1 b.0.0 (ask_text c.0) b.0.1 t0.rest_fits b.1 (ask_is_spelled b.0.0 c.0 c.1) in
+    let t1 = spelled_field a.0.1 b.0.0 (ask_text c.0) b.0.1 t0.rest_fits b.1 (held_ask_is_spelled form b.0.0 c.0 c.1) in
     stands_in form bytes (Input.Ask a.0.0 c.0) b.0.1 x c.2 (Takes-then bytes (to_be_bytes w32 a.0.0) a.0.1 (text_field (ask_text c.0)) b.0.1 t0 t1)
 
 got_takes : (form : Form) (bytes : List ℕ) (x : Input × List ℕ) → IsBytes bytes → got_at form bytes ≡ Some x → Stands form 2 bytes x
@@ -158,7 +171,7 @@ tick_takes form bytes x fits e = stands_in form bytes Input.Tick bytes x e (reco
 input_takes : (form : Form) (tag : ℕ) (bytes : List ℕ) (x : Input × List ℕ) → IsBytes bytes → input_at form tag bytes ≡ Some x → Stands form tag bytes x
 unfolding input_at
 input_takes form tag bytes x fits e =
-    by_tag tag 1 (ask_at bytes) _ x (λ t. Stands form t bytes x) e (ask_takes form bytes x fits)
+    by_tag tag 1 (ask_at form bytes) _ x (λ t. Stands form t bytes x) e (ask_takes form bytes x fits)
     (λ e2. by_tag tag 2 (got_at form bytes) _ x (λ t. Stands form t bytes x) e2 (got_takes form bytes x fits)
     (λ e3. by_tag tag 3 (work_at bytes) _ x (λ t. Stands form t bytes x) e3 (work_takes form bytes x fits)
     (λ e4. by_tag tag 4 (Some (Input.Tick, bytes)) _ x (λ t. Stands form t bytes x) e4 (tick_takes form bytes x fits)

@@ -3,12 +3,14 @@ use Rattle.std.specs.Prelude.{ℕ, List, [], ◌∷◌, ◌==◌, if◌then◌el
 use Rattle.std.specs.Int.{w32, w64}
 use Rattle.nsi_base.specs.Options.{◌>>=◌}
 use Rattle.nsi_base.specs.Range.{greatest_second, greatest_record}
+use Rattle.nsi_primitive.specs.declared.ask.Ask.{Ask}
 use Rattle.nsi_primitive.specs.declared.entry.Entry.{Entry}
 use Rattle.nsi_primitive.specs.declared.entry.Input.{Input}
 use Rattle.nsi_primitive.specs.declared.state.Machine.{Machine}
 use Rattle.ask_text.specs.Reading.{ask_of}
 use Rattle.journal_entry.specs.declared.form.Form.{Form}
 use Rattle.journal_entry.specs.Fields.{number_at, bounded_at, text_at}
+use Rattle.journal_entry.specs.Forms.{holds_ask}
 use Rattle.journal_entry.specs.Lines.{message_in, ack_in}
 
 abbrev pub machine_of : ℕ → Option Machine
@@ -18,12 +20,19 @@ machine_of b =
     else if b == 2 then Some Machine.Lifecycle
     else None
 
+-- the ask that a text is the one spelling of, where the form has one for it
+abbrev pub if_held : Form → Ask → Option Ask
+if_held form a = if holds_ask form a then Some a else None
+
+unfoldable pub held_ask_in : Form → List ℕ → Option Ask
+held_ask_in form text = ask_of text >>= if_held form
+
 -- each input from the bytes behind the second, and the bytes behind it
-unfoldable pub ask_at : List ℕ → Option (Input × List ℕ)
-ask_at bytes = do
+unfoldable pub ask_at : Form → List ℕ → Option (Input × List ℕ)
+ask_at form bytes = do
   number ← number_at w32 bytes
   text ← text_at number.1
-  ask ← ask_of text.0
+  ask ← held_ask_in form text.0
   Some (Input.Ask number.0 ask, text.1)
 
 unfoldable pub got_at : Form → List ℕ → Option (Input × List ℕ)
@@ -56,7 +65,7 @@ acked_at form bytes = do
 -- by the tag
 unfoldable pub input_at : Form → ℕ → List ℕ → Option (Input × List ℕ)
 input_at form tag bytes =
-    if tag == 1 then ask_at bytes
+    if tag == 1 then ask_at form bytes
     else if tag == 2 then got_at form bytes
     else if tag == 3 then work_at bytes
     else if tag == 4 then Some (Input.Tick, bytes)

@@ -8,7 +8,7 @@ use Rattle.json_fields.specs.declared.fault.LineFault.{LineFault}
 use Rattle.json_primitives.specs.Lines.{object_of}
 use Rattle.json_primitives.specs.Spelling.{parcel_spelling_in}
 use Rattle.nsi_base.specs.Options.{◌>>=◌}
-use Rattle.journal_entry.specs.Forms.{times_of}
+use Rattle.journal_entry.specs.Forms.{times_of, holds_message}
 use Rattle.journal_entry.specs.declared.form.Form.{Form}
 
 abbrev pub what_is_read : Result Parcel LineFault → Option Parcel
@@ -31,9 +31,15 @@ abbrev pub if_ack : Parcel → Option Identity
 if_ack (Parcel.Message message) = None
 if_ack (Parcel.Ack identity) = Some identity
 
+abbrev pub if_held : Form → Message → Option Message
+if_held form m = if holds_message form m then Some m else None
+
 -- the message, or the message that is acknowledged
 unfoldable pub message_in : Form → List ℕ → Option Message
-message_in form text = parcel_in form text >>= if_message
+message_in form text = do
+  parcel ← parcel_in form text
+  message ← if_message parcel
+  if_held form message
 
 unfoldable pub ack_in : Form → List ℕ → Option Identity
 ack_in form text = parcel_in form text >>= if_ack

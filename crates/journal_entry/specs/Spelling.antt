@@ -1,5 +1,5 @@
 -- How an entry is spelled.
-use Rattle.std.specs.Prelude.{◌≡◌, ◌≤◌, ◌<◌, ◌^◌, ℕ, ◌-◌, List, [], ◌∷◌, ◌++◌, length, Option, Some, option_map, Ok}
+use Rattle.std.specs.Prelude.{true, ◌≡◌, ◌≤◌, ◌<◌, ◌^◌, ℕ, ◌-◌, List, [], ◌∷◌, ◌++◌, length, Option, Some, option_map, Ok}
 use Rattle.std.specs.Int.{w32, w64, to_be_bytes}
 use Rattle.nsi_base.specs.Range.{greatest_record}
 use Rattle.nsi_primitive.specs.Ranges.{IsSpellableEntry}
@@ -11,7 +11,7 @@ use Rattle.ask_text.specs.Asks.{ask_text}
 use Rattle.ask_text.specs.Reading.{ask_of}
 use Rattle.json_primitives.specs.Lines.{object_of}
 use Rattle.json_primitives.specs.Spelling.{spelling_in, parcel_spelling}
-use Rattle.journal_entry.specs.Forms.{times_of}
+use Rattle.journal_entry.specs.Forms.{times_of, holds, holds_ask, holds_message}
 use Rattle.journal_entry.specs.declared.form.Form.{Form}
 use Rattle.journal_entry.specs.Fields.{text_field}
 use Rattle.journal_entry.specs.Entries.{entry_at}
@@ -48,9 +48,10 @@ entry_spelling form e = tag_of e.input ∷ (to_be_bytes w64 e.second ++ body_of 
 abbrev pub entry_of : Form → List ℕ → Option (Entry × ℕ)
 entry_of form bytes = option_map (λ x. (x.0, length bytes - length x.1)) (entry_at form bytes)
 
--- the entry has a spelling: it is one that the types hold, and each text's length fits its 8 bytes
+-- the entry has a spelling: it is one that the types hold and the form has, and each text's length fits its 8 bytes
 pub record HasSpelling (form : Form) (e : Entry) : Type 0 where
   pub spellable : IsSpellableEntry e
+  pub held : holds form e.input ≡ true
   pub short : length (entry_spelling form e) < 2 ^ 64
 
 -- what is written of the entry is read again, whatever follows it
@@ -59,8 +60,8 @@ IsReadAgain form e = (rest : List ℕ) → entry_at form (entry_spelling form e 
 
 -- what the types and the texts of an input say to that
 abbrev pub HasParts : Form → Input → Type 0
-HasParts form (Input.Ask number ask) = (number < 2 ^ 32) × (ask_of (ask_text ask) ≡ Some ask) × (length (ask_text ask) < 2 ^ 64)
-HasParts form (Input.Got message) = (object_of (spelling_in (times_of form) message) ≡ Ok (Parcel.Message message)) × (length (spelling_in (times_of form) message) < 2 ^ 64)
+HasParts form (Input.Ask number ask) = (number < 2 ^ 32) × (ask_of (ask_text ask) ≡ Some ask) × (length (ask_text ask) < 2 ^ 64) × (holds_ask form ask ≡ true)
+HasParts form (Input.Got message) = (object_of (spelling_in (times_of form) message) ≡ Ok (Parcel.Message message)) × (length (spelling_in (times_of form) message) < 2 ^ 64) × (holds_message form message ≡ true)
 HasParts form (Input.Work number machine) = number ≤ greatest_record
 HasParts form Input.Tick = Unit {0}
 HasParts form (Input.Force number) = number ≤ greatest_record

@@ -42,9 +42,14 @@ pub(crate) fn message_in(alloc: Global, form: Form, text: &[u8]) -> Result<Messa
     ensures gives { Gives (λ m. m) result (message_in form text.now) }
     ensures printable { IfOk result IsPrintable }
 {
-    match parcel_in(alloc, form, text)? {
-        Parcel::Message(message) => Ok(message),
-        Parcel::Ack(_) => Err(EntryFault::NotAnEntry),
+    let message = match parcel_in(alloc, form, text)? {
+        Parcel::Message(message) => message,
+        Parcel::Ack(_) => return Err(EntryFault::NotAnEntry),
+    };
+    if form.holds_message(&message) {
+        Ok(message)
+    } else {
+        Err(EntryFault::NotAnEntry)
     }
 }
 

@@ -4,7 +4,7 @@ ghost use Rattle.std.specs.Prelude.{◌≡◌, ◌≤◌, ◌<◌, ◌++◌, len
 ghost use Rattle.nsi_primitive.specs.Printable.{IsPrintableAsk, IsPrintableInput, IsPrintableEntry};
 ghost use Rattle.ask_text.specs.Reading.{ask_of};
 ghost use Rattle.journal_entry.specs.Faults.{Gives};
-ghost use Rattle.journal_entry.specs.Entries.{machine_of, ask_at, got_at, machine_at, work_at, force_at, acked_at, input_at, entry_at};
+ghost use Rattle.journal_entry.specs.Entries.{machine_of, held_ask_in, ask_at, got_at, machine_at, work_at, force_at, acked_at, input_at, entry_at};
 ghost use Rattle.journal_entry.specs.Spelling.{entry_spelling, entry_of};
 
 use crate::fault::EntryFault;
@@ -65,7 +65,7 @@ fn input_at(alloc: Global, form: Form, tag: u8, bytes: &[u8]) -> Result<(Input, 
     ensures printable { IfOk result (λ x. IsPrintableInput x.0) }
 {
     match tag {
-        1 => ask_at(alloc, bytes),
+        1 => ask_at(alloc, form, bytes),
         2 => got_at(alloc, form, bytes),
         3 => work_at(bytes),
         4 => Ok((Input::Tick, bytes)),
@@ -86,14 +86,27 @@ fn ask_in(alloc: Global, text: &[u8]) -> Result<Ask, EntryFault>
     }
 }
 
+#[tactic(auto, unfolding(crate::specs::Entries::held_ask_in))]
+fn held_ask_in(alloc: Global, form: Form, text: &[u8]) -> Result<Ask, EntryFault>
+    ensures gives { Gives (λ a. a) result (held_ask_in form text.now) }
+    ensures printable { IfOk result IsPrintableAsk }
+{
+    let ask = ask_in(alloc, text)?;
+    if form.holds_ask(&ask) {
+        Ok(ask)
+    } else {
+        Err(EntryFault::NotAnEntry)
+    }
+}
+
 #[tactic(auto, unfolding(crate::specs::Entries::ask_at))]
-fn ask_at(alloc: Global, bytes: &[u8]) -> Result<(Input, &[u8]), EntryFault>
-    ensures gives { Gives (λ x. (x.0, x.1.now)) result (ask_at bytes.now) }
+fn ask_at(alloc: Global, form: Form, bytes: &[u8]) -> Result<(Input, &[u8]), EntryFault>
+    ensures gives { Gives (λ x. (x.0, x.1.now)) result (ask_at form bytes.now) }
     ensures printable { IfOk result (λ x. IsPrintableInput x.0) }
 {
     let (number, rest) = u32_at(bytes)?;
     let (text, rest) = text_at(rest)?;
-    let ask = ask_in(alloc, text)?;
+    let ask = held_ask_in(alloc, form, text)?;
     Ok((Input::Ask { number, ask }, rest))
 }
 

@@ -20,7 +20,7 @@ use Rattle.json_fields.specs.declared.key.Key.{Key}
 use Rattle.json_fields.specs.declared.time_form.TimeForm.{TimeForm}
 use Rattle.json_fields.proofs.Members.{field_at, is_absent, are_apart, get_member-with_fields}
 use Rattle.json_fields.proofs.Again.{required_again, optional_again, absent_again, text_again, count_again, flag_again, directionality_again, kind_again}
-use Rattle.json_fields.proofs.Times.{in_form}
+use Rattle.json_fields.proofs.Times.{in_form, in_form_if}
 use Rattle.json_primitives.specs.Headers.{header_from}
 use Rattle.json_primitives.specs.Requests.{point_from, is_one_point, reserve_from}
 use Rattle.json_primitives.specs.Connected.{connected_from, about}
@@ -80,7 +80,7 @@ reserve_again form h r vh v p =
     let provider = required_again name_from Key.ProviderNsa d (words h.provider) h.provider (at form h r Key.ProviderNsa) vh.provider in
     let requester = required_again name_from Key.RequesterNsa d (words h.requester) h.requester (at form h r Key.RequesterNsa) vh.requester in
     let source = point_again r.connection Key.SourceStp d r.source (at form h r Key.SourceStp) v.source (source_given r.connection r.source r.dest p.complete) in
-    let start = required_again time_from Key.StartTime d (time_value form r.start) r.start (at form h r Key.StartTime) (in_form form r.start v.start) in
+    let start = optional_again time_from Key.StartTime d (time_value form) r.start (at form h r Key.StartTime) (in_form_if form r.start v.start) in
     let symmetric = optional_again flag_from Key.SymmetricPath d flag r.symmetric (at form h r Key.SymmetricPath) (flag_again r.symmetric) in
     let version = optional_again version_from Key.Version d digits r.version (at form h r Key.Version) v.version in
     let apart = apart_again r.source r.dest p.apart in

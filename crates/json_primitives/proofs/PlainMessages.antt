@@ -217,7 +217,7 @@ header_plain : (kind : Kind) (h : Header) → IsRangedHeader h → AllByRecursio
 header_plain kind h r = (id_plain h.correlation, (kind_plain kind, (name_plain h.provider r.provider, (name_plain h.requester r.requester, tt))))
 
 reserve_plain : (form : TimeForm) (x : ReserveRequest) → IsRangedReserve x → AllByRecursion IsPlainField (reserve_fields form x)
-reserve_plain form x r = (mbps_plain x.capacity r.capacity, (ids_plain x.connection, (texts_plain x.description r.description, (names_plain x.dest r.dest, (directions_plain x.directionality, (time_plain form x.end r.end, (texts_plain x.global r.global, (names_plain x.source r.source, (time_plain form x.start r.start, (flags_plain x.symmetric, (versions_plain x.version r.version, tt)))))))))))
+reserve_plain form x r = (mbps_plain x.capacity r.capacity, (ids_plain x.connection, (texts_plain x.description r.description, (names_plain x.dest r.dest, (directions_plain x.directionality, (time_plain form x.end r.end, (texts_plain x.global r.global, (names_plain x.source r.source, (times_plain form x.start r.start, (flags_plain x.symmetric, (versions_plain x.version r.version, tt)))))))))))
 
 confirmation_plain : (form : TimeForm) (x : ReserveConfirmation) → IsRangedConfirmation x → AllByRecursion IsPlainField (confirmation_fields form x)
 confirmation_plain form x r = (mbps_plain x.capacity r.capacity, (id_plain x.connection, (texts_plain x.description r.description, (name_plain x.dest r.dest, (direction_plain x.directionality, (time_plain form x.end r.end, (texts_plain x.global r.global, (name_plain x.source r.source, (time_plain form x.start r.start, (flags_plain x.symmetric, (version_plain x.version r.version, tt)))))))))))

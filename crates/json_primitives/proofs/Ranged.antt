@@ -80,7 +80,7 @@ reserve_back x r = record {
   dest = name_if x.dest r.dest;
   end = in_each_form x.end r.end;
   source = name_if x.source r.source;
-  start = in_each_form x.start r.start;
+  start = time_if x.start r.start;
   version = version_if x.version r.version;
 }
 

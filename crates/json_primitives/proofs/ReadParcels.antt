@@ -130,7 +130,7 @@ reserve_read d =
     then_with IsPrintable (IsShort 128) (optional (text_from 128) Key.GlobalReservationId d) _ (text_short 128 Key.GlobalReservationId d) (λ global global_short.
     then_any IsPrintable (header_from correlation d) _ (λ header.
     then_with IsPrintable (λ o. IfNone connection (IsSome o)) (point_from connection Key.SourceStp d) _ (point_given connection Key.SourceStp d) (λ source source_given.
-    then_any IsPrintable (required time_from Key.StartTime d) _ (λ start.
+    then_any IsPrintable (optional time_from Key.StartTime d) _ (λ start.
     then_any IsPrintable (optional flag_from Key.SymmetricPath d) _ (λ symmetric.
     then_any IsPrintable (optional version_from Key.Version d) _ (λ version.
     or_fault IsPrintable (is_one_point source dest) (LineFault.Bad Key.DestStp) _ (λ e.

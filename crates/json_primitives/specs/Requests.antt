@@ -39,7 +39,7 @@ reserve_from d = do
   global ← optional (text_from 128) Key.GlobalReservationId d
   header ← header_from correlation d
   source ← point_from connection Key.SourceStp d
-  start ← required time_from Key.StartTime d
+  start ← optional time_from Key.StartTime d
   symmetric ← optional flag_from Key.SymmetricPath d
   version ← optional version_from Key.Version d
   between source dest (record {

@@ -47,7 +47,7 @@ reserve_fields form r =
     ∷ (Key.EndTime, Some (time_value form r.end))
     ∷ (Key.GlobalReservationId, option_map words r.global)
     ∷ (Key.SourceStp, option_map words r.source)
-    ∷ (Key.StartTime, Some (time_value form r.start))
+    ∷ (Key.StartTime, option_map (time_value form) r.start)
     ∷ (Key.SymmetricPath, option_map flag r.symmetric)
     ∷ (Key.Version, option_map digits r.version)
     ∷ []

@@ -33,7 +33,7 @@ pub record IsValidReserve (r : ReserveRequest) : Type 0 where
   pub dest : IfSome r.dest (λ n. IsReadBack name_from (words n) n)
   pub end : IsReadInEachForm r.end
   pub source : IfSome r.source (λ n. IsReadBack name_from (words n) n)
-  pub start : IsReadInEachForm r.start
+  pub start : IfSome r.start IsReadInEachForm
   pub version : IfSome r.version (λ n. IsReadBack version_from (digits n) n)
 
 pub record IsValidConfirmation (r : ReserveConfirmation) : Type 0 where

@@ -20,7 +20,7 @@ order_kept =
     record {
       more = λ es fs r h. h;
       course = λ es r q out course h. (course_after r q out course).order h;
-      taken = λ es e m side now r got owner h. moves_if_in_order side (requested m.body m.header.correlation r) now r h;
+      taken = λ es e m side now r got owner h. moves_if_in_order side (requested now m.body m.header.correlation r) now r h;
       fresh = λ es id owner s source dest. fresh_in_order id owner s source dest;
       none = fresh_in_order 0 [] _ 0 0;
     }

@@ -114,9 +114,9 @@ abort_taken Rsm.ReserveChecking id d now c r s = owes_itself r (Body.ReserveAbor
 abort_taken Rsm.ReserveCommitting id d now c r s = owes_itself r (Body.ReserveAbort id) d c
 abort_taken Rsm.ReserveAborting id d now c r s = owes_itself r (Body.ReserveAbort id) d c
 
-pub taken_owes : (b : Body) (side : Side) (d now c : ℕ) (r : Record) → Owes r b d c (moves_if side (requested b d r) now r).rec
+pub taken_owes : (b : Body) (side : Side) (d now c : ℕ) (r : Record) → Owes r b d c (moves_if side (requested now b d r) now r).rec
 unfolding requested moves is_reservation_request
-taken_owes (Body.Reserve a) side d now c r = by (asked_criteria a r.committed)
+taken_owes (Body.Reserve a) side d now c r = by (asked_criteria now a r.committed)
   where
     by : (o : Option Criteria) → Owes r (Body.Reserve a) d c (moves_if side (reserve_move d o) now r).rec
     by None = owes_itself r (Body.Reserve a) d c
@@ -155,9 +155,9 @@ unfolding tally
 none_says c = refl
 
 -- no request is confirmed as a commit where it is taken
-pub taken_says : (b : Body) (side : Side) (d now c : ℕ) (r : Record) → tally (answers_as c confirming) (moves_if side (requested b d r) now r).out ≡ 0
+pub taken_says : (b : Body) (side : Side) (d now c : ℕ) (r : Record) → tally (answers_as c confirming) (moves_if side (requested now b d r) now r).out ≡ 0
 unfolding requested moves
-taken_says (Body.Reserve a) side d now c r = by (asked_criteria a r.committed)
+taken_says (Body.Reserve a) side d now c r = by (asked_criteria now a r.committed)
   where
     by : (o : Option Criteria) → tally (answers_as c confirming) (moves_if side (reserve_move d o) now r).out ≡ 0
     by None = none_says c

@@ -69,20 +69,20 @@ module _ (I : Type 0) (parent child : List ℕ) (xs : I → ChildConnection) (as
       subst (λ (o : Option ℕ). Link (xs i) (side_of parent child o d)) (s.1 ∙ ap (λ (z : ℕ). Some z) same) (pair.mates i).linked
 
   -- a commit that isn't refused by what it names is a view's own, which holds what the record does
-  own_commit : (c id n : ℕ) (i : I) → (xs i).reserve_request ≡ Some (sent c Kind.ReserveCommit) → is_taken (header_of parent child c) d.seen ≡ false → record_refusal (Body.ReserveCommit id) (record_at n d.records) ≡ None →
+  own_commit : (now c id n : ℕ) (i : I) → (xs i).reserve_request ≡ Some (sent c Kind.ReserveCommit) → is_taken (header_of parent child c) d.seen ≡ false → record_refusal now (Body.ReserveCommit id) (record_at n d.records) ≡ None →
       Link (xs i) (side_of parent child (Some n) d) → IsWaited I xs c
   unfolding record_of
-  own_commit c id n i waits new fine link =
+  own_commit now c id n i waits new fine link =
       let r : Record = record_at n d.records in
       let u : IsUnseen c Kind.ReserveCommit (xs i) (side_of parent child (Some n) d) = unseen_view c Kind.ReserveCommit (xs i) (side_of parent child (Some n) d) link waits new in
-      let held : r.rsm ≡ Rsm.ReserveHeld = commit_row id r (unrefused_fits (Body.ReserveCommit id) r fine).row in
+      let held : r.rsm ≡ Rsm.ReserveHeld = commit_row id r (unrefused_fits now (Body.ReserveCommit id) r fine).row in
       let v = held_version r (order n) held in
       record { view = i; version = v.0; waits = record { asked = waits; pending = held_pending (xs i) r held u.calm.quiet ∙ v.1 } }
 
   -- a commit that a record of the parent takes
-  commit_waits : (m : Message) (id n : ℕ) → Contains asked m → is_request m.body ≡ true → m.header.requester ≡ parent → is_taken m.header d.seen ≡ false → m.body ≡ Body.ReserveCommit id → IsAbout child m n d → IsWaited I xs m.header.correlation
+  commit_waits : (now : ℕ) (m : Message) (id n : ℕ) → Contains asked m → is_request m.body ≡ true → m.header.requester ≡ parent → is_taken m.header d.seen ≡ false → m.body ≡ Body.ReserveCommit id → IsAbout now child m n d → IsWaited I xs m.header.correlation
   unfolding is_reservation
-  commit_waits m id n there asks from new is about =
+  commit_waits now m id n there asks from new is about =
       let c : ℕ = m.header.correlation in
       let head : m.header ≡ header_of parent child c = headers_same c c m.header.requester parent m.header.provider child refl from about.provider in
       let untaken : is_taken (header_of parent child c) d.seen ≡ false = ap (λ (h : Header). is_taken h d.seen) (sym head) ∙ new in
@@ -95,7 +95,7 @@ module _ (I : Type 0) (parent child : List ℕ) (xs : I → ChildConnection) (as
       in
       let same : k ≡ Kind.ReserveCommit = sym s.is.0 ∙ (sym (ap (λ (z : Message). kind_of z.body) one) ∙ kind) in
       let knows : (xs i).connection ≡ Some about.id = sym s.is.1 ∙ (sym (ap (λ (z : Message). connection_of z.body) one) ∙ about.names) in
-      own_commit c id n i (waits ∙ ap (λ (z : Kind). Some (sent c z)) same) untaken (subst (λ (b : Body). record_refusal b (record_at n d.records) ≡ None) is about.unrefused)
+      own_commit now c id n i (waits ∙ ap (λ (z : Kind). Some (sent c z)) same) untaken (subst (λ (b : Body). record_refusal now b (record_at n d.records) ≡ None) is about.unrefused)
       (known_link i n about.id about.within about.its_id knows)
 
   -- each confirmation among what is said
@@ -120,7 +120,7 @@ module _ (I : Type 0) (parent child : List ℕ) (xs : I → ChildConnection) (as
     q = (taken_by side now m (record_at n rows)).rec
 
     taken_owner : q.owner ≡ r.owner
-    taken_owner = (moves_if_later side (requested m.body m.header.correlation r) now r).owner
+    taken_owner = (moves_if_later side (requested now m.body m.header.correlation r) now r).owner
 
     after_owner : turn.after.owner ≡ q.owner
     after_owner = (course_after q turn.after turn.said turn.course).later.owner
@@ -167,14 +167,14 @@ module _ (I : Type 0) (parent child : List ℕ) (xs : I → ChildConnection) (as
           owing n c own (course_says (record_at n d.records) (record_at n records) (courses.said n) (courses.each n) c id j),
     )
     served (Serves.leaves m new kind same none) = (subst (OwedIsWaited I parent xs) (sym same) owing, silent out (λ c. none (header_of parent child c)))
-    served (Serves.refuses m error new refused same one) = (subst (OwedIsWaited I parent xs) (sym same) owing, refusing out (error_reply child m error) one (λ id e. cc))
+    served (Serves.refuses m error now new refused same one) = (subst (OwedIsWaited I parent xs) (sym same) owing, refusing out (error_reply child m error) one (λ id e. cc))
     served (Serves.takes m n side now new about turn) = (
       turn_owing m side now n d.records records out about.within owing commit turn,
       turn_said m side now n d.records records out about.within owing commit turn,
     )
       where
         commit : (record_at n d.records).owner ≡ parent → (id : ℕ) → m.body ≡ Body.ReserveCommit id → IsWaited I xs m.header.correlation
-        commit own id is = let from : m.header.requester ≡ parent = sym about.owner ∙ own in commit_waits m id n (were m new.got new.request from) new.request from new.untaken is about
+        commit own id is = let from : m.header.requester ≡ parent = sym about.owner ∙ own in commit_waits now m id n (were m new.got new.request from) new.request from new.untaken is about
     served (Serves.opens m id service source dest side now new first turn) = (
       turn_owing m side now (length d.records) rows records out within row_owing never turn,
       turn_said m side now (length d.records) rows records out within row_owing never turn,

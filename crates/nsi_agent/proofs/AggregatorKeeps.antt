@@ -65,7 +65,7 @@ queries_quiet false setting s m = record { taken = refl; waiting = refl; now = r
 
 serves_quiet : (is_query : Bool) (setting : Setting) (s : AgentState) (m : Message) → IsQuiet s.base (serves is_query setting s m).state.base
 serves_quiet true setting s m = queries_quiet (is_recursive m.body) setting s m
-serves_quiet false setting s m = answers_quiet (refusal setting.agent.name setting.stp_of s.base.records m) setting s m
+serves_quiet false setting s m = answers_quiet (refusal s.base.now setting.agent.name setting.stp_of s.base.records m) setting s m
 
 then_quiet : (a b c : State) → IsQuiet a b → IsQuiet b c → IsQuiet a c
 then_quiet a b c p q = record { taken = cc; waiting = cc; now = cc }
@@ -132,7 +132,7 @@ queries_seen false setting s m = record { seen = refl; heard = refl }
 
 serves_seen : (is_query : Bool) (setting : Setting) (s : AgentState) (m : Message) → IsSameSeen s.base (serves is_query setting s m).state.base
 serves_seen true setting s m = queries_seen (is_recursive m.body) setting s m
-serves_seen false setting s m = answers_seen (refusal setting.agent.name setting.stp_of s.base.records m) setting s m
+serves_seen false setting s m = answers_seen (refusal s.base.now setting.agent.name setting.stp_of s.base.records m) setting s m
 
 received_saw : (asks is_old : Bool) (setting : Setting) (s : AgentState) (m : Message) → HasSeen (Input.Got m) s.base (receives asks is_old setting s m).state.base
 unfolding receives hears

@@ -215,7 +215,7 @@ module _ (laws : AreLaws) (to : List ℕ → Type 0) where
     takes_turned : (m : Message) (now : ℕ) (t : Turn) → IsTurned agent.name to owner t → IsTurned agent.name to owner (replies_by t (takes m now t.own))
     unfolding takes
     takes_turned m now t h =
-        let o = requested m.body m.header.correlation t.own in
+        let o = requested now m.body m.header.correlation t.own in
         replies_turned t (moves_if Side.Aggregator o now t.own) (moves_if_later Side.Aggregator o now t.own).owner (moves_if_answers Side.Aggregator o now t.own) h
 
     pass_turned : (m : Message) (t : Turn) → IsTurned agent.name to owner t → IsTurned agent.name to owner (pass_on m agent t)
@@ -484,7 +484,7 @@ module _ (laws : AreLaws) (setting : Setting) (to owed : List ℕ → Type 0) (w
 
   serves_saying : (is_query : Bool) (s : AgentState) (m : Message) → Holds s → IsHeaded setting.agent.name owed m → Says (serves is_query setting s m)
   serves_saying true s m held came = queries_saying (is_recursive m.body) s m held came
-  serves_saying false s m held came = answers_saying (refusal setting.agent.name setting.stp_of s.base.records m) s m held came
+  serves_saying false s m held came = answers_saying (refusal s.base.now setting.agent.name setting.stp_of s.base.records m) s m held came
 
   hears_saying : (s : AgentState) (m : Message) → Holds s → Says (hears setting s m)
   unfolding hears

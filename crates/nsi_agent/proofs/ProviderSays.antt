@@ -155,9 +155,9 @@ module _ (setting : Setting) (owed : List ℕ → Type 0) where
           (All-nil (IsAnswer setting.name owed));
     };
     refused = λ error r. record { owners = all; says = All-cons (IsAnswer setting.name owed) (error_reply setting.name m error) [] (refl, came) (All-nil (IsAnswer setting.name owed)) };
-    opened = λ q points f are. kept_saying (with_new setting (seen_with s m) m q points) (length s.records) (requested m.body m.header.correlation (record_at (length s.records) (with_new setting (seen_with s m) m q points).records)) (more_within (seen_with s m) m q points)
+    opened = λ q points f are. kept_saying (with_new setting (seen_with s m) m q points) (length s.records) (requested s.now m.body m.header.correlation (record_at (length s.records) (with_new setting (seen_with s m) m q points).records)) (more_within (seen_with s m) m q points)
         (All-append (IsOwed owed) s.records _ all (All-cons (IsOwed owed) _ [] came.1 (All-nil (IsOwed owed))));
-    moved = λ n lt fine. kept_saying (seen_with s m) n (requested m.body m.header.correlation (record_at n s.records)) lt all;
+    moved = λ n lt fine. kept_saying (seen_with s m) n (requested s.now m.body m.header.correlation (record_at n s.records)) lt all;
   })
 
   unasked_saying : (is_taken : Bool) (stp_of : List ℕ → Option ℕ) (s : State) (m : Message) → All (IsOwed owed) s.records → IsSaying setting.name owed (receives false is_taken setting stp_of s m)
@@ -253,7 +253,7 @@ received_answers setting stp_of s m = received_by setting stp_of s m Answers (re
 })
   where
     taken : (x : State) (n : ℕ) → Answers (taken_at setting x n m)
-    taken x n = kept_answers setting x n (requested m.body m.header.correlation (record_at n x.records))
+    taken x n = kept_answers setting x n (requested x.now m.body m.header.correlation (record_at n x.records))
 
 worked_answers : (b : Bool) (setting : Setting) (s : State) (n : ℕ) (machine : Machine) → Answers (works b setting s n machine)
 unfolding works

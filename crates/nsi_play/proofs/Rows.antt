@@ -69,7 +69,7 @@ t1 =
     }
 
 abbrev between : What
-between = What.Reserve (record { source = codes "A"; dest = codes "B"; capacity = 600; start = 100; end = 200; version = None })
+between = What.Reserve (record { source = codes "A"; dest = codes "B"; capacity = 600; start = 100; end = 200; version = None; directionality = Directionality.Bidirectional })
 
 -- at 0 the requester is asked for a connection
 abbrev one_ask : List Group
@@ -91,7 +91,7 @@ reserve =
       end = 200;
       global = None;
       source = Some (codes "A");
-      start = 100;
+      start = Some 100;
       symmetric = None;
       version = None;
     }))

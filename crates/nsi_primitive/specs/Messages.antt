@@ -1,5 +1,5 @@
 -- Messages: their kinds and identities, and who sends them to whom.
-use Rattle.std.specs.Prelude.{ℕ, List, Bool, true, false, Option, Some, None, if◌then◌else◌}
+use Rattle.std.specs.Prelude.{ℕ, List, Bool, true, false, Option, Some, None, unwrap_or, if◌then◌else◌}
 use Rattle.nsi_primitive.specs.Kinds.{is_request_kind, is_query_kind}
 use Rattle.nsi_primitive.specs.declared.kind.Kind.{Kind}
 use Rattle.nsi_primitive.specs.declared.kind.ErrorName.{ErrorName}
@@ -7,6 +7,7 @@ use Rattle.nsi_primitive.specs.declared.message.Body.{Body}
 use Rattle.nsi_primitive.specs.declared.message.Cause.{Cause}
 use Rattle.nsi_primitive.specs.declared.message.Identity.{Identity}
 use Rattle.nsi_primitive.specs.declared.message.Message.{Message}
+use Rattle.nsi_primitive.specs.declared.message.ReserveRequest.{ReserveRequest}
 
 -- the primitive that a body is of
 abbrev pub kind_of : Body → Kind
@@ -54,6 +55,10 @@ has_rows (Body.QueryNotificationConfirmed _ _ _) = true
 has_rows (Body.QueryResultConfirmed _ _ _) = true
 has_rows (Body.QueryRecursiveConfirmed _ _ _) = true
 has_rows _ = false
+
+-- when a reserve that is taken at that second starts
+abbrev pub start_at : (now : ℕ) → ReserveRequest → ℕ
+start_at now r = unwrap_or r.start now
 
 -- the connection that a request is about, where it names one
 unfoldable pub connection_of : Body → Option ℕ

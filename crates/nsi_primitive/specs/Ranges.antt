@@ -76,7 +76,7 @@ pub record IsRangedReserve (r : ReserveRequest) : Type 0 where
   pub end : IsSecond r.end
   pub global : IfSome r.global IsUtf8
   pub source : IfSome r.source IsName
-  pub start : IsSecond r.start
+  pub start : IfSome r.start IsSecond
   pub version : IfSome r.version IsVersion
 
 pub record IsRangedConfirmation (r : ReserveConfirmation) : Type 0 where

@@ -1,6 +1,7 @@
 //! What the user of a requester asks.
 
 use crate::id::Id;
+use crate::kind::Directionality;
 use nsi_base::{Mbps, Name, Second, Version};
 
 /// An ask about the connection with a label, which the user chooses. Only a summary may do without one.
@@ -26,6 +27,7 @@ pub enum What {
     Recursive,
 }
 
+/// A modification keeps the direction of its connection, whatever is asked here.
 #[derive(Debug, Drop)]
 pub struct ReserveAsk {
     pub source: Name,
@@ -34,6 +36,7 @@ pub struct ReserveAsk {
     pub start: Second,
     pub end: Second,
     pub version: Option<Version>,
+    pub directionality: Directionality,
 }
 
 /// From the first number to the last one, both included.

@@ -1,7 +1,7 @@
 //! Messages: a header and a body (GFD.237, section 8).
 
 ghost use Rattle.std.specs.Prelude.{◌≡◌, IfOk};
-ghost use Rattle.nsi_primitive.specs.Messages.{kind_of, is_request, is_query, connection_of, named_connection, error_of, identity, sender, addressee};
+ghost use Rattle.nsi_primitive.specs.Messages.{kind_of, is_request, is_query, connection_of, named_connection, start_at, error_of, identity, sender, addressee};
 
 use crate::id::Id;
 use crate::kind::{Directionality, ErrorName, FaultEvent, Kind};
@@ -81,7 +81,7 @@ pub struct Exception {
 }
 
 /// What a requester asks. Without a connection it is a first reserve, which names both points; with one it is a
-/// modification.
+/// modification. Without a start it starts when it is taken.
 #[derive(Debug, Drop)]
 pub struct ReserveRequest {
     pub capacity: Mbps,
@@ -92,7 +92,7 @@ pub struct ReserveRequest {
     pub end: Second,
     pub global: Option<Text>,
     pub source: Option<Name>,
-    pub start: Second,
+    pub start: Option<Second>,
     pub symmetric: Option<bool>,
     pub version: Option<Version>,
 }
@@ -325,6 +325,15 @@ impl Exception {
         ensures { result ≡ error_of self.now.cause }
     {
         self.cause.error()
+    }
+}
+
+impl ReserveRequest {
+    /// When it starts, where it is taken at that second.
+    pub fn start_at(&self, now: Second) -> Second
+        ensures { result ≡ start_at now self.now }
+    {
+        self.start.unwrap_or(now)
     }
 }
 

@@ -11,10 +11,11 @@ use Rattle.nsi_disk.specs.declared.plan.Image.TheVariants.{Old}
 use Rattle.nsi_primitive.specs.declared.kind.Kind.TheVariants.{Reserve}
 use Rattle.nsi_primitive.specs.declared.ask.Ask.{Ask}
 use Rattle.nsi_primitive.specs.declared.ask.What.{What}
+use Rattle.nsi_primitive.specs.declared.kind.Directionality.{Directionality}
 use Rattle.stp_topology.specs.declared.network.Network.{Network}
 use Rattle.stp_topology.specs.declared.network.AgentKind.TheVariants.{Provider, Aggregator, Requester}
 use Rattle.stp_topology.specs.Network.{nothing as no_network}
-use Rattle.ask_text.specs.Reading.{labelled_in, summary_in, numbers_in, version_in, reserve_in, plain_named, by_verb as ask_by_verb}
+use Rattle.ask_text.specs.Reading.{labelled_in, summary_in, numbers_in, version_in, way_in, reserve_in, plain_named, by_verb as ask_by_verb}
 use Rattle.nsi_script.specs.declared.fault.ScriptFault.TheVariants.{Word, Unbuilt, Agent, Time, Label}
 use Rattle.nsi_script.specs.declared.script.Act.{Act}
 use Rattle.nsi_script.specs.declared.script.Script.{Script}
@@ -30,7 +31,7 @@ pair = record no_network { agents = codes "p1" ∷ codes "r1" ∷ []; kinds = Pr
 abbrev reserve_ask : Ask
 reserve_ask = record {
   label = Some (codes "c1");
-  what = What.Reserve (record { source = codes "A"; dest = codes "B"; capacity = 600; start = 100; end = 200; version = None });
+  what = What.Reserve (record { source = codes "A"; dest = codes "B"; capacity = 600; start = 100; end = 200; version = None; directionality = Directionality.Bidirectional });
 }
 
 abbrev commit_ask : Ask
@@ -43,14 +44,14 @@ whole : script_of pair 6 (codes "# first\r\n\r\nat 000\r\nask\tr1 reserve c1 A B
           record { at = 0; acts = Act.Ask 1 reserve_ask ∷ (Act.Ask 1 commit_ask ∷ []) }
           ∷ (record { at = 0; acts = Act.Force 0 4194303 ∷ [] } ∷ []);
     })
-unfolding lines_to value_from number_of words_of kind_name kind_named first_named labelled_in summary_in numbers_in version_in reserve_in plain_named ask_by_verb known_agent add_at put_act put_ask ask_of add_force add_restart add_plan add_stop by_verb of_line read_lines
+unfolding lines_to value_from number_of words_of kind_name kind_named first_named labelled_in summary_in numbers_in version_in way_in reserve_in plain_named ask_by_verb known_agent add_at put_act put_ask ask_of add_force add_restart add_plan add_stop by_verb of_line read_lines
 whole = refl
 
 -- a script that says nothing, and one whose seconds fall
 small :
     (script_of pair 6 [] ≡ Ok nothing)
     × (script_of pair 6 (codes "at 5\nat 4\n") ≡ Err (7, Time))
-unfolding lines_to value_from number_of words_of kind_name kind_named first_named labelled_in summary_in numbers_in version_in reserve_in plain_named ask_by_verb known_agent add_at put_act put_ask ask_of add_force add_restart add_plan add_stop by_verb of_line read_lines
+unfolding lines_to value_from number_of words_of kind_name kind_named first_named labelled_in summary_in numbers_in version_in way_in reserve_in plain_named ask_by_verb known_agent add_at put_act put_ask ask_of add_force add_restart add_plan add_stop by_verb of_line read_lines
 small = (refl, refl)
 
 -- lines without a form, numbers out of range, and plans in the wrong place
@@ -74,12 +75,12 @@ words :
     × (script_of pair 6 (codes "stop p1 1 worn") ≡ Err (6, Word))
     × (script_of pair 6 (codes "at 0\nlose r1 p1 reserve 1") ≡ Err (7, Word))
     × (script_of pair 6 (codes "at 0\nstop p1 1 old") ≡ Err (7, Word))
-unfolding lines_to value_from number_of words_of kind_name kind_named first_named labelled_in summary_in numbers_in version_in reserve_in plain_named ask_by_verb known_agent add_at put_act put_ask ask_of add_force add_restart add_plan add_stop by_verb of_line read_lines
+unfolding lines_to value_from number_of words_of kind_name kind_named first_named labelled_in summary_in numbers_in version_in way_in reserve_in plain_named ask_by_verb known_agent add_at put_act put_ask ask_of add_force add_restart add_plan add_stop by_verb of_line read_lines
 words = (refl, refl, refl, refl, refl, refl, refl, refl, refl, refl, refl, refl, refl, refl, refl, refl, refl, refl, refl)
 
 -- lines that aren't served, whatever comes behind that
 unbuilt : script_of pair 6 (codes "stop p9 1 torn") ≡ Err (6, Unbuilt)
-unfolding lines_to value_from number_of words_of kind_name kind_named first_named labelled_in summary_in numbers_in version_in reserve_in plain_named ask_by_verb known_agent add_at put_act put_ask ask_of add_force add_restart add_plan add_stop by_verb of_line read_lines
+unfolding lines_to value_from number_of words_of kind_name kind_named first_named labelled_in summary_in numbers_in version_in way_in reserve_in plain_named ask_by_verb known_agent add_at put_act put_ask ask_of add_force add_restart add_plan add_stop by_verb of_line read_lines
 unbuilt = refl
 
 -- an agent of any kind is restarted
@@ -89,7 +90,7 @@ restarts :
     × (script_of pair 6 (codes "restart p1 1") ≡ Err (6, Word))
     × (script_of pair 6 (codes "restart p9") ≡ Err (6, Agent))
     × (script_of pair 6 (codes "restart p1") ≡ Err (6, Time))
-unfolding lines_to value_from number_of words_of kind_name kind_named first_named labelled_in summary_in numbers_in version_in reserve_in plain_named ask_by_verb known_agent add_at put_act put_ask ask_of add_force add_restart add_plan add_stop by_verb of_line read_lines
+unfolding lines_to value_from number_of words_of kind_name kind_named first_named labelled_in summary_in numbers_in version_in way_in reserve_in plain_named ask_by_verb known_agent add_at put_act put_ask ask_of add_force add_restart add_plan add_stop by_verb of_line read_lines
 restarts = (refl, refl, refl, refl, refl)
 
 -- an ask under the label c1
@@ -125,7 +126,7 @@ queries :
     × (script_of pair 6 (codes "ask p1 results c1") ≡ Err (6, Agent))
     × (script_of pair 6 (codes "ask r1 summary") ≡ Err (6, Time))
     × (script_of pair 6 (codes "at 0\nask r1 summary c1") ≡ Err (7, Label))
-unfolding lines_to value_from number_of words_of kind_name kind_named first_named labelled_in summary_in numbers_in version_in reserve_in plain_named ask_by_verb known_agent add_at put_act put_ask ask_of add_force add_restart add_plan add_stop by_verb of_line read_lines
+unfolding lines_to value_from number_of words_of kind_name kind_named first_named labelled_in summary_in numbers_in version_in way_in reserve_in plain_named ask_by_verb known_agent add_at put_act put_ask ask_of add_force add_restart add_plan add_stop by_verb of_line read_lines
 queries = (refl, refl, refl, refl, refl, refl, refl, refl, refl, refl, refl, refl, refl)
 
 -- the agent first, then the time, then the label
@@ -140,7 +141,7 @@ agents_and_times :
     × (script_of pair 6 (codes "force p1 0") ≡ Err (6, Time))
     × (script_of pair 6 (codes "at 0\n# more\nask r1 commit c1") ≡ Err (8, Label))
     × (script_of pair 6 (codes "at 0\nask r1 reserve c1 A B 1 0 1\nask r1 commit c2") ≡ Err (8, Label))
-unfolding lines_to value_from number_of words_of kind_name kind_named first_named labelled_in summary_in numbers_in version_in reserve_in plain_named ask_by_verb known_agent add_at put_act put_ask ask_of add_force add_restart add_plan add_stop by_verb of_line read_lines
+unfolding lines_to value_from number_of words_of kind_name kind_named first_named labelled_in summary_in numbers_in version_in way_in reserve_in plain_named ask_by_verb known_agent add_at put_act put_ask ask_of add_force add_restart add_plan add_stop by_verb of_line read_lines
 agents_and_times = (refl, refl, refl, refl, refl, refl, refl, refl, refl, refl)
 
 -- an aggregator with its requester and its child
@@ -155,7 +156,7 @@ tree = record no_network {
 labels :
     (script_of tree 9 (codes "at 0\nask r1 reserve c A B 1 0 1\nask r2 commit c") ≡ Err (11, Label))
     × (script_of tree 9 (codes "at 0\nask r2 reserve c A B 1 0 1\nat 1\nask r2 abort c\nask r1 abort c") ≡ Err (13, Label))
-unfolding lines_to value_from number_of words_of kind_name kind_named first_named labelled_in summary_in numbers_in version_in reserve_in plain_named ask_by_verb known_agent add_at put_act put_ask ask_of add_force add_restart add_plan add_stop by_verb of_line read_lines
+unfolding lines_to value_from number_of words_of kind_name kind_named first_named labelled_in summary_in numbers_in version_in way_in reserve_in plain_named ask_by_verb known_agent add_at put_act put_ask ask_of add_force add_restart add_plan add_stop by_verb of_line read_lines
 labels = (refl, refl)
 
 -- who has a link
@@ -186,7 +187,7 @@ repeated :
     × (of_line tree planned (codes "stop p1 3 new") ≡ Err Word)
     × (of_line tree planned (codes "stop p1 4 new") ≡ Err Unbuilt)
     × (of_line tree planned (codes "stop a1 3 new") ≡ Err Unbuilt)
-unfolding lines_to value_from number_of words_of kind_name kind_named first_named labelled_in summary_in numbers_in version_in reserve_in plain_named ask_by_verb known_agent add_at put_act put_ask ask_of add_force add_restart add_plan add_stop by_verb of_line read_lines kind_number
+unfolding lines_to value_from number_of words_of kind_name kind_named first_named labelled_in summary_in numbers_in version_in way_in reserve_in plain_named ask_by_verb known_agent add_at put_act put_ask ask_of add_force add_restart add_plan add_stop by_verb of_line read_lines kind_number
 repeated = (refl, refl, refl, refl, refl, refl, refl, refl)
 
 -- the first pair of the load of number 0

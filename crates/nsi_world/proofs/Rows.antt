@@ -59,7 +59,7 @@ t1 =
     }
 
 abbrev ask : Ask
-ask = record { label = Some (codes "c1"); what = What.Reserve (record { source = codes "A"; dest = codes "B"; capacity = 600; start = 100; end = 200; version = None }) }
+ask = record { label = Some (codes "c1"); what = What.Reserve (record { source = codes "A"; dest = codes "B"; capacity = 600; start = 100; end = 200; version = None; directionality = Directionality.Bidirectional }) }
 
 abbrev m : Body → Message
 m body = record { header = record { correlation = id_of 1 1; requester = codes "r1"; provider = codes "p1" }; body = body }
@@ -70,7 +70,7 @@ reserve =
       connection = None;
       source = Some (codes "A");
       dest = Some (codes "B");
-      start = 100;
+      start = Some 100;
       end = 200;
       capacity = 600;
       version = None;

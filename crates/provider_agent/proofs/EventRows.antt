@@ -66,7 +66,7 @@ reserve =
       end = 200;
       global = None;
       source = Some (codes "A");
-      start = 100;
+      start = Some 100;
       symmetric = None;
       version = None;
     })

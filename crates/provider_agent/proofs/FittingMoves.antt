@@ -13,18 +13,18 @@ use Rattle.provider_agent.proofs.GoodMoves.{IsFitting}
 use Rattle.provider_agent.proofs.Demands.{IsNoFit}
 
 -- a request that isn't refused for its version asks for one above the last
-pub requested_fitting : (body : Body) (c : ℕ) (r : Record) → modification_refusal body r ≡ None → IfSome (requested body c r) (λ m. IsFitting m r)
+pub requested_fitting : (now : ℕ) (body : Body) (c : ℕ) (r : Record) → modification_refusal now body r ≡ None → IfSome (requested now body c r) (λ m. IsFitting m r)
 unfolding requested modification_refusal
-requested_fitting body c r h = grind (arith, nat_tests)
+requested_fitting now body c r h = grind (arith, nat_tests)
 
 -- and so does a first one
-pub first_fitting : (body : Body) (c : ℕ) (r : Record) → last r.committed ≡ None → IfSome (requested body c r) (λ m. IsFitting m r)
+pub first_fitting : (now : ℕ) (body : Body) (c : ℕ) (r : Record) → last r.committed ≡ None → IfSome (requested now body c r) (λ m. IsFitting m r)
 unfolding requested
-first_fitting body c r h = grind arith
+first_fitting now body c r h = grind arith
 
-pub requested_no_fit : (body : Body) (c : ℕ) (r : Record) → IfSome (requested body c r) IsNoFit
+pub requested_no_fit : (now : ℕ) (body : Body) (c : ℕ) (r : Record) → IfSome (requested now body c r) IsNoFit
 unfolding requested
-requested_no_fit body c r = grind arith
+requested_no_fit now body c r = grind arith
 
 pub worked_fitting : (machine : Machine) (lack : Option Cause) (agent : List ℕ) (deadline : ℕ) (r : Record) → IfSome (work_of machine r lack agent deadline) (λ m. IsFitting m r)
 unfolding work_of worked provided

@@ -95,10 +95,10 @@ sound_kept setting s n o sound lt fitting no_fit =
 
 ---- Requests
 
-sound_taken : (setting : Setting) (s : State) (n : ℕ) (m : Message) → AreSound setting s.next s.records → n < length s.records → IfSome (requested m.body m.header.correlation (at n s)) (λ x. IsFitting x (at n s))
+sound_taken : (setting : Setting) (s : State) (n : ℕ) (m : Message) → AreSound setting s.next s.records → n < length s.records → IfSome (requested s.now m.body m.header.correlation (at n s)) (λ x. IsFitting x (at n s))
     → LeavesSound setting (taken_at setting s n m)
 sound_taken setting s n m sound lt fitting =
-    sound_kept setting s n (requested m.body m.header.correlation (at n s)) sound lt fitting (requested_no_fit m.body m.header.correlation (at n s))
+    sound_kept setting s n (requested s.now m.body m.header.correlation (at n s)) sound lt fitting (requested_no_fit s.now m.body m.header.correlation (at n s))
 
 -- a record as it is made claims nothing
 fresh_demand : (id : ℕ) (owner : List ℕ) (q : ReserveRequest) (a b : List ℕ) (source dest : ℕ) (flow : Flow) (stp t : ℕ) → demand flow stp t (fresh id owner (service_of q a b) source dest) ≡ 0
@@ -124,7 +124,7 @@ sound_new setting s m q points sound p =
 sound_opened : (setting : Setting) (s : State) (m : Message) (q : ReserveRequest) (points : ℕ × ℕ) → AreSound setting s.next s.records → IsPrintableReserve q → LeavesSound setting (taken_at setting (with_new setting s m q points) (length s.records) m)
 sound_opened setting s m q points sound p =
     sound_taken setting (with_new setting s m q points) (length s.records) m (sound_new setting s m q points sound p) (omega (arith, length-append s.records (new_record setting s m q points ∷ [])))
-    (subst (λ (r : Record). IfSome (requested m.body m.header.correlation r) (λ x. IsFitting x r)) (sym there) (first_fitting m.body m.header.correlation (new_record setting s m q points) refl))
+    (subst (λ (r : Record). IfSome (requested s.now m.body m.header.correlation r) (λ x. IsFitting x r)) (sym there) (first_fitting s.now m.body m.header.correlation (new_record setting s m q points) refl))
   where
     there : record_at (length s.records) (s.records ++ new_record setting s m q points ∷ []) ≡ new_record setting s m q points
     there = get_or_from_slice_get (s.records ++ new_record setting s m q points ∷ []) (length s.records) (new_record setting s m q points) no_record (push_here s.records (new_record setting s m q points))
@@ -136,7 +136,7 @@ sound_received setting stp_of s m sound p = received_by setting stp_of s m (Leav
   told = λ q. sound;
   refused = λ error r. sound;
   opened = λ q points e are. sound_opened setting (seen_with s m) m q points sound (subst IsPrintableBody e p);
-  moved = λ n lt fine. sound_taken setting (seen_with s m) n m sound lt (requested_fitting m.body m.header.correlation (record_at n s.records) fine);
+  moved = λ n lt fine. sound_taken setting (seen_with s m) n m sound lt (requested_fitting s.now m.body m.header.correlation (record_at n s.records) fine);
 })
 
 ---- Work
@@ -309,7 +309,7 @@ grows_received setting stp_of s m = received_by setting stp_of s m (GrowsByOne s
     still = record { records = omega arith; works = omega arith; next = omega arith; taken = refl }
 
     taken : (x : State) (n : ℕ) → n < length x.records → length x.records ≤ length s.records + 1 → works_among x.records ≡ works_among s.records → x.next ≤ s.next + 1 → x.taken ≡ s.taken → GrowsByOne s (taken_at setting x n m)
-    taken x n lt long works next same = grows_kept setting s x n (requested m.body m.header.correlation (at n x)) lt long works next same
+    taken x n lt long works next same = grows_kept setting s x n (requested x.now m.body m.header.correlation (at n x)) lt long works next same
 
 grows_step : (input : Input) (second : ℕ) (setting : Setting) (stp_of : List ℕ → Option ℕ) (s : State) → length s.records ≤ 4194304 → GrowsByOne s (step input second setting stp_of s)
 unfolding step works forces ticks

@@ -180,9 +180,9 @@ moves_if_quiet side (Some move) now r q = moves_quiet side move now r q
 kept_quiet : (setting : Setting) (s : State) (n : ℕ) (o : Option Move) → IfSome o IsNoLack → EachMessage IsNoRefusal (keeps setting s n (moves_if Side.Provider o s.now (record_at n s.records))).out
 kept_quiet setting s n o q = kept_each IsNoRefusal setting s n (moves_if Side.Provider o s.now (record_at n s.records)) no_plane (moves_if_quiet Side.Provider o s.now (record_at n s.records) q)
 
-requested_quiet : (body : Body) (c : ℕ) (r : Record) → IfSome (requested body c r) IsNoLack
+requested_quiet : (now : ℕ) (body : Body) (c : ℕ) (r : Record) → IfSome (requested now body c r) IsNoLack
 unfolding requested
-requested_quiet body c r = grind arith
+requested_quiet now body c r = grind arith
 
 hold_end_quiet : (k : Rsm) (deadline : Option ℕ) (now : ℕ) (origin : Origin) → IfSome (hold_end k deadline now origin) IsNoLackReservation
 unfolding hold_end
@@ -207,7 +207,7 @@ received_quiet setting stp_of s m = received_by setting stp_of s m (λ x. EachMe
     taken : (x : State) (n : ℕ) → EachMessage IsNoRefusal (taken_at setting x n m).out
     taken x n =
         let r : Record = record_at n x.records in
-        kept_quiet setting x n (requested m.body m.header.correlation r) (requested_quiet m.body m.header.correlation r)
+        kept_quiet setting x n (requested x.now m.body m.header.correlation r) (requested_quiet x.now m.body m.header.correlation r)
 
 forced_quiet : (b : Bool) (setting : Setting) (s : State) (n : ℕ) → EachMessage IsNoRefusal (forces b setting s n).out
 unfolding forces

@@ -229,12 +229,12 @@ pub told_named : (before : Plane) (c now : ℕ) (n : ℕ) (x : Moved) (deadlines
 told_named before c now n x deadlines p =
     subst (λ (r : Record). AreNamed now n r deadlines) (sym (told_but_notices before c now x)) (record { holds = p.holds; ends = p.ends; starts = p.starts })
 
-pub request_no_more : (body : Body) (c now : ℕ) (r : Record) → NamesNoMore r (moves_if Side.Provider (requested body c r) now r).rec
-request_no_more body c now r = by_move (requested body c r) refl
+pub request_no_more : (body : Body) (c now : ℕ) (r : Record) → NamesNoMore r (moves_if Side.Provider (requested now body c r) now r).rec
+request_no_more body c now r = by_move (requested now body c r) refl
   where
-    by_move : (o : Option Move) → requested body c r ≡ o → NamesNoMore r (moves_if Side.Provider o now r).rec
+    by_move : (o : Option Move) → requested now body c r ≡ o → NamesNoMore r (moves_if Side.Provider o now r).rec
     by_move None e = still_no_more r
-    by_move (Some move) e = plain_no_more Side.Provider move now r (requested_plain body c r move e)
+    by_move (Some move) e = plain_no_more Side.Provider move now r (requested_plain now body c r move e)
 
 -- what had nothing to do has nothing to do
 pub nothing_where_no_more : (r moved : Record) → NamesNothing r → NamesNoMore r moved → NamesNothing moved

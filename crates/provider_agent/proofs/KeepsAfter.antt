@@ -75,7 +75,7 @@ keep_kept setting s n o lt =
     (told_later (status_of s.now r) c s.now r (moves_if Side.Provider o s.now r) (moves_if_later Side.Provider o s.now r)).committed
 
 keep_taken : (setting : Setting) (s : State) (n : ℕ) (m : Message) → n < length s.records → KeepRecords s.records (taken_at setting s n m).state.records
-keep_taken setting s n m lt = keep_kept setting s n (requested m.body m.header.correlation (record_at n s.records)) lt
+keep_taken setting s n m lt = keep_kept setting s n (requested s.now m.body m.header.correlation (record_at n s.records)) lt
 
 keep_opened : (setting : Setting) (s : State) (m : Message) (q : ReserveRequest) (points : ℕ × ℕ) → KeepRecords s.records (taken_at setting (with_new setting s m q points) (length s.records) m).state.records
 keep_opened setting s m q points =

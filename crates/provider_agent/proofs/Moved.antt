@@ -84,16 +84,16 @@ plain_told before c now r x p =
 ---- Requests
 
 -- requests neither put nor commit nor end
-pub requested_plain : (body : Body) (c : ℕ) (r : Record) (move : Move) → requested body c r ≡ Some move → is_plain move ≡ true
+pub requested_plain : (now : ℕ) (body : Body) (c : ℕ) (r : Record) (move : Move) → requested now body c r ≡ Some move → is_plain move ≡ true
 unfolding requested
-requested_plain body c r move h = grind arith
+requested_plain now body c r move h = grind arith
 
-pub plain_request : (body : Body) (c now : ℕ) (r : Record) → IsPlain r (moves_if Side.Provider (requested body c r) now r).rec
-plain_request body c now r = by_move (requested body c r) refl
+pub plain_request : (body : Body) (c now : ℕ) (r : Record) → IsPlain r (moves_if Side.Provider (requested now body c r) now r).rec
+plain_request body c now r = by_move (requested now body c r) refl
   where
-    by_move : (o : Option Move) → requested body c r ≡ o → IsPlain r (moves_if Side.Provider o now r).rec
+    by_move : (o : Option Move) → requested now body c r ≡ o → IsPlain r (moves_if Side.Provider o now r).rec
     by_move None e = plain_still r
-    by_move (Some move) e = plain_move Side.Provider move now r (requested_plain body c r move e)
+    by_move (Some move) e = plain_move Side.Provider move now r (requested_plain now body c r move e)
 
 -- at one place and of one life the same criteria book the same
 pub booked_same : (r moved : Record) (c : Option Criteria) → IsSamePlace r moved → booked moved c ≡ booked r c

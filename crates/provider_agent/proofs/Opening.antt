@@ -32,10 +32,10 @@ made setting s m q points = fresh (id_of setting.number s.next) m.header.request
 
 -- its turn by the first request
 abbrev pub made_turn : Setting → State → Message → Record → Moved
-made_turn setting s m r = tells (status_of s.now r) (id_of setting.number (s.next + 1)) s.now (moves_if Side.Provider (requested m.body m.header.correlation r) s.now r)
+made_turn setting s m r = tells (status_of s.now r) (id_of setting.number (s.next + 1)) s.now (moves_if Side.Provider (requested s.now m.body m.header.correlation r) s.now r)
 
 abbrev pub made_drawn : State → Message → Record → ℕ
-made_drawn s m r = drawn (is_told (status_of s.now r) s.now (moves_if Side.Provider (requested m.body m.header.correlation r) s.now r).rec)
+made_drawn s m r = drawn (is_told (status_of s.now r) s.now (moves_if Side.Provider (requested s.now m.body m.header.correlation r) s.now r).rec)
 
 pub opened_state : (setting : Setting) (s : State) (m : Message) (q : ReserveRequest) (points : ℕ × ℕ)
     → record s { records = s.records ++ (made_turn setting s m (made setting s m q points)).rec ∷ []; next = s.next + 1 + made_drawn s m (made setting s m q points) } ≡ (opens_between (Some points) setting s m q).state
@@ -55,7 +55,7 @@ pub kept_opened : (setting : Setting) (s : State) (m : Message) (q : ReserveRequ
 kept_opened setting s m q points bs kept =
     let r = made setting s m q points in
     let moved = (made_turn setting s m r).rec in
-    let plain = plain_told (status_of s.now r) (id_of setting.number (s.next + 1)) s.now r (moves_if Side.Provider (requested m.body m.header.correlation r) s.now r) (plain_request m.body m.header.correlation s.now r) in
+    let plain = plain_told (status_of s.now r) (id_of setting.number (s.next + 1)) s.now r (moves_if Side.Provider (requested s.now m.body m.header.correlation r) s.now r) (plain_request m.body m.header.correlation s.now r) in
     kept_more s.records bs moved kept (ap (λ cs. booked moved (last cs)) plain.committed ∙ sym (nothing moved))
     (ap (booked moved) (plain.holds ∙ either (holds_pending moved.rsm)) ∙ sym (nothing moved))
   where
@@ -69,7 +69,7 @@ unfolding is_live
 opened_nothing setting s m q points =
     let r = made setting s m q points in
     nothing_where_no_more r (made_turn setting s m r).rec (record { holds = refl; ends = refl; starts = refl })
-    (told_no_more (status_of s.now r) (id_of setting.number (s.next + 1)) s.now r (moves_if Side.Provider (requested m.body m.header.correlation r) s.now r) (request_no_more m.body m.header.correlation s.now r))
+    (told_no_more (status_of s.now r) (id_of setting.number (s.next + 1)) s.now r (moves_if Side.Provider (requested s.now m.body m.header.correlation r) s.now r) (request_no_more m.body m.header.correlation s.now r))
 
 -- by its parts
 pub made_by : (setting : Setting) (s : State) (m : Message) (q : ReserveRequest) (points : ℕ × ℕ) (own : Record) (id : ℕ) (owner : List ℕ) (service : Service)

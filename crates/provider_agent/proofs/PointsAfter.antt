@@ -70,7 +70,7 @@ points_kept stp_of setting s n o lt have =
     points_set stp_of s.records n r (tells (status_of s.now r) c s.now x).rec have there (later_points stp_of r (tells (status_of s.now r) c s.now x).rec later (have n r there))
 
 points_taken : (stp_of : List ℕ → Option ℕ) (setting : Setting) (s : State) (n : ℕ) (m : Message) → n < length s.records → HavePoints stp_of s.records → HavePoints stp_of (taken_at setting s n m).state.records
-points_taken stp_of setting s n m lt have = points_kept stp_of setting s n (requested m.body m.header.correlation (record_at n s.records)) lt have
+points_taken stp_of setting s n m lt have = points_kept stp_of setting s n (requested s.now m.body m.header.correlation (record_at n s.records)) lt have
 
 points_opened : (stp_of : List ℕ → Option ℕ) (setting : Setting) (s : State) (m : Message) (q : ReserveRequest) (points : ℕ × ℕ) → points_of stp_of q ≡ Some points → HavePoints stp_of s.records
     → HavePoints stp_of (taken_at setting (with_new setting s m q points) (length s.records) m).state.records

@@ -114,9 +114,9 @@ moves_if_printable side (Some move) now r p = moves_printable side move now r p
 
 ---- Moves
 
-requested_printable : (body : Body) (c : ℕ) (r : Record) → IfSome (requested body c r) (λ m. IsPrintableMove m r)
+requested_printable : (now : ℕ) (body : Body) (c : ℕ) (r : Record) → IfSome (requested now body c r) (λ m. IsPrintableMove m r)
 unfolding requested
-requested_printable body c r = grind arith
+requested_printable now body c r = grind arith
 
 hold_end_printable : (k : Rsm) (deadline : Option ℕ) (now : ℕ) (origin : Origin) (r : Record) → IfSome (hold_end k deadline now origin) (λ m. IsPrintableReservation m r)
 unfolding hold_end
@@ -144,17 +144,17 @@ lacking_printable setting s n = by_pending (record_at n s.records).pending
 abbrev IsPlain : Option ErrorName → Type 0
 IsPlain o = IfSome o (λ error. has_further_keys error ≡ false)
 
-modification_plain : (body : Body) (r : Record) → IsPlain (modification_refusal body r)
+modification_plain : (now : ℕ) (body : Body) (r : Record) → IsPlain (modification_refusal now body r)
 unfolding modification_refusal
-modification_plain body r = grind arith
+modification_plain now body r = grind arith
 
-unnamed_plain : (body : Body) (stp_of : List ℕ → Option ℕ) → IsPlain (unnamed_refusal body stp_of)
+unnamed_plain : (now : ℕ) (body : Body) (stp_of : List ℕ → Option ℕ) → IsPlain (unnamed_refusal now body stp_of)
 unfolding unnamed_refusal
-unnamed_plain body stp_of = grind arith
+unnamed_plain now body stp_of = grind arith
 
-refusal_plain : (agent : List ℕ) (stp_of : List ℕ → Option ℕ) (records : List Record) (m : Message) → IsPlain (refusal agent stp_of records m)
+refusal_plain : (now : ℕ) (agent : List ℕ) (stp_of : List ℕ → Option ℕ) (records : List Record) (m : Message) → IsPlain (refusal now agent stp_of records m)
 unfolding refusal
-refusal_plain agent stp_of records m = grind (arith, modification_plain, unnamed_plain)
+refusal_plain now agent stp_of records m = grind (arith, modification_plain, unnamed_plain)
 
 error_plain : (o : Option ErrorName) (error : ErrorName) → IsPlain o → o ≡ Some error → has_further_keys error ≡ false
 error_plain o error p e = subst IsPlain e p
@@ -177,7 +177,7 @@ printable_received setting stp_of s m g = received_by setting stp_of s m SaysPri
   told = λ q. one_said IsPrintableBody (query_reply setting.name m (answer_to setting.name s.now s.records m))
       (replied_by IsPrintableBody setting.name m (answer_to setting.name s.now s.records m) (λ error plain. plain)
       (λ body e. providers_are_printable setting.name s.now s.records m body (short_texts setting s g) e));
-  refused = λ error r. one_said IsPrintableBody (error_reply setting.name m error) (error_plain (refusal setting.name stp_of s.records m) error (refusal_plain setting.name stp_of s.records m) r);
+  refused = λ error r. one_said IsPrintableBody (error_reply setting.name m error) (error_plain (refusal s.now setting.name stp_of s.records m) error (refusal_plain s.now setting.name stp_of s.records m) r);
   opened = λ q points e are. taken (with_new setting (seen_with s m) m q points) (length s.records);
   moved = λ n lt fine. taken (seen_with s m) n;
 })
@@ -185,7 +185,7 @@ printable_received setting stp_of s m g = received_by setting stp_of s m SaysPri
     taken : (x : State) (n : ℕ) → SaysPrintable (taken_at setting x n m)
     taken x n =
         let r : Record = record_at n x.records in
-        printable_kept setting x n (requested m.body m.header.correlation r) (requested_printable m.body m.header.correlation r)
+        printable_kept setting x n (requested x.now m.body m.header.correlation r) (requested_printable x.now m.body m.header.correlation r)
 
 printable_worked : (b : Bool) (setting : Setting) (s : State) (n : ℕ) (machine : Machine) → is_waiting s n machine ≡ b → IsGood setting s → SaysPrintable (works b setting s n machine)
 unfolding works

@@ -31,43 +31,43 @@ second_none None b h = h
 second_none (Some x) b h = absurd (cc)
 
 -- the place of the record that a request names, and that the request isn't refused there
-record IsNamedAt (m : Message) (records : List Record) (id n : ℕ) : Type 0 where
+record IsNamedAt (now : ℕ) (m : Message) (records : List Record) (id n : ℕ) : Type 0 where
   place_is : place_of id m.header.requester records ≡ Some n
   within : n < length records
-  unrefused : modification_refusal m.body (record_at n records) ≡ None
+  unrefused : modification_refusal now m.body (record_at n records) ≡ None
 
-named_at : (agent : List ℕ) (stp_of : List ℕ → Option ℕ) (records : List Record) (m : Message) (id : ℕ) → connection_of m.body ≡ Some id → refusal agent stp_of records m ≡ None → (n : ℕ) × IsNamedAt m records id n
+named_at : (now : ℕ) (agent : List ℕ) (stp_of : List ℕ → Option ℕ) (records : List Record) (m : Message) (id : ℕ) → connection_of m.body ≡ Some id → refusal now agent stp_of records m ≡ None → (n : ℕ) × IsNamedAt now m records id n
 unfolding refusal
-named_at agent stp_of records m id c h = by_place (place_of id m.header.requester records) refl
+named_at now agent stp_of records m id c h = by_place (place_of id m.header.requester records) refl
   where
-    about_none : about (connection_of m.body) m.header.requester stp_of records m.body ≡ None
-    about_none = second_none (refused_if (not (bytes_eq m.header.provider agent)) ErrorName.WrongProvider) (about (connection_of m.body) m.header.requester stp_of records m.body) h
+    about_none : about now (connection_of m.body) m.header.requester stp_of records m.body ≡ None
+    about_none = second_none (refused_if (not (bytes_eq m.header.provider agent)) ErrorName.WrongProvider) (about now (connection_of m.body) m.header.requester stp_of records m.body) h
 
-    named_none : named_refusal (record_for id m.header.requester records) m.body ≡ None
-    named_none = sym (ap (λ o. about o m.header.requester stp_of records m.body) c) ∙ about_none
+    named_none : named_refusal now (record_for id m.header.requester records) m.body ≡ None
+    named_none = sym (ap (λ o. about now o m.header.requester stp_of records m.body) c) ∙ about_none
 
-    by_place : (o : Option ℕ) → place_of id m.header.requester records ≡ o → (n : ℕ) × IsNamedAt m records id n
-    by_place None e = absurd (let clash : Some ErrorName.Nonexistent ≡ None = sym (ap (λ p. named_refusal (option_and_then (λ n. slice_get records n) p) m.body) e) ∙ named_none in cc)
+    by_place : (o : Option ℕ) → place_of id m.header.requester records ≡ o → (n : ℕ) × IsNamedAt now m records id n
+    by_place None e = absurd (let clash : Some ErrorName.Nonexistent ≡ None = sym (ap (λ p. named_refusal now (option_and_then (λ n. slice_get records n) p) m.body) e) ∙ named_none in cc)
     by_place (Some n) e =
         let within = (position-Some (λ r. eqb id r.id && bytes_eq m.header.requester r.owner) records n no_record e).0 in
         let there : slice_get records n ≡ Some (record_at n records) = slice_get-get_or records n no_record within in
-        let fine : record_refusal m.body (record_at n records) ≡ None =
-        sym (ap (λ p. named_refusal (option_and_then (λ n. slice_get records n) p) m.body) e ∙ ap (λ x. named_refusal x m.body) there) ∙ named_none
+        let fine : record_refusal now m.body (record_at n records) ≡ None =
+        sym (ap (λ p. named_refusal now (option_and_then (λ n. slice_get records n) p) m.body) e ∙ ap (λ x. named_refusal now x m.body) there) ∙ named_none
         in
         (n, record { place_is = e; within = within; unrefused = third (record_at n records) fine })
       where
-        third : (r : Record) → record_refusal m.body r ≡ None → modification_refusal m.body r ≡ None
-        third r g = second_none (refused_if (not (is_in_place m.body r && has_row m.body r)) ErrorName.InvalidTransition) (modification_refusal m.body r)
-            (second_none (refused_if (not (is_live r.lsm)) ErrorName.Gone) (or_else (refused_if (not (is_in_place m.body r && has_row m.body r)) ErrorName.InvalidTransition) (modification_refusal m.body r)) g)
+        third : (r : Record) → record_refusal now m.body r ≡ None → modification_refusal now m.body r ≡ None
+        third r g = second_none (refused_if (not (is_in_place m.body r && has_row m.body r)) ErrorName.InvalidTransition) (modification_refusal now m.body r)
+            (second_none (refused_if (not (is_live r.lsm)) ErrorName.Gone) (or_else (refused_if (not (is_in_place m.body r && has_row m.body r)) ErrorName.InvalidTransition) (modification_refusal now m.body r)) g)
 
 -- what holds of each of these holds of what is received
 pub record IsInEachCase (setting : Setting) (stp_of : List ℕ → Option ℕ) (s : State) (m : Message) (P : Stepped → Type 0) : Type 0 where
   pub ignored : P (unchanged s)
   pub unopened : P (unchanged (seen_with s m))
   pub told : is_query m.body ≡ true → P (says (seen_with s m) (query_reply setting.name m (answer_to setting.name s.now s.records m) ∷ []))
-  pub refused : (error : ErrorName) → refusal setting.name stp_of s.records m ≡ Some error → P (says (seen_with s m) (error_reply setting.name m error ∷ []))
+  pub refused : (error : ErrorName) → refusal s.now setting.name stp_of s.records m ≡ Some error → P (says (seen_with s m) (error_reply setting.name m error ∷ []))
   pub opened : (q : ReserveRequest) (points : ℕ × ℕ) → m.body ≡ Body.Reserve q → points_of stp_of q ≡ Some points → P (taken_at setting (with_new setting (seen_with s m) m q points) (length s.records) m)
-  pub moved : (n : ℕ) → n < length s.records → modification_refusal m.body (record_at n s.records) ≡ None → P (taken_at setting (seen_with s m) n m)
+  pub moved : (n : ℕ) → n < length s.records → modification_refusal s.now m.body (record_at n s.records) ≡ None → P (taken_at setting (seen_with s m) n m)
 
 pub received_by : (setting : Setting) (stp_of : List ℕ → Option ℕ) (s : State) (m : Message) (P : Stepped → Type 0) → IsInEachCase setting stp_of s m P → P (receives (is_request m.body) (is_taken m.header s.seen) setting stp_of s m)
 unfolding receives
@@ -81,19 +81,19 @@ received_by setting stp_of s m P each = by_seen (is_request m.body) (is_taken m.
     opening (Body.Reserve q) e = between (points_of stp_of q) q e refl
     opening _ e = each.unopened
 
-    accepting : (o : Option ℕ) → connection_of m.body ≡ o → refusal setting.name stp_of s.records m ≡ None → P (accepts o setting stp_of (seen_with s m) m)
+    accepting : (o : Option ℕ) → connection_of m.body ≡ o → refusal s.now setting.name stp_of s.records m ≡ None → P (accepts o setting stp_of (seen_with s m) m)
     accepting None e r = opening m.body refl
     accepting (Some id) e r =
-        let named = named_at setting.name stp_of s.records m id e r in
+        let named = named_at s.now setting.name stp_of s.records m id e r in
         subst (λ (k : ℕ). P (taken_at setting (seen_with s m) k m)) (sym (ap (λ o. unwrap_or o 0) named.1.place_is)) (each.moved named.0 named.1.within named.1.unrefused)
 
-    answering : (o : Option ErrorName) → refusal setting.name stp_of s.records m ≡ o → P (answers o setting stp_of (seen_with s m) m)
+    answering : (o : Option ErrorName) → refusal s.now setting.name stp_of s.records m ≡ o → P (answers o setting stp_of (seen_with s m) m)
     answering (Some error) r = each.refused error r
     answering None r = accepting (connection_of m.body) refl r
 
     serving : (b : Bool) → is_query m.body ≡ b → P (serves b setting stp_of (seen_with s m) m)
     serving true e = each.told e
-    serving false e = answering (refusal setting.name stp_of s.records m) refl
+    serving false e = answering (refusal s.now setting.name stp_of s.records m) refl
 
     by_seen : (a b : Bool) → P (receives a b setting stp_of s m)
     by_seen true false = serving (is_query m.body) refl

@@ -60,7 +60,7 @@ moves_at move n setting s = keeps setting s n (moves Side.Provider move s.now (r
 
 -- a request that isn't refused moves the record at a place
 abbrev pub taken_at : Setting → State → ℕ → Message → Stepped
-taken_at setting s n m = keeps setting s n (moves_if Side.Provider (requested m.body m.header.correlation (record_at n s.records)) s.now (record_at n s.records))
+taken_at setting s n m = keeps setting s n (moves_if Side.Provider (requested s.now m.body m.header.correlation (record_at n s.records)) s.now (record_at n s.records))
 
 -- a first reserve makes a record between the two points, under the agent's next id
 abbrev pub with_new : Setting → State → Message → ReserveRequest → ℕ × ℕ → State
@@ -96,7 +96,7 @@ is_seen s m = is_request m.body && is_taken m.header s.seen
 -- a query is answered at once by what the agent has, which stays as it is; every other request is one to do something
 abbrev pub serves : (is_query : Bool) → Setting → (List ℕ → Option ℕ) → State → Message → Stepped
 serves true setting stp_of s m = says s (query_reply setting.name m (answer_to setting.name s.now s.records m) ∷ [])
-serves false setting stp_of s m = answers (refusal setting.name stp_of s.records m) setting stp_of s m
+serves false setting stp_of s m = answers (refusal s.now setting.name stp_of s.records m) setting stp_of s m
 
 -- a request is taken once; a message that isn't a request changes nothing
 unfoldable pub receives : (is_request is_taken : Bool) → Setting → (List ℕ → Option ℕ) → State → Message → Stepped

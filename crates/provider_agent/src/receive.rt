@@ -91,7 +91,7 @@ impl Core {
         ensures step { let m = message.now in
             let stp_of = own_stp topology.now self.old.agent.number in
             IsStep self.old self.new result
-            (λ setting s. answers (refusal setting.name stp_of s.records m) setting stp_of s m) }
+            (λ setting s. answers (refusal s.now setting.name stp_of s.records m) setting stp_of s m) }
         ensures consistent { IsConsistent self.new }
     {
         if !message.header.provider.is(&self.agent.name) {
@@ -104,7 +104,7 @@ impl Core {
         let Some(place) = place_of(self.agent.number, self.next, &self.records, id, owner) else {
             return self.refuse(alloc, message, ErrorName::Nonexistent);
         };
-        match self.records[place].refusal(&message.body) {
+        match self.records[place].refusal(&message.body, self.now) {
             Some(error) => self.refuse(alloc, message, error),
             None => self.take_at(alloc, place, message),
         }
@@ -140,13 +140,13 @@ impl Core {
         ensures step { let m = message.now in
             let stp_of = own_stp topology.now self.old.agent.number in
             IsStep self.old self.new result
-            (λ setting s. answers (unnamed_refusal m.body stp_of) setting stp_of s m) }
+            (λ setting s. answers (unnamed_refusal s.now m.body stp_of) setting stp_of s m) }
         ensures consistent { IsConsistent self.new }
     {
         let Body::Reserve(request) = &message.body else {
             return Ok(Vec::new(alloc));
         };
-        if let Some(error) = schedule_refusal(request) {
+        if let Some(error) = schedule_refusal(request, self.now) {
             return self.refuse(alloc, message, error);
         }
         match points_of(topology, self.agent.number, request) {
@@ -284,12 +284,12 @@ fn take(
     requires { moment.next < 4611686018427387904 }
     ensures stored { IsStored retry.old retry.new result }
     ensures turned { let m = message.now in
-        let event = requested m.body m.header.correlation own.old in
+        let event = requested moment.second m.body m.header.correlation own.old in
         let x = moves_if SideValue.Provider event moment.second own.old in
         IsTurned agent.now moment own.old own.new result x }
     ensures err { OnErr result (own.new ≡ own.old) }
 {
-    match own.requested(&message.body, message.header.correlation) {
+    match own.requested(&message.body, message.header.correlation, moment.second) {
         None => Ok(Turned {
             out: Vec::new(alloc),
             drawn: 0,
@@ -313,7 +313,7 @@ fn take_among(
     ensures turned { let m = message.now in
         let place = moment.place in
         let own = record_at place records.old.items in
-        let event = requested m.body m.header.correlation own in
+        let event = requested moment.second m.body m.header.correlation own in
         let x = moves_if SideValue.Provider event moment.second own in
         IsTurnedAt agent.now moment place records.old.items records.new.items result x }
 {

@@ -55,7 +55,7 @@ reserve source connection version capacity start end =
       end = end;
       global = None;
       source = Some source;
-      start = start;
+      start = Some start;
       symmetric = None;
       version = version;
     })

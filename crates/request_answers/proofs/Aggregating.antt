@@ -251,7 +251,7 @@ queries_goes false setting s m = λ k w. inr w
 
 serves_goes : (query : Bool) (setting : Setting) (s : AgentState) (m : Message) → Goes setting s (serves query setting s m)
 serves_goes true setting s m = queries_goes (is_recursive m.body) setting s m
-serves_goes false setting s m = answers_goes (refusal setting.agent.name setting.stp_of s.base.records m) setting s m
+serves_goes false setting s m = answers_goes (refusal s.base.now setting.agent.name setting.stp_of s.base.records m) setting s m
 
 receives_goes : (asks old : Bool) (setting : Setting) (s : AgentState) (m : Message) → Goes setting s (receives asks old setting s m)
 unfolding receives
@@ -319,46 +319,46 @@ module _ (setting : Setting) (s : AgentState) (m : Message) (asks : is_request m
         by (inl a) = inl a
         by (inr v) = inr (inl v)
 
-    new_serves : (q : ReserveRequest) (points : ℕ × ℕ) → m.body ≡ Body.Reserve q → m.header.provider ≡ setting.agent.name → first_refusal setting.stp_of q ≡ None →
+    new_serves : (q : ReserveRequest) (points : ℕ × ℕ) → m.body ≡ Body.Reserve q → m.header.provider ≡ setting.agent.name → first_refusal s.base.now setting.stp_of q ≡ None →
         Served (request_at setting (with_new setting s m q points) (length s.base.records) m)
     unfolding takes is_live
     new_serves q points is agent fine =
         let new : Record = new_in setting s m q points in
         turned_serves (with_new setting s m q points) (length s.base.records) new (push_here s.base.records new) refl agent
-        (subst (λ (b : Body). is_carried (kind_of b) m.header.correlation (moves_if Side.Aggregator (requested b m.header.correlation new) s.base.now new) ≡ true) (sym is)
-        (reserve_taken Side.Aggregator q m.header.correlation s.base.now new refl refl (first_criteria setting.stp_of q fine)))
+        (subst (λ (b : Body). is_carried (kind_of b) m.header.correlation (moves_if Side.Aggregator (requested s.base.now b m.header.correlation new) s.base.now new) ≡ true) (sym is)
+        (reserve_taken Side.Aggregator q m.header.correlation s.base.now new refl refl (first_criteria s.base.now setting.stp_of q fine)))
 
-    opened_serves : (o : Option (ℕ × ℕ)) (q : ReserveRequest) → m.body ≡ Body.Reserve q → m.header.provider ≡ setting.agent.name → first_refusal setting.stp_of q ≡ None → points_of setting.stp_of q ≡ o →
+    opened_serves : (o : Option (ℕ × ℕ)) (q : ReserveRequest) → m.body ≡ Body.Reserve q → m.header.provider ≡ setting.agent.name → first_refusal s.base.now setting.stp_of q ≡ None → points_of setting.stp_of q ≡ o →
         Served (opens_between o setting s m q)
-    opened_serves None q is agent fine e = absurd (no_points setting.stp_of q e fine)
+    opened_serves None q is agent fine e = absurd (no_points s.base.now setting.stp_of q e fine)
     opened_serves (Some points) q is agent fine e = new_serves q points is agent fine
 
-    opening_serves : (body : Body) → m.body ≡ body → is_request body ≡ true → is_query body ≡ false → connection_of body ≡ None → m.header.provider ≡ setting.agent.name → unnamed_refusal body setting.stp_of ≡ None →
+    opening_serves : (body : Body) → m.body ≡ body → is_request body ≡ true → is_query body ≡ false → connection_of body ≡ None → m.header.provider ≡ setting.agent.name → unnamed_refusal s.base.now body setting.stp_of ≡ None →
         Served (opens body setting s m)
     unfolding connection_of unnamed_refusal
     opening_serves (Body.Reserve q) is a b c agent fine = opened_serves (points_of setting.stp_of q) q is agent fine refl
     opening_serves _ is a b c agent fine = absurd (cc)
 
-    moved_serves : (id : ℕ) → IsTakenAt m s.base.records id → m.header.provider ≡ setting.agent.name → Served (request_to (place_of id m.header.requester s.base.records) setting s m)
+    moved_serves : (id : ℕ) → IsTakenAt s.base.now m s.base.records id → m.header.provider ≡ setting.agent.name → Served (request_to (place_of id m.header.requester s.base.records) setting s m)
     unfolding takes
     moved_serves id at agent =
         subst (λ o. Served (request_to o setting s m)) (sym at.found)
-        (turned_serves s at.place at.own at.there at.owner agent (request_taken Side.Aggregator m.body m.header.correlation s.base.now at.own asks todo (unrefused_fits m.body at.own at.unrefused)))
+        (turned_serves s at.place at.own at.there at.owner agent (request_taken Side.Aggregator m.body m.header.correlation s.base.now at.own asks todo (unrefused_fits s.base.now m.body at.own at.unrefused)))
 
-    accepting_serves : (o : Option ℕ) → connection_of m.body ≡ o → refusal setting.agent.name setting.stp_of s.base.records m ≡ None → Served (accepts o setting s m)
+    accepting_serves : (o : Option ℕ) → connection_of m.body ≡ o → refusal s.base.now setting.agent.name setting.stp_of s.base.records m ≡ None → Served (accepts o setting s m)
     accepting_serves None e r =
-        opening_serves m.body refl asks todo e (unrefused_agent setting.agent.name setting.stp_of s.base.records m r) (unnamed_none setting.agent.name setting.stp_of s.base.records m e r)
+        opening_serves m.body refl asks todo e (unrefused_agent s.base.now setting.agent.name setting.stp_of s.base.records m r) (unnamed_none s.base.now setting.agent.name setting.stp_of s.base.records m e r)
     accepting_serves (Some id) e r =
-        moved_serves id (unrefused_at setting.agent.name setting.stp_of s.base.records m id e r) (unrefused_agent setting.agent.name setting.stp_of s.base.records m r)
+        moved_serves id (unrefused_at s.base.now setting.agent.name setting.stp_of s.base.records m id e r) (unrefused_agent s.base.now setting.agent.name setting.stp_of s.base.records m r)
 
-    answering_serves : (o : Option ErrorName) → refusal setting.agent.name setting.stp_of s.base.records m ≡ o → Served (answers o setting s m)
+    answering_serves : (o : Option ErrorName) → refusal s.base.now setting.agent.name setting.stp_of s.base.records m ≡ o → Served (answers o setting s m)
     unfolding answers
     answering_serves (Some error) r = refused_serves error
     answering_serves None r = accepting_serves (connection_of m.body) refl r
 
   serving_serves : (b : Bool) → is_query m.body ≡ b → Served (serves b setting s m)
   serving_serves true q = queries_serves q (is_recursive m.body) refl
-  serving_serves false todo = answering_serves todo (refusal setting.agent.name setting.stp_of s.base.records m) refl
+  serving_serves false todo = answering_serves todo (refusal s.base.now setting.agent.name setting.stp_of s.base.records m) refl
 
 pub aggregator_serves : (m : Message) (second : ℕ) (setting : Setting) (s : AgentState) → is_request m.body ≡ true → is_seen s m ≡ false →
     IsKept (IsOpenIn setting m) m (step (Input.Got m) second setting s).state (step (Input.Got m) second setting s).out

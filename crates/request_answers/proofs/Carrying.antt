@@ -366,9 +366,9 @@ pub moves_if_carry : (side : Side) (o : Option Move) (now : ℕ) (r : Record) �
 moves_if_carry side None now r h = carries_none r
 moves_if_carry side (Some move) now r h = moves_carry side move now r h
 
-pub requested_whole : (body : Body) (c : ℕ) (r : Record) → IsWhole (requested body c r)
+pub requested_whole : (now : ℕ) (body : Body) (c : ℕ) (r : Record) → IsWhole (requested now body c r)
 unfolding requested
-requested_whole body c r = grind arith
+requested_whole now body c r = grind arith
 
 pub work_whole : (machine : Machine) (r : Record) (lack : Option Cause) (agent : List ℕ) (deadline : ℕ) → IsWhole (work_of machine r lack agent deadline)
 unfolding work_of worked provided

@@ -51,8 +51,8 @@ kept_goes setting s n x carries later =
 taken_goes : (setting : Setting) (s : State) (n : ℕ) (m : Message) → Goes setting s (taken_at setting s n m)
 taken_goes setting s n m =
     let r : Record = record_at n s.records in
-    let o : Option Move = requested m.body m.header.correlation r in
-    kept_goes setting s n (moves_if Side.Provider o s.now r) (moves_if_carry Side.Provider o s.now r (requested_whole m.body m.header.correlation r)) (moves_if_later Side.Provider o s.now r)
+    let o : Option Move = requested s.now m.body m.header.correlation r in
+    kept_goes setting s n (moves_if Side.Provider o s.now r) (moves_if_carry Side.Provider o s.now r (requested_whole s.now m.body m.header.correlation r)) (moves_if_later Side.Provider o s.now r)
 
 -- a request of another one
 received_goes : (setting : Setting) (stp_of : List ℕ → Option ℕ) (s : State) (m : Message) → Goes setting s (receives (is_request m.body) (is_taken m.header s.seen) setting stp_of s m)
@@ -110,18 +110,18 @@ second_none : (a b : Option ErrorName) → or_else a b ≡ None → b ≡ None
 second_none None b h = h
 second_none (Some x) b h = absurd (cc)
 
-pub no_points : (stp_of : List ℕ → Option ℕ) (q : ReserveRequest) → points_of stp_of q ≡ None → first_refusal stp_of q ≡ None → ⊥
-no_points stp_of q e h = by (points_of stp_of q) e (second_none (schedule_refusal q) (refused_if (is_none (points_of stp_of q)) ErrorName.UnknownStp) h)
+pub no_points : (now : ℕ) (stp_of : List ℕ → Option ℕ) (q : ReserveRequest) → points_of stp_of q ≡ None → first_refusal now stp_of q ≡ None → ⊥
+no_points now stp_of q e h = by (points_of stp_of q) e (second_none (schedule_refusal now q) (refused_if (is_none (points_of stp_of q)) ErrorName.UnknownStp) h)
   where
     by : (o : Option (ℕ × ℕ)) → o ≡ None → refused_if (is_none o) ErrorName.UnknownStp ≡ None → ⊥
     by None e h = cc
     by (Some points) e h = cc
 
-pub unnamed_none : (agent : List ℕ) (stp_of : List ℕ → Option ℕ) (records : List Record) (m : Message) → connection_of m.body ≡ None → refusal agent stp_of records m ≡ None → unnamed_refusal m.body stp_of ≡ None
+pub unnamed_none : (now : ℕ) (agent : List ℕ) (stp_of : List ℕ → Option ℕ) (records : List Record) (m : Message) → connection_of m.body ≡ None → refusal now agent stp_of records m ≡ None → unnamed_refusal now m.body stp_of ≡ None
 unfolding refusal
-unnamed_none agent stp_of records m e h =
-    sym (ap (λ o. about o m.header.requester stp_of records m.body) e)
-    ∙ second_none (refused_if (not (bytes_eq m.header.provider agent)) ErrorName.WrongProvider) (about (connection_of m.body) m.header.requester stp_of records m.body) h
+unnamed_none now agent stp_of records m e h =
+    sym (ap (λ o. about now o m.header.requester stp_of records m.body) e)
+    ∙ second_none (refused_if (not (bytes_eq m.header.provider agent)) ErrorName.WrongProvider) (about now (connection_of m.body) m.header.requester stp_of records m.body) h
 
 -- a move of a record carries a request of its owner
 kept_serves : (setting : Setting) (s : State) (n : ℕ) (x : Moved) (m : Message) → n < length s.records → (record_at n s.records).owner ≡ m.header.requester → m.header.provider ≡ setting.name →
@@ -142,55 +142,55 @@ module _ (setting : Setting) (stp_of : List ℕ → Option ℕ) (s : State) (m :
   refused_serves t error = inl (answered_by m (error_reply setting.name m error) refl (error_answers (kind_of m.body) asks))
 
   module _ (todo : is_query m.body ≡ false) where
-    moved_serves : (n : ℕ) (own : Record) → slice_get s.records n ≡ Some own → own.owner ≡ m.header.requester → m.header.provider ≡ setting.name → record_refusal m.body own ≡ None → Served (taken_at setting (seen_with s m) n m)
+    moved_serves : (n : ℕ) (own : Record) → slice_get s.records n ≡ Some own → own.owner ≡ m.header.requester → m.header.provider ≡ setting.name → record_refusal s.now m.body own ≡ None → Served (taken_at setting (seen_with s m) n m)
     moved_serves n own there owner agent fine =
         let r : Record = record_at n s.records in
         let same : r ≡ own = get_or_from_slice_get s.records n own no_record there in
-        let o : Option Move = requested m.body m.header.correlation r in
-        let fit : IsFitFor m.body r = subst (IsFitFor m.body) (sym same) (unrefused_fits m.body own fine) in
+        let o : Option Move = requested s.now m.body m.header.correlation r in
+        let fit : IsFitFor s.now m.body r = subst (IsFitFor s.now m.body) (sym same) (unrefused_fits s.now m.body own fine) in
         kept_serves setting (seen_with s m) n (moves_if Side.Provider o s.now r) m (slice_get_within s.records n own there) (ap (λ (z : Record). z.owner) same ∙ owner) agent
         (request_taken Side.Provider m.body m.header.correlation s.now r asks todo fit) (moves_if_later Side.Provider o s.now r)
 
-    new_serves : (q : ReserveRequest) (points : ℕ × ℕ) → m.body ≡ Body.Reserve q → m.header.provider ≡ setting.name → first_refusal stp_of q ≡ None → Served (taken_at setting (with_new setting (seen_with s m) m q points) (length s.records) m)
+    new_serves : (q : ReserveRequest) (points : ℕ × ℕ) → m.body ≡ Body.Reserve q → m.header.provider ≡ setting.name → first_refusal s.now stp_of q ≡ None → Served (taken_at setting (with_new setting (seen_with s m) m q points) (length s.records) m)
     unfolding is_live
     new_serves q points is agent fine =
         let t : State = with_new setting (seen_with s m) m q points in
         let new : Record = new_record setting (seen_with s m) m q points in
         let r : Record = record_at (length s.records) t.records in
         let same : r ≡ new = get_or_from_slice_get t.records (length s.records) new no_record (push_here s.records new) in
-        let o : Option Move = requested m.body m.header.correlation r in
+        let o : Option Move = requested s.now m.body m.header.correlation r in
         kept_serves setting t (length s.records) (moves_if Side.Provider o t.now r) m (slice_get_within t.records (length s.records) new (push_here s.records new))
         (ap (λ (z : Record). z.owner) same) agent
-        (subst (λ (z : Record). is_carried (kind_of m.body) m.header.correlation (moves_if Side.Provider (requested m.body m.header.correlation z) t.now z) ≡ true) (sym same)
-        (subst (λ (b : Body). is_carried (kind_of b) m.header.correlation (moves_if Side.Provider (requested b m.header.correlation new) t.now new) ≡ true) (sym is)
-        (reserve_taken Side.Provider q m.header.correlation t.now new refl refl (first_criteria stp_of q fine))))
+        (subst (λ (z : Record). is_carried (kind_of m.body) m.header.correlation (moves_if Side.Provider (requested t.now m.body m.header.correlation z) t.now z) ≡ true) (sym same)
+        (subst (λ (b : Body). is_carried (kind_of b) m.header.correlation (moves_if Side.Provider (requested t.now b m.header.correlation new) t.now new) ≡ true) (sym is)
+        (reserve_taken Side.Provider q m.header.correlation t.now new refl refl (first_criteria t.now stp_of q fine))))
         (moves_if_later Side.Provider o t.now r)
 
-    opened_serves : (o : Option (ℕ × ℕ)) (q : ReserveRequest) → m.body ≡ Body.Reserve q → m.header.provider ≡ setting.name → first_refusal stp_of q ≡ None → points_of stp_of q ≡ o →
+    opened_serves : (o : Option (ℕ × ℕ)) (q : ReserveRequest) → m.body ≡ Body.Reserve q → m.header.provider ≡ setting.name → first_refusal s.now stp_of q ≡ None → points_of stp_of q ≡ o →
         Served (opens_between o setting (seen_with s m) m q)
-    opened_serves None q is agent fine e = absurd (no_points stp_of q e fine)
+    opened_serves None q is agent fine e = absurd (no_points s.now stp_of q e fine)
     opened_serves (Some points) q is agent fine e = new_serves q points is agent fine
 
-    opening_serves : (body : Body) → m.body ≡ body → is_request body ≡ true → is_query body ≡ false → connection_of body ≡ None → m.header.provider ≡ setting.name → unnamed_refusal body stp_of ≡ None →
+    opening_serves : (body : Body) → m.body ≡ body → is_request body ≡ true → is_query body ≡ false → connection_of body ≡ None → m.header.provider ≡ setting.name → unnamed_refusal s.now body stp_of ≡ None →
         Served (opens body setting stp_of (seen_with s m) m)
     unfolding connection_of unnamed_refusal
     opening_serves (Body.Reserve q) is a b c agent fine = opened_serves (points_of stp_of q) q is agent fine refl
     opening_serves _ is a b c agent fine = absurd (cc)
 
-    accepting_serves : (o : Option ℕ) → connection_of m.body ≡ o → refusal setting.name stp_of s.records m ≡ None → Served (accepts o setting stp_of (seen_with s m) m)
-    accepting_serves None e r = opening_serves m.body refl asks todo e (unrefused_agent setting.name stp_of s.records m r) (unnamed_none setting.name stp_of s.records m e r)
+    accepting_serves : (o : Option ℕ) → connection_of m.body ≡ o → refusal s.now setting.name stp_of s.records m ≡ None → Served (accepts o setting stp_of (seen_with s m) m)
+    accepting_serves None e r = opening_serves m.body refl asks todo e (unrefused_agent s.now setting.name stp_of s.records m r) (unnamed_none s.now setting.name stp_of s.records m e r)
     accepting_serves (Some id) e r =
-        let at : IsTakenAt m s.records id = unrefused_at setting.name stp_of s.records m id e r in
+        let at : IsTakenAt s.now m s.records id = unrefused_at s.now setting.name stp_of s.records m id e r in
         subst (λ (k : ℕ). Served (taken_at setting (seen_with s m) k m)) (sym (ap (λ o. unwrap_or o 0) at.found))
-        (moved_serves at.place at.own at.there at.owner (unrefused_agent setting.name stp_of s.records m r) at.unrefused)
+        (moved_serves at.place at.own at.there at.owner (unrefused_agent s.now setting.name stp_of s.records m r) at.unrefused)
 
-    answering_serves : (o : Option ErrorName) → refusal setting.name stp_of s.records m ≡ o → Served (answers o setting stp_of (seen_with s m) m)
+    answering_serves : (o : Option ErrorName) → refusal s.now setting.name stp_of s.records m ≡ o → Served (answers o setting stp_of (seen_with s m) m)
     answering_serves (Some error) r = refused_serves (seen_with s m) error
     answering_serves None r = accepting_serves (connection_of m.body) refl r
 
   serving_serves : (b : Bool) → is_query m.body ≡ b → Served (serves b setting stp_of (seen_with s m) m)
   serving_serves true q = inl (query_answered setting.name s.now s.records m q)
-  serving_serves false todo = answering_serves todo (refusal setting.name stp_of s.records m) refl
+  serving_serves false todo = answering_serves todo (refusal s.now setting.name stp_of s.records m) refl
 
   -- what is taken for the first time is answered, or worked on
   receiving_serves : is_taken m.header s.seen ≡ false → Served (receives (is_request m.body) (is_taken m.header s.seen) setting stp_of s m)

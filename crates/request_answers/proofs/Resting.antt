@@ -200,7 +200,7 @@ queries_settled false setting s m h = h
 
 serves_settled : (query : Bool) (setting : Setting) (s : AgentState) (m : Message) → IsEven s → IsSettled s → IsSettled (serves query setting s m).state
 serves_settled true setting s m even h = queries_settled (is_recursive m.body) setting s m h
-serves_settled false setting s m even h = answers_settled (refusal setting.agent.name setting.stp_of s.base.records m) setting s m even h
+serves_settled false setting s m even h = answers_settled (refusal s.base.now setting.agent.name setting.stp_of s.base.records m) setting s m even h
 
 receives_settled : (asks old : Bool) (setting : Setting) (s : AgentState) (m : Message) → IsEven s → IsSettled s → IsSettled (receives asks old setting s m).state
 unfolding receives hears

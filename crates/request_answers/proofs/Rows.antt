@@ -106,7 +106,7 @@ reserve version =
       end = 200;
       global = None;
       source = Some (codes "A");
-      start = 100;
+      start = Some 100;
       symmetric = None;
       version = version;
     })

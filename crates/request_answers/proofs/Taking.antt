@@ -55,19 +55,19 @@ unfolding has_row moves lives lifecycle_step lifecycle_event works_on is_termina
 takes_terminate side id c now r e = grind (arith, e)
 
 -- a reserve that asks for criteria
-pub reserve_taken : (side : Side) (q : ReserveRequest) (c now : ℕ) (r : Record) → r.rsm ≡ Rsm.ReserveStart → is_live r.lsm ≡ true → (asked_criteria q r.committed ≡ None → ⊥) →
-    is_carried Kind.Reserve c (moves_if side (requested (Body.Reserve q) c r) now r) ≡ true
+pub reserve_taken : (side : Side) (q : ReserveRequest) (c now : ℕ) (r : Record) → r.rsm ≡ Rsm.ReserveStart → is_live r.lsm ≡ true → (asked_criteria now q r.committed ≡ None → ⊥) →
+    is_carried Kind.Reserve c (moves_if side (requested now (Body.Reserve q) c r) now r) ≡ true
 unfolding requested
-reserve_taken side q c now r e l some = by (asked_criteria q r.committed) refl
+reserve_taken side q c now r e l some = by (asked_criteria now q r.committed) refl
   where
-    by : (o : Option Criteria) → asked_criteria q r.committed ≡ o → is_carried Kind.Reserve c (moves_if side (reserve_move c o) now r) ≡ true
+    by : (o : Option Criteria) → asked_criteria now q r.committed ≡ o → is_carried Kind.Reserve c (moves_if side (reserve_move c o) now r) ≡ true
     by None is = absurd (some is)
     by (Some criteria) is = takes_reserve side criteria c now r e l
 
-pub request_taken : (side : Side) (body : Body) (c now : ℕ) (r : Record) → is_request body ≡ true → is_query body ≡ false → IsFitFor body r →
-    is_carried (kind_of body) c (moves_if side (requested body c r) now r) ≡ true
+pub request_taken : (side : Side) (body : Body) (c now : ℕ) (r : Record) → is_request body ≡ true → is_query body ≡ false → IsFitFor now body r →
+    is_carried (kind_of body) c (moves_if side (requested now body c r) now r) ≡ true
 unfolding requested
-request_taken side (Body.Reserve q) c now r a b fit = reserve_taken side q c now r (reserve_row q r fit.row) fit.live (unrefused_criteria q r fit.modification)
+request_taken side (Body.Reserve q) c now r a b fit = reserve_taken side q c now r (reserve_row q r fit.row) fit.live (unrefused_criteria now q r fit.modification)
 request_taken side (Body.ReserveCommit id) c now r a b fit = takes_commit side c now r (commit_row id r fit.row) fit.live
 request_taken side (Body.ReserveAbort id) c now r a b fit = takes_abort side c now r (abort_row id r fit.row) fit.live
 request_taken side (Body.Provision id) c now r a b fit = takes_provision side id c now r fit.row fit.live

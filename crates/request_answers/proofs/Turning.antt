@@ -141,7 +141,7 @@ behind_holds agent now m r xs next k c h =
 
 takes_carry : (m : Message) (now : ℕ) (r : Record) → Carries r (takes m now r)
 unfolding takes
-takes_carry m now r = moves_if_carry Side.Aggregator (requested m.body m.header.correlation r) now r (requested_whole m.body m.header.correlation r)
+takes_carry m now r = moves_if_carry Side.Aggregator (requested now m.body m.header.correlation r) now r (requested_whole now m.body m.header.correlation r)
 
 pub request_holds : (agent : Agent) (now : ℕ) (m : Message) (r : Record) (xs : List ChildConnection) (next : ℕ) (k : Kind) (c : ℕ) → is_open k c r ≡ true → Holds k c (request_turn agent now m r xs next)
 request_holds agent now m r xs next k c h = behind_holds agent now m r xs next k c (replies_hold k c (begin r xs next) (takes m now r) (takes_carry m now r) (begun_holds k c r xs next h))

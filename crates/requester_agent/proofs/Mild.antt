@@ -88,8 +88,8 @@ module _ (laws : AreLaws) where
   about-mild (Some id) parent c k x = free-mild (open_request k x) parent c k (request_about k id) x (laws.about parent c id k x)
 
   reserve-prints : (o : Option ℕ) (parent : List ℕ) (c : ℕ) (q : ReserveAsk) (x : ChildConnection) → x.connection ≡ o → bytes_eq x.source x.dest ≡ false →
-      IsPrintable (to_child parent c x (Body.Reserve (reserve_for (service_if o x) q.version q.start q.end q.capacity x)))
-  reserve-prints None parent c q x e apart = laws.first parent c (service_between x) q.version q.start q.end q.capacity x tt tt apart
+      IsPrintable (to_child parent c x (Body.Reserve (reserve_for (service_if o q.directionality x) q.version q.start q.end q.capacity x)))
+  reserve-prints None parent c q x e apart = laws.first parent c (service_between q.directionality x) q.version q.start q.end q.capacity x tt tt apart
   reserve-prints (Some id) parent c q x e apart = laws.modification parent c id q.version q.start q.end q.capacity x e
 
   reserve-mild : (parent : List ℕ) (c : ℕ) (q : ReserveAsk) (x : ChildConnection) → bytes_eq x.source x.dest ≡ false → IsMildAsk x (asks_reserve parent c q x)

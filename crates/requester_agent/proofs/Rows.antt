@@ -43,7 +43,7 @@ abbrev ask : ℕ → ℕ → List ℕ → What → Entry
 ask second n label what = record { second = second; input = Input.Ask n (record { label = Some label; what = what }) }
 
 abbrev between : What
-between = What.Reserve (record { source = codes "A"; dest = codes "B"; capacity = 600; start = 100; end = 200; version = None })
+between = What.Reserve (record { source = codes "A"; dest = codes "B"; capacity = 600; start = 100; end = 200; version = None; directionality = Directionality.Bidirectional })
 
 abbrev tick : ℕ → Entry
 tick second = record { second = second; input = Input.Tick }
@@ -73,7 +73,7 @@ reserve =
       end = 200;
       global = None;
       source = Some (codes "A");
-      start = 100;
+      start = Some 100;
       symmetric = None;
       version = None;
     })
@@ -89,7 +89,7 @@ modification =
       end = 200;
       global = None;
       source = None;
-      start = 100;
+      start = Some 100;
       symmetric = None;
       version = None;
     })

@@ -44,17 +44,17 @@ asks_if_known (Some id) parent c k x = asks_if_free (open_request k x) parent c 
 abbrev pub asks_about : List ℕ → ℕ → Kind → ChildConnection → Asked
 asks_about parent c k x = asks_if_known x.connection parent c k x
 
--- a requester asks both ways between the view's points
-abbrev pub service_between : ChildConnection → Service
-service_between x = record { source = x.source; dest = x.dest; directionality = Directionality.Bidirectional; symmetric = None; global = None; description = None }
+-- a requester asks between the view's points, in the directions that its user asks for
+abbrev pub service_between : Directionality → ChildConnection → Service
+service_between d x = record { source = x.source; dest = x.dest; directionality = d; symmetric = None; global = None; description = None }
 
 -- a reserve of a connection that is known is a modification, which has no service
-abbrev pub service_if : Option ℕ → ChildConnection → Option Service
-service_if None x = Some (service_between x)
-service_if (Some id) x = None
+abbrev pub service_if : Option ℕ → Directionality → ChildConnection → Option Service
+service_if None d x = Some (service_between d x)
+service_if (Some id) d x = None
 
 abbrev pub reserve_of : ReserveAsk → ChildConnection → Body
-reserve_of q x = Body.Reserve (reserve_for (service_if x.connection x) q.version q.start q.end q.capacity x)
+reserve_of q x = Body.Reserve (reserve_for (service_if x.connection q.directionality x) q.version q.start q.end q.capacity x)
 
 abbrev pub asks_reserve : List ℕ → ℕ → ReserveAsk → ChildConnection → Asked
 asks_reserve parent c q x = asks_if_free (open_request Kind.Reserve x) parent c Kind.Reserve (reserve_of q x) x

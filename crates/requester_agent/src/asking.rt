@@ -82,7 +82,7 @@ fn reserve(
     let asked = match child.connection() {
         Some(_) => child.ask_reserve(parent, correlation, version, start, end, q.capacity, None),
         None => {
-            let service = service_between(child)?;
+            let service = service_between(child, q.directionality)?;
             child.ask_reserve(
                 parent,
                 correlation,
@@ -97,14 +97,17 @@ fn reserve(
     asked.map_err(|_fault| AllocError)
 }
 
-/// A requester asks both ways between the view's points.
-fn service_between(child: &ChildConnection) -> Result<Service, AllocError>
-    ensures { IfOk result (λ s. s ≡ service_between child.now) }
+/// A requester asks between the view's points, in the directions that its user asks for.
+fn service_between(
+    child: &ChildConnection,
+    directionality: Directionality,
+) -> Result<Service, AllocError>
+    ensures { IfOk result (λ s. s ≡ service_between directionality child.now) }
 {
     Ok(Service {
         source: child.source().copy()?,
         dest: child.dest().copy()?,
-        directionality: Directionality::Bidirectional,
+        directionality,
         symmetric: None,
         global: None,
         description: None,

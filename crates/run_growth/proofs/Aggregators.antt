@@ -156,10 +156,10 @@ rises_at zero (r ∷ rs) h = All-head Rises r rs h
 rises_at (suc n) (r ∷ rs) h = rises_at n rs (All-tail Rises r rs h)
 
 -- a request that fits a record
-abbrev Fits : Message → Record → Type 0
-Fits m r = IfSome (requested m.body m.header.correlation r) (λ move. IsFitting move r)
+abbrev Fits : (now : ℕ) → Message → Record → Type 0
+Fits now m r = IfSome (requested now m.body m.header.correlation r) (λ move. IsFitting move r)
 
-requested_passed : (setting : Setting) (s : AgentState) (n : ℕ) (m : Message) → Fits m (record_at n s.base.records) → IsPassed s (request_at setting s n m)
+requested_passed : (setting : Setting) (s : AgentState) (n : ℕ) (m : Message) → Fits s.base.now m (record_at n s.base.records) → IsPassed s (request_at setting s n m)
 unfolding request_at
 requested_passed setting s n m fits =
     let r : Record = record_at n s.base.records in
@@ -189,7 +189,7 @@ opened_passed setting s m q None = stays_passed s
 opened_passed setting s m q (Some points) =
     let r : Record = fresh (id_of setting.agent.number s.base.next) m.header.requester (service_of q (name_or q.source) (name_or q.dest)) points.0 points.1 in
     let new : AgentState = with_new setting s m q points in
-    let fits : Fits m (record_at (length s.base.records) new.base.records) = subst (Fits m) (sym (at_end s.base.records r)) (first_fitting m.body m.header.correlation r refl) in
+    let fits : Fits s.base.now m (record_at (length s.base.records) new.base.records) = subst (Fits s.base.now m) (sym (at_end s.base.records r)) (first_fitting s.base.now m.body m.header.correlation r refl) in
     let x : IsPassed new (request_at setting new (length s.base.records) m) = requested_passed setting new (length s.base.records) m fits in
     let own : Rises r = record { rising = tt; above = tt } in
     record {
@@ -206,19 +206,19 @@ opens_passed setting s m (Body.Reserve q) = opened_passed setting s m q (points_
 opens_passed setting s m _ = stays_passed s
 
 -- what isn't refused fits
-taken_passed : (setting : Setting) (s : AgentState) (m : Message) (id : ℕ) → IsTakenAt m s.base.records id → IsPassed s (request_to (place_of id m.header.requester s.base.records) setting s m)
+taken_passed : (setting : Setting) (s : AgentState) (m : Message) (id : ℕ) → IsTakenAt s.base.now m s.base.records id → IsPassed s (request_to (place_of id m.header.requester s.base.records) setting s m)
 taken_passed setting s m id t =
     let same : record_at t.place s.base.records ≡ t.own = get_or_from_slice_get s.base.records t.place t.own no_record t.there in
-    let fits : Fits m (record_at t.place s.base.records) =
-    subst (Fits m) (sym same) (requested_fitting m.body m.header.correlation t.own (unrefused_fits m.body t.own t.unrefused).modification)
+    let fits : Fits s.base.now m (record_at t.place s.base.records) =
+    subst (Fits s.base.now m) (sym same) (requested_fitting s.base.now m.body m.header.correlation t.own (unrefused_fits s.base.now m.body t.own t.unrefused).modification)
     in
     subst (λ o. IsPassed s (request_to o setting s m)) (sym t.found) (requested_passed setting s t.place m fits)
 
-accepts_passed : (setting : Setting) (s : AgentState) (m : Message) (o : Option ℕ) → connection_of m.body ≡ o → refusal setting.agent.name setting.stp_of s.base.records m ≡ None → IsPassed s (accepts o setting s m)
+accepts_passed : (setting : Setting) (s : AgentState) (m : Message) (o : Option ℕ) → connection_of m.body ≡ o → refusal s.base.now setting.agent.name setting.stp_of s.base.records m ≡ None → IsPassed s (accepts o setting s m)
 accepts_passed setting s m None c u = opens_passed setting s m m.body
-accepts_passed setting s m (Some id) c u = taken_passed setting s m id (unrefused_at setting.agent.name setting.stp_of s.base.records m id c u)
+accepts_passed setting s m (Some id) c u = taken_passed setting s m id (unrefused_at s.base.now setting.agent.name setting.stp_of s.base.records m id c u)
 
-answers_passed : (setting : Setting) (s : AgentState) (m : Message) (o : Option ErrorName) → refusal setting.agent.name setting.stp_of s.base.records m ≡ o → IsPassed s (answers o setting s m)
+answers_passed : (setting : Setting) (s : AgentState) (m : Message) (o : Option ErrorName) → refusal s.base.now setting.agent.name setting.stp_of s.base.records m ≡ o → IsPassed s (answers o setting s m)
 unfolding answers
 answers_passed setting s m (Some error) u = record { grown = grown_state s; rises = λ h. h }
 answers_passed setting s m None u = accepts_passed setting s m (connection_of m.body) refl u
@@ -248,7 +248,7 @@ queries_passed false setting s m = told_passed s (query_reply setting.agent.name
 
 serves_passed : (is_query : Bool) (setting : Setting) (s : AgentState) (m : Message) → IsPassed s (serves is_query setting s m)
 serves_passed true setting s m = queries_passed (is_recursive m.body) setting s m
-serves_passed false setting s m = answers_passed setting s m (refusal setting.agent.name setting.stp_of s.base.records m) refl
+serves_passed false setting s m = answers_passed setting s m (refusal s.base.now setting.agent.name setting.stp_of s.base.records m) refl
 
 ---- Any entry
 

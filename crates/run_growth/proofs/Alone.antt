@@ -33,7 +33,7 @@ use Rattle.run_growth.specs.Cuts.{state_before}
 use Rattle.run_growth.specs.Kept.{IsCausedBy, IsCheckAt, IsProvidersCheck}
 use Rattle.run_growth.specs.Laws.{NothingElseRefuses}
 use Rattle.run_growth.proofs.Entered.{AreEntries, entries_of, all_for}
-use Rattle.run_growth.proofs.Mild.{IsMildMessage, aggregator_mild, requester_mild}
+use Rattle.run_growth.proofs.Mild.{is_rough, IsMildMessage, aggregator_mild, requester_mild}
 use Rattle.run_growth.proofs.Honest.{role_is, runs_are_honest}
 
 -- what an entry causes is among what it and those before it cause
@@ -51,8 +51,13 @@ unfolding is_refusal
 no_request (Body.ReserveFailed id exception) h = refl
 no_request _ h = absurd (false≢true h)
 
+refusal_is_rough : (body : Body) → is_refusal body ≡ true → is_rough body ≡ true
+unfolding is_refusal is_rough
+refusal_is_rough (Body.ReserveFailed id exception) h = h
+refusal_is_rough _ h = absurd (false≢true h)
+
 not_mild : (m : Message) → is_refusal m.body ≡ true → IsMildMessage m → ⊥
-not_mild m r h = false≢true (sym h ∙ r)
+not_mild m r h = false≢true (sym h ∙ refusal_is_rough m.body r)
 
 -- what is no request is said in the agent's own name
 own_name : WhatIsSaidIsItsOwn → (h : Home) (es : List Entry) (m : Message) → All (IsForIn (name_in h.role)) es → Contains (told h es).out m → is_request m.body ≡ false → m.header.provider ≡ name_in h.role

@@ -20,4 +20,5 @@ mod Together
 mod Plays
 pub mod Grown
 pub mod Sent
+pub mod Starting
 pub mod WorldCuts

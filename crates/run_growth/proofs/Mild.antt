@@ -1,4 +1,4 @@
--- Aggregators and requesters refuse nothing for bandwidth: no message that they cause does.
+-- Aggregators and requesters refuse nothing for bandwidth, and each reserve that they send says its start.
 use Rattle.std.proofs.Common.{ℕ, ◌+◌, ◌≡◌, ◌&&◌, Bool, true, false, is_none, List, [], ◌∷◌, ◌++◌, Option, Some, None, IfSome, refl}
 use Rattle.std.specs.Prelude.{option_map, option_to_list, option_and_then}
 use Rattle.std.specs.List.{All}
@@ -38,7 +38,7 @@ use Rattle.connection_record.specs.Refusal.{place_of, points_of}
 use Rattle.child_connection.specs.declared.state.Sent.{Sent}
 use Rattle.child_connection.specs.Views.{ChildConnection, open_request}
 use Rattle.child_connection.specs.Hearing.{hear}
-use Rattle.child_connection.specs.Asks.{request_about, to_child}
+use Rattle.child_connection.specs.Asks.{request_about, reserve_for, to_child}
 use Rattle.agent_state.specs.declared.parent.Due.{Due}
 use Rattle.agent_state.specs.declared.parent.OpenQuery.{OpenQuery}
 use Rattle.agent_state.specs.declared.parent.Part.{Part}
@@ -47,10 +47,10 @@ use Rattle.agent_state.specs.Entries.{reply_by}
 use Rattle.agent_state.specs.State.{AgentState, children_at}
 use Rattle.nsi_query.specs.Summary.{Shown}
 use Rattle.nsi_query.specs.Answers.{answer_about}
-use Rattle.provider_agent.specs.Safety.{is_bandwidth, is_refusal}
+use Rattle.provider_agent.specs.Safety.{is_bandwidth}
 use Rattle.aggregator_agent.specs.declared.agent.Agent.{Agent}
 use Rattle.aggregator_agent.specs.Setting.{Setting as AggregatorSetting}
-use Rattle.aggregator_agent.specs.Asking.{Turn, Asked, begin, request_of, each, if_free, request_if, if_apart, reserve_if, passed_on, pass_one}
+use Rattle.aggregator_agent.specs.Asking.{Turn, Asked, begin, request_of, each, if_free, request_if, if_apart, service_for, reserve_if, passed_on, pass_one}
 use Rattle.aggregator_agent.specs.Settling.{fit_or_lack, checked, done_or_mixed, reservation_verdict, reservation_due, settles_reservation, settles_provision, closes_unless, settles, settle}
 use Rattle.aggregator_agent.specs.Turns.{takes, hear_one, tell_joined, pass_on, turn_by_request, request_turn, late_terminate, hold_end_by, hold_ends, force_ends, heard_by, turn_by_answer, answer_turn, spoken}
 use Rattle.aggregator_agent.specs.Clock.{tells_late, tell_one, tell_all, is_late_of, ends, clocked, clock_then, clock_all}
@@ -62,10 +62,16 @@ use Rattle.requester_agent.specs.Views.{asks_if_free, asks_if_known}
 use Rattle.requester_agent.specs.Queries.{query_about, query_for}
 use Rattle.requester_agent.specs.Steps.{answers as requester_answers, asks_at, asks_new, asks_found, reserves as requester_reserves, sends_query, asked_of, asked, hears_if, step as requester_step, after_if as requester_after_if, after as requester_after}
 
----- What refuses nothing for bandwidth
+---- What is mild
+
+-- a refusal for bandwidth, or a reserve without a start
+unfoldable pub is_rough : Body → Bool
+is_rough (Body.Reserve q) = is_none q.start
+is_rough (Body.ReserveFailed _ exception) = is_bandwidth exception.cause
+is_rough _ = false
 
 abbrev pub IsMild : Body → Type 0
-IsMild body = is_refusal body ≡ false
+IsMild body = is_rough body ≡ false
 
 abbrev IsMildReply : Reply → Type 0
 IsMildReply x = IsMild x.body
@@ -114,12 +120,12 @@ IsMildMove (ReservationMove.Lack e) = is_bandwidth e.cause ≡ false
 IsMildMove _ = Unit {0}
 
 fits_mild : (o : Option Criteria) (deadline : Option ℕ) (next : Rsm) (now : ℕ) (r : Record) → IsMildStep (fits o deadline next now r)
-unfolding is_refusal
+unfolding is_rough
 fits_mild None deadline next now r = nothing_said
 fits_mild (Some criteria) deadline next now r = one_said _ _ refl
 
 does_mild : (next : Rsm) (move : ReservationMove) (now : ℕ) (r : Record) → IsMildMove move → IsMildStep (reservation_does next move now r)
-unfolding is_refusal
+unfolding is_rough
 does_mild next (ReservationMove.Reserve c criteria) now r h = one_said _ _ refl
 does_mild next (ReservationMove.Fit deadline) now r h = fits_mild r.pending deadline next now r
 does_mild next (ReservationMove.Lack e) now r h = one_said _ (Body.ReserveFailed r.id e) h
@@ -139,7 +145,7 @@ reserves_if_mild None now r h = nothing_said
 reserves_if_mild (Some move) now r h = reserves_mild r.rsm move now r h
 
 confirmed_mild : (next : Psm) (id : ℕ) → IsMild (confirmed_body next id)
-unfolding is_refusal
+unfolding is_rough
 confirmed_mild Psm.Provisioned id = refl
 confirmed_mild Psm.Released id = refl
 confirmed_mild Psm.Provisioning id = refl
@@ -150,7 +156,7 @@ taken_mild c next None now r = nothing_said
 taken_mild c next (Some said) now r = one_said _ _ (confirmed_mild next r.id)
 
 provision_does_mild : (next : Psm) (said : Option Kind) (move : ProvisionMove) (now : ℕ) (r : Record) → IsMildStep (provision_does next said move now r)
-unfolding is_refusal
+unfolding is_rough
 provision_does_mild next said (ProvisionMove.Provision c) now r = taken_mild c next said now r
 provision_does_mild next said (ProvisionMove.Release c) now r = taken_mild c next said now r
 provision_does_mild next said ProvisionMove.Done now r = one_said _ _ (confirmed_mild next r.id)
@@ -166,7 +172,7 @@ provisions_if_mild side None now r = nothing_said
 provisions_if_mild side (Some move) now r = provisions_mild side r.psm move now r
 
 lifecycle_does_mild : (next : Lsm) (move : LifecycleMove) (now : ℕ) (r : Record) → IsMildStep (lifecycle_does next move now r)
-unfolding is_refusal
+unfolding is_rough
 lifecycle_does_mild next (LifecycleMove.Force c origin) now r = one_said _ _ refl
 lifecycle_does_mild next LifecycleMove.EndTime now r = nothing_said
 lifecycle_does_mild next (LifecycleMove.Terminate c) now r = nothing_said
@@ -197,7 +203,7 @@ closes_mild agent side now r =
     (λ x. lives_mild x.lsm LifecycleMove.Done now x)
 
 plane_mild : (b : Bool) (p : Plane) (c now : ℕ) (r : Record) → IsMildStep (tells_plane b p c now r)
-unfolding tells_plane is_refusal
+unfolding tells_plane is_rough
 plane_mild true p c now r = one_said _ _ refl
 plane_mild false p c now r = nothing_said
 
@@ -222,15 +228,15 @@ reserve_is_mild : (c : ℕ) (o : Option Criteria) → IfSome (reserve_move c o) 
 reserve_is_mild c None = tt
 reserve_is_mild c (Some criteria) = tt
 
-request_is_mild : (body : Body) (c : ℕ) (r : Record) → IfSome (requested body c r) IsMildRequest
+request_is_mild : (now : ℕ) (body : Body) (c : ℕ) (r : Record) → IfSome (requested now body c r) IsMildRequest
 unfolding requested
-request_is_mild (Body.Reserve q) c r = reserve_is_mild c (asked_criteria q r.committed)
-request_is_mild (Body.ReserveCommit id) c r = tt
-request_is_mild (Body.ReserveAbort id) c r = tt
-request_is_mild (Body.Provision id) c r = tt
-request_is_mild (Body.Release id) c r = tt
-request_is_mild (Body.Terminate id) c r = tt
-request_is_mild _ c r = tt
+request_is_mild now (Body.Reserve q) c r = reserve_is_mild c (asked_criteria now q r.committed)
+request_is_mild now (Body.ReserveCommit id) c r = tt
+request_is_mild now (Body.ReserveAbort id) c r = tt
+request_is_mild now (Body.Provision id) c r = tt
+request_is_mild now (Body.Release id) c r = tt
+request_is_mild now (Body.Terminate id) c r = tt
+request_is_mild now _ c r = tt
 
 ---- What children are asked
 
@@ -244,7 +250,7 @@ each_mild does h next [] = All-nil IsMildMessage
 each_mild does h next (x ∷ xs) = All-append IsMildMessage (does next x).asked (each does (does next x).next xs).asked (h next x) (each_mild does h (does next x).next xs)
 
 about_mild : (k : Kind) (id : ℕ) → IsMild (request_about k id)
-unfolding request_about is_refusal
+unfolding request_about is_rough
 about_mild Kind.ReserveCommit id = refl
 about_mild Kind.ReserveAbort id = refl
 about_mild Kind.Provision id = refl
@@ -265,15 +271,20 @@ unfolding request_if
 request_if_mild true k x = free_mild (open_request k x) (option_map (λ id. request_about k id) x.connection) (about_if_mild k x.connection)
 request_if_mild false k x = tt
 
-apart_mild : (b : Bool) (q : ReserveRequest) → IsMildIf (if_apart b (Some (Body.Reserve q)))
-unfolding is_refusal
-apart_mild true q = tt
-apart_mild false q = refl
+-- a reserve, with a service or without, says its start
+reserve_mild : (o : Option Service) (version : Option ℕ) (start end capacity : ℕ) (x : ChildConnection) → IsMild (Body.Reserve (reserve_for o version start end capacity x))
+unfolding is_rough reserve_for
+reserve_mild (Some service) version start end capacity x = refl
+reserve_mild None version start end capacity x = refl
+
+apart_mild : (b : Bool) (body : Body) → IsMild body → IsMildIf (if_apart b (Some body))
+apart_mild true body h = tt
+apart_mild false body h = h
 
 reserve_if_mild : (o : Option Criteria) (service : Service) (x : ChildConnection) → IsMildIf (reserve_if o service x)
 unfolding reserve_if
 reserve_if_mild None service x = tt
-reserve_if_mild (Some c) service x = free_mild (open_request Kind.Reserve x) _ (apart_mild _ _)
+reserve_if_mild (Some c) service x = free_mild (open_request Kind.Reserve x) _ (apart_mild _ _ (reserve_mild (service_for x.connection service) (Some c.version) c.interval.start c.interval.end c.capacity x))
 
 passed_mild : (body : Body) (own : Record) (x : ChildConnection) → IsMildIf (passed_on body own x)
 unfolding passed_on
@@ -371,7 +382,7 @@ settle_mild agent now t h = record { replies = All-append IsMildReply t.replies 
 request_mild : (agent : Agent) (now : ℕ) (m : Message) (own : Record) (children : List ChildConnection) (next : ℕ) → IsMildTurn (request_turn agent now m own children next)
 unfolding request_turn turn_by_request takes
 request_mild agent now m own children next =
-    let taken : IsMildStep (moves_if Side.Aggregator (requested m.body m.header.correlation own) now own) = moves_if_mild Side.Aggregator _ now own (request_is_mild m.body m.header.correlation own) in
+    let taken : IsMildStep (moves_if Side.Aggregator (requested now m.body m.header.correlation own) now own) = moves_if_mild Side.Aggregator _ now own (request_is_mild now m.body m.header.correlation own) in
     joined_mild _ agent now _ (settle_mild agent now _ (passes_mild m agent _ (record { replies = All-append IsMildReply [] _ nothing_said taken; asked = All-nil IsMildMessage; notices = nothing_said })))
 
 holds_mild : (lost : Bool) (m : Message) (now : ℕ) (t : Turn) → IsMildTurn t → IsMildTurn (hold_ends lost m now t)
@@ -415,7 +426,7 @@ accepts_mild None setting s m = opens_mild m.body setting s m
 accepts_mild (Some id) setting s m = to_mild _ setting s m
 
 answers_mild : (o : Option ErrorName) (setting : AggregatorSetting) (s : AgentState) (m : Message) → AreMildMessages (answers o setting s m).out
-unfolding answers is_refusal
+unfolding answers is_rough
 answers_mild (Some error) setting s m = one_sent _ refl
 answers_mild None setting s m = accepts_mild _ setting s m
 
@@ -428,7 +439,7 @@ all_mild agent now number m next (r ∷ rs) [] = All-nil IsMildMessage
 all_mild agent now number m next (r ∷ rs) (xs ∷ xss) = All-append IsMildMessage _ _ (spoken_mild agent _ (answer_mild agent now m r xs next)) (all_mild agent now (number + 1) m _ rs xss)
 
 query_closes_mild : (b : Bool) (agent : List ℕ) (own : Record) (q : OpenQuery) (qs : List OpenQuery) → AreMildMessages (closes_query_unless b agent own q qs).out
-unfolding is_refusal
+unfolding is_rough
 query_closes_mild true agent own q qs = All-nil IsMildMessage
 query_closes_mild false agent own q qs = one_sent _ refl
 
@@ -453,7 +464,7 @@ hears_mild setting s m = All-append IsMildMessage _ _ (all_mild setting.agent s.
 ---- Queries
 
 seek_of_mild : (o : Option ℕ) (agent : Agent) (next : ℕ) (x : ChildConnection) → AreMildMessages (seek_of o agent next x).asked
-unfolding is_refusal
+unfolding is_rough
 seek_of_mild None agent next x = All-nil IsMildMessage
 seek_of_mild (Some id) agent next x = one_sent _ refl
 
@@ -463,7 +474,7 @@ seek_mild agent next [] = All-nil IsMildMessage
 seek_mild agent next (x ∷ xs) = All-append IsMildMessage _ _ (seek_of_mild x.connection agent next x) (seek_mild agent (seek_of x.connection agent next x).next xs)
 
 asks_below_mild : (setting : AggregatorSetting) (s : AgentState) (n : ℕ) (m : Message) → AreMildMessages (asks_below setting s n m).out
-unfolding asks_below is_refusal
+unfolding asks_below is_rough
 asks_below_mild setting s n m = by_test _
   where
     by_test : (b : Bool) → AreMildMessages (opens_query b setting s n m (seek setting.agent s.base.next (children_at n s.children))).out
@@ -471,13 +482,13 @@ asks_below_mild setting s n m = by_test _
     by_test false = one_sent _ refl
 
 own_mild : (b : Bool) (o : Option ℕ) (setting : AggregatorSetting) (s : AgentState) (m : Message) → AreMildMessages (asks_if_own b o setting s m).out
-unfolding is_refusal
+unfolding is_rough
 own_mild true (Some n) setting s m = asks_below_mild setting s n m
 own_mild true None setting s m = one_sent _ refl
 own_mild false o setting s m = one_sent _ refl
 
 about_answer_mild : (agent : List ℕ) (x : Shown) (body : Body) → IsMildIf (answer_about agent x body)
-unfolding answer_about is_refusal
+unfolding answer_about is_rough
 about_answer_mild agent x (Body.QuerySummary connection) = refl
 about_answer_mild agent x (Body.QueryNotification range) = refl
 about_answer_mild agent x (Body.QueryResult range) = refl
@@ -485,7 +496,7 @@ about_answer_mild agent x (Body.QueryRecursive connection) = refl
 about_answer_mild agent x _ = tt
 
 by_answer_mild : (o : Option ℕ) (agent : List ℕ) (s : AgentState) (m : Message) → IsMildIf (answer_by o agent s m)
-unfolding is_refusal
+unfolding is_rough
 by_answer_mild None agent s m = refl
 by_answer_mild (Some id) agent s m = by_place (place_of id m.header.requester s.base.records)
   where
@@ -494,7 +505,7 @@ by_answer_mild (Some id) agent s m = by_place (place_of id m.header.requester s.
     by_place (Some n) = about_answer_mild agent (shown_at n s) m.body
 
 reply_mild : (b : Bool) (o : Option Body) (agent : List ℕ) (m : Message) → IsMildIf o → IsMildMessage (reply_by b o agent m)
-unfolding is_refusal
+unfolding is_rough
 reply_mild true (Some body) agent m h = h
 reply_mild true None agent m h = refl
 reply_mild false o agent m h = refl
@@ -517,7 +528,7 @@ receives_mild false true setting s m = All-nil IsMildMessage
 ---- Time
 
 late_mild : (delivery c now : ℕ) (r : Record) → IsMildStep (tells_late delivery c now r)
-unfolding tells_late is_refusal
+unfolding tells_late is_rough
 late_mild delivery c now r = one_said _ _ refl
 
 tell_all_mild : (ds : List Due) (agent : Agent) (now number : ℕ) (waiting : List Message) (own : Record) (next : ℕ) → AreMild (tell_all ds agent now number waiting own next).out
@@ -585,9 +596,9 @@ found_mild None k set s = All-nil IsMildMessage
 found_mild (Some found) k set s = known_ask_mild _ set.name _ k found.1.child
 
 reserve_ask_mild : (o : Option (ℕ × View)) (q : ReserveAsk) (label : List ℕ) (set : RequesterSetting) (s : AgentState) → AreMildMessages (requester_reserves o q label set s).out
-unfolding requester_reserves asks_new asks_at requester_answers is_refusal
-reserve_ask_mild None q label set s = free_ask_mild _ set.name _ Kind.Reserve _ _ refl
-reserve_ask_mild (Some found) q label set s = free_ask_mild _ set.name _ Kind.Reserve _ _ refl
+unfolding requester_reserves asks_new asks_at requester_answers
+reserve_ask_mild None q label set s = free_ask_mild _ set.name _ Kind.Reserve _ _ (reserve_mild _ q.version q.start q.end q.capacity _)
+reserve_ask_mild (Some found) q label set s = free_ask_mild _ set.name _ Kind.Reserve _ _ (reserve_mild _ q.version q.start q.end q.capacity _)
 
 query_mild : (o : Option Body) (set : RequesterSetting) (s : AgentState) → IsMildIf o → AreMildMessages (sends_query o set s).out
 unfolding sends_query
@@ -595,7 +606,7 @@ query_mild None set s h = All-nil IsMildMessage
 query_mild (Some body) set s h = one_sent _ h
 
 query_about_mild : (what : What) (id : ℕ) → IsMildIf (query_about what id)
-unfolding query_about is_refusal
+unfolding query_about is_rough
 query_about_mild What.Summary id = refl
 query_about_mild (What.Notifications numbers) id = refl
 query_about_mild (What.Results numbers) id = refl
@@ -623,7 +634,7 @@ asked_of_mild (What.Results numbers) label found set s = query_mild _ set s (que
 asked_of_mild What.Recursive label found set s = query_mild _ set s (query_for_mild What.Recursive found)
 
 asked_ask_mild : (o : Option (List ℕ)) (what : What) (set : RequesterSetting) (s : AgentState) → AreMildMessages (asked o what set s).out
-unfolding asked is_refusal
+unfolding asked is_rough
 asked_ask_mild None What.Summary set s = query_mild _ set s refl
 asked_ask_mild None (What.Reserve q) set s = All-nil IsMildMessage
 asked_ask_mild None What.Commit set s = All-nil IsMildMessage

@@ -35,7 +35,7 @@ kept_stay setting s n o =
     (λ x e. subst (λ z. IsLater z q) (get_or_from_slice_get s.records n x no_record e) (told_later (status_of s.now r) c s.now r (moves_if Side.Provider o s.now r) (moves_if_later Side.Provider o s.now r)))
 
 taken_stay : (setting : Setting) (s : State) (n : ℕ) (m : Message) → RecordsStay s.records (taken_at setting s n m).state.records
-taken_stay setting s n m = kept_stay setting s n (requested m.body m.header.correlation (record_at n s.records))
+taken_stay setting s n m = kept_stay setting s n (requested s.now m.body m.header.correlation (record_at n s.records))
 
 opened_stay : (setting : Setting) (s : State) (m : Message) (q : ReserveRequest) (points : ℕ × ℕ) → RecordsStay s.records (taken_at setting (with_new setting s m q points) (length s.records) m).state.records
 opened_stay setting s m q points =

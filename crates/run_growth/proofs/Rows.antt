@@ -71,7 +71,7 @@ abbrev asks : List ℕ → What → Ask
 asks label what = record { label = Some label; what = what }
 
 abbrev reserves_between : (start end : ℕ) → What
-reserves_between start end = What.Reserve (record { source = codes "A"; dest = codes "B"; capacity = 600; start = start; end = end; version = None })
+reserves_between start end = What.Reserve (record { source = codes "A"; dest = codes "B"; capacity = 600; start = start; end = end; version = None; directionality = Directionality.Bidirectional })
 
 ---- What is said
 
@@ -85,7 +85,7 @@ reserve n start end =
       connection = None;
       source = Some (codes "A");
       dest = Some (codes "B");
-      start = start;
+      start = Some start;
       end = end;
       capacity = 600;
       version = None;

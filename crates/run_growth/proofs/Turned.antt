@@ -166,11 +166,11 @@ answer_turned agent now m r xs next =
 
 taken_later : (m : Message) (now : ℕ) (r : Record) → IsLater r (takes m now r).rec
 unfolding takes
-taken_later m now r = moves_if_later Side.Aggregator (requested m.body m.header.correlation r) now r
+taken_later m now r = moves_if_later Side.Aggregator (requested now m.body m.header.correlation r) now r
 
-taken_rises : (m : Message) (now : ℕ) (r : Record) → IfSome (requested m.body m.header.correlation r) (λ move. IsFitting move r) → Rises r → Rises (takes m now r).rec
+taken_rises : (m : Message) (now : ℕ) (r : Record) → IfSome (requested now m.body m.header.correlation r) (λ move. IsFitting move r) → Rises r → Rises (takes m now r).rec
 unfolding takes
-taken_rises m now r f h = fitting_rises Side.Aggregator (requested m.body m.header.correlation r) now r f h
+taken_rises m now r f h = fitting_rises Side.Aggregator (requested now m.body m.header.correlation r) now r f h
 
 -- from the record that has taken the request
 taken_turned : (agent : Agent) (now : ℕ) (m : Message) (r : Record) (xs : List ChildConnection) (next : ℕ) → IsTurned (takes m now r).rec xs (request_turn agent now m r xs next)
@@ -187,6 +187,6 @@ request_later agent now m r xs next = later_trans r (takes m now r).rec (request
 pub request_stays : (agent : Agent) (now : ℕ) (m : Message) (r : Record) (xs : List ChildConnection) (next : ℕ) → ViewsStay xs (request_turn agent now m r xs next).children
 request_stays agent now m r xs next = (taken_turned agent now m r xs next).children
 
-pub request_rises : (agent : Agent) (now : ℕ) (m : Message) (r : Record) (xs : List ChildConnection) (next : ℕ) → IfSome (requested m.body m.header.correlation r) (λ move. IsFitting move r) → Rises r →
+pub request_rises : (agent : Agent) (now : ℕ) (m : Message) (r : Record) (xs : List ChildConnection) (next : ℕ) → IfSome (requested now m.body m.header.correlation r) (λ move. IsFitting move r) → Rises r →
     Rises (request_turn agent now m r xs next).own
 request_rises agent now m r xs next f h = (taken_turned agent now m r xs next).own.rises (taken_rises m now r f h)

@@ -1,9 +1,11 @@
 -- The laws of what is sent in runs.
-use Rattle.std.specs.Prelude.{◌≡◌, ◌⊎◌, ℕ, List, true}
+use Rattle.std.specs.Prelude.{◌≡◌, ◌⊎◌, ℕ, List, Some, true}
 use Rattle.std.specs.List.{Contains}
 use Rattle.nsi_primitive.specs.Messages.{identity, kind_of, is_request}
 use Rattle.nsi_primitive.specs.declared.entry.Event.{Event}
+use Rattle.nsi_primitive.specs.declared.message.Body.{Body}
 use Rattle.nsi_primitive.specs.declared.message.Message.{Message}
+use Rattle.nsi_primitive.specs.declared.message.ReserveRequest.{ReserveRequest}
 use Rattle.stp_topology.specs.declared.network.Network.{Network}
 use Rattle.connection_record.specs.Speaking.{is_answering}
 use Rattle.child_connection.specs.Holding.{is_reservation}
@@ -56,3 +58,11 @@ OneIsOutstanding =
     let w : World = world_after empty events in
     IsPlaceOf w a k → Contains (told_to homes w a k).out m → is_reservation (kind_of m.body) ≡ true →
     WasTaken homes w m ⊎ (held m.header.provider m.header.correlation (told_to homes w a k).state ≡ 1)
+
+-- a reserve says its start
+abbrev pub SaysItsStart : Body → Type 0
+SaysItsStart body = (q : ReserveRequest) → body ≡ Body.Reserve q → (start : ℕ) × (q.start ≡ Some start)
+
+-- So does each that is sent: a reserve may come without a start, but no agent asks so.
+abbrev pub EachReserveSaysItsStart : Type 0
+EachReserveSaysItsStart = (homes : Homes) (w : World) (m : Message) → IsSent homes w m → SaysItsStart m.body

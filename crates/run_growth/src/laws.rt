@@ -4,7 +4,7 @@ ghost use Rattle.run_growth.specs.AgentLaws.{EntriesGrow, EntriesLeaveAll, IsAlw
 ghost use Rattle.run_growth.specs.InStep.{InStepRises};
 ghost use Rattle.run_growth.specs.Laws.{RunsAreCapped, RunsAreHonest, NothingElseRefuses, RunsAreRising, SyncedStays};
 ghost use Rattle.run_growth.specs.SafeLaws.{EveryRunIsSafe, EveryPlayIsSafe};
-ghost use Rattle.run_growth.specs.SentLaws.{CutsAreGrown, IdentitiesAreOne, AnswersAreOfRequests, OneIsOutstanding};
+ghost use Rattle.run_growth.specs.SentLaws.{CutsAreGrown, IdentitiesAreOne, AnswersAreOfRequests, OneIsOutstanding, EachReserveSaysItsStart};
 
 use nsi_agent::laws::{every_message, every_state};
 use nsi_world::laws::{play_runs, sent};
@@ -96,3 +96,8 @@ pub fn outstanding()
 {
     sent();
 }
+
+/// Whatever an agent has taken, each reserve that it sends says its start.
+pub fn starts()
+    ensures { EachReserveSaysItsStart }
+{}

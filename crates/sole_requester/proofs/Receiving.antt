@@ -45,18 +45,18 @@ record IsNamed (m : Message) (records : List Record) (id n : ℕ) : Type 0 where
   within : n < length records
   id_is : (record_at n records).id ≡ id
 
-named_at : (agent : List ℕ) (stp_of : List ℕ → Option ℕ) (records : List Record) (m : Message) (id : ℕ) → connection_of m.body ≡ Some id → refusal agent stp_of records m ≡ None → (n : ℕ) × IsNamed m records id n
+named_at : (now : ℕ) (agent : List ℕ) (stp_of : List ℕ → Option ℕ) (records : List Record) (m : Message) (id : ℕ) → connection_of m.body ≡ Some id → refusal now agent stp_of records m ≡ None → (n : ℕ) × IsNamed m records id n
 unfolding refusal
-named_at agent stp_of records m id c h = by_place (place_of id m.header.requester records) refl
+named_at now agent stp_of records m id c h = by_place (place_of id m.header.requester records) refl
   where
-    about_none : about (connection_of m.body) m.header.requester stp_of records m.body ≡ None
-    about_none = second_none (refused_if (not (bytes_eq m.header.provider agent)) ErrorName.WrongProvider) (about (connection_of m.body) m.header.requester stp_of records m.body) h
+    about_none : about now (connection_of m.body) m.header.requester stp_of records m.body ≡ None
+    about_none = second_none (refused_if (not (bytes_eq m.header.provider agent)) ErrorName.WrongProvider) (about now (connection_of m.body) m.header.requester stp_of records m.body) h
 
-    named_none : named_refusal (record_for id m.header.requester records) m.body ≡ None
-    named_none = sym (ap (λ o. about o m.header.requester stp_of records m.body) c) ∙ about_none
+    named_none : named_refusal now (record_for id m.header.requester records) m.body ≡ None
+    named_none = sym (ap (λ o. about now o m.header.requester stp_of records m.body) c) ∙ about_none
 
     by_place : (o : Option ℕ) → place_of id m.header.requester records ≡ o → (n : ℕ) × IsNamed m records id n
-    by_place None e = absurd (let clash : Some ErrorName.Nonexistent ≡ None = sym (ap (λ p. named_refusal (option_and_then (λ n. slice_get records n) p) m.body) e) ∙ named_none in cc)
+    by_place None e = absurd (let clash : Some ErrorName.Nonexistent ≡ None = sym (ap (λ p. named_refusal now (option_and_then (λ n. slice_get records n) p) m.body) e) ∙ named_none in cc)
     by_place (Some n) e =
         let found = position-Some (λ r. eqb id r.id && bytes_eq m.header.requester r.owner) records n no_record e in
         let same = and_parts (eqb id (record_at n records).id) (bytes_eq m.header.requester (record_at n records).owner) found.1 in
@@ -80,7 +80,7 @@ module _ (setting : Setting) (stp_of : List ℕ → Option ℕ) (s : State) (m :
 
   moved : (id n : ℕ) → connection_of m.body ≡ Some id → n < length s.records → (record_at n s.records).id ≡ id → Comes (taken_at setting (seen_with s m) n m)
   moved id n c lt same =
-      let o : Option Move = requested m.body m.header.correlation (record_at n s.records) in
+      let o : Option Move = requested s.now m.body m.header.correlation (record_at n s.records) in
       record {
         few = kept_few setting (seen_with s m) n o lt;
         owners = λ name is own. kept_owners setting (seen_with s m) n o lt name own;
@@ -135,14 +135,14 @@ module _ (setting : Setting) (stp_of : List ℕ → Option ℕ) (s : State) (m :
         ap Some (told_keeps (λ (z : Record). z.id ≡ own.id) (status_of s.now own) (id_of setting.number t.next) s.now (moves Side.Provider (Move.Reservation (ReservationMove.Reserve m.header.correlation criteria)) s.now own) (λ notices. refl))
 
     abbrev answer_by : Body → Record → Moved
-    answer_by body r = tells (status_of s.now r) (id_of setting.number t.next) s.now (moves_if Side.Provider (requested body m.header.correlation r) s.now r)
+    answer_by body r = tells (status_of s.now r) (id_of setting.number t.next) s.now (moves_if Side.Provider (requested s.now body m.header.correlation r) s.now r)
 
     abbrev NamesNew : Body → Record → Type 0
     NamesNew body r = 1 ≤ works_in (answer_by body r).rec → Some (answer_by body r).rec.id ≡ first_named (addressed setting.name (answer_by body r).rec.owner (answer_by body r).out)
 
     names_reserve : NamesNew (Body.Reserve q) own
     unfolding requested
-    names_reserve = named_by_move (asked_criteria q own.committed)
+    names_reserve = named_by_move (asked_criteria s.now q own.committed)
 
     names_new : NamesNew m.body (record_at place t.records)
     names_new = subst (λ (r : Record). NamesNew m.body r) (sym there) (subst (λ (body : Body). NamesNew body own) (sym is) names_reserve)
@@ -157,7 +157,7 @@ module _ (setting : Setting) (stp_of : List ℕ → Option ℕ) (s : State) (m :
 
     opened : Comes (taken_at setting t place m)
     opened =
-        let o : Option Move = requested m.body m.header.correlation (record_at place t.records) in
+        let o : Option Move = requested s.now m.body m.header.correlation (record_at place t.records) in
         record {
           few = kept_few setting t place o lt;
           owners = λ name e all. kept_owners setting t place o lt name (owners_then name e all);
@@ -175,19 +175,19 @@ module _ (setting : Setting) (stp_of : List ℕ → Option ℕ) (s : State) (m :
   opening (Body.Reserve q) is unnamed = between (points_of stp_of q) q is unnamed
   opening _ is unnamed = said [] (omega arith)
 
-  accepting : (o : Option ℕ) → connection_of m.body ≡ o → refusal setting.name stp_of s.records m ≡ None → Comes (accepts o setting stp_of (seen_with s m) m)
+  accepting : (o : Option ℕ) → connection_of m.body ≡ o → refusal s.now setting.name stp_of s.records m ≡ None → Comes (accepts o setting stp_of (seen_with s m) m)
   accepting None e fine = opening m.body refl e
   accepting (Some id) e fine =
-      let named = named_at setting.name stp_of s.records m id e fine in
+      let named = named_at s.now setting.name stp_of s.records m id e fine in
       subst (λ (k : ℕ). Comes (taken_at setting (seen_with s m) k m)) (sym (ap (λ o. unwrap_or o 0) named.1.place)) (moved id named.0 e named.1.within named.1.id_is)
 
-  answering : (o : Option ErrorName) → refusal setting.name stp_of s.records m ≡ o → Comes (answers o setting stp_of (seen_with s m) m)
+  answering : (o : Option ErrorName) → refusal s.now setting.name stp_of s.records m ≡ o → Comes (answers o setting stp_of (seen_with s m) m)
   answering (Some error) e = said (error_reply setting.name m error ∷ []) (omega arith)
   answering None e = accepting (connection_of m.body) refl e
 
   serving : (b : Bool) → Comes (serves b setting stp_of (seen_with s m) m)
   serving true = said (query_reply setting.name m (answer_to setting.name s.now s.records m) ∷ []) (omega arith)
-  serving false = answering (refusal setting.name stp_of s.records m) refl
+  serving false = answering (refusal s.now setting.name stp_of s.records m) refl
 
   pub received : is_request m.body ≡ true → is_taken m.header s.seen ≡ false → Comes (receives (is_request m.body) (is_taken m.header s.seen) setting stp_of s m)
   unfolding receives

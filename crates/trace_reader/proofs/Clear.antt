@@ -19,6 +19,7 @@ use Rattle.nsi_primitive.specs.declared.ask.Ask.{Ask}
 use Rattle.nsi_primitive.specs.declared.ask.AskAnswer.{AskAnswer}
 use Rattle.nsi_primitive.specs.declared.ask.NumbersAsked.{NumbersAsked}
 use Rattle.nsi_primitive.specs.declared.ask.What.{What}
+use Rattle.nsi_primitive.specs.declared.kind.Directionality.{Directionality}
 use Rattle.nsi_primitive.specs.declared.entry.Event.{Event}
 use Rattle.nsi_primitive.specs.declared.entry.Happening.{Happening}
 use Rattle.nsi_primitive.specs.declared.entry.Input.{Input}
@@ -177,12 +178,20 @@ version_clear : (version : Option ℕ) → AreClear (asks.version_words version)
 version_clear None = tt
 version_clear (Some v) = (decimal_clear v, tt)
 
+way_clear : (d : Directionality) → AreClear (asks.way_words d)
+way_clear Directionality.Bidirectional = tt
+way_clear Directionality.Unidirectional = (refl, tt)
+
+both_clear : (vs ws : List (List ℕ)) → AreClear vs → AreClear ws → AreClear (vs ++ ws)
+both_clear [] ws h i = i
+both_clear (v ∷ vs) ws h i = (h.0, both_clear vs ws h.1 i)
+
 numbers_clear : (numbers : Option NumbersAsked) → AreClear (asks.numbers_words numbers)
 numbers_clear None = tt
 numbers_clear (Some n) = (decimal_clear n.from, (decimal_clear n.to, tt))
 
 asked_clear : (w : What) → IsRangedWhat w → AreClear (asks.what_words w)
-asked_clear (What.Reserve r) h = (name_clear r.source h.source, (name_clear r.dest h.dest, (decimal_clear r.capacity, (decimal_clear r.start, (decimal_clear r.end, version_clear r.version)))))
+asked_clear (What.Reserve r) h = (name_clear r.source h.source, (name_clear r.dest h.dest, (decimal_clear r.capacity, (decimal_clear r.start, (decimal_clear r.end, both_clear (asks.version_words r.version) (asks.way_words r.directionality) (version_clear r.version) (way_clear r.directionality))))))
 asked_clear What.Commit h = tt
 asked_clear What.Abort h = tt
 asked_clear What.Provision h = tt

@@ -9,6 +9,7 @@ use Rattle.nsi_primitive.specs.States.{machine_text}
 use Rattle.nsi_primitive.specs.declared.ask.Ask.{Ask}
 use Rattle.nsi_primitive.specs.declared.ask.AskAnswer.{AskAnswer}
 use Rattle.nsi_primitive.specs.declared.ask.What.{What}
+use Rattle.nsi_primitive.specs.declared.kind.Directionality.{Directionality}
 use Rattle.nsi_primitive.specs.declared.entry.Event.{Event}
 use Rattle.nsi_primitive.specs.declared.entry.Happening.{Happening}
 use Rattle.nsi_primitive.specs.declared.entry.Input.{Input}
@@ -35,7 +36,7 @@ abbrev takes : ℕ → ℕ → Input → Option AskAnswer → Event
 takes agent second input answer = record { agent = agent; what = Happening.Entry (record { second = second; input = input }) answer }
 
 abbrev reserve : Ask
-reserve = record { label = Some (codes "c1"); what = What.Reserve (record { source = codes "A"; dest = codes "B"; capacity = 600; start = 100; end = 200; version = None }) }
+reserve = record { label = Some (codes "c1"); what = What.Reserve (record { source = codes "A"; dest = codes "B"; capacity = 600; start = 100; end = 200; version = None; directionality = Directionality.Bidirectional }) }
 
 abbrev response : Message
 response = record { header = record { correlation = id_of 1 1; requester = codes "r1"; provider = codes "p1" }; body = Body.ReserveResponse (id_of 0 1) }

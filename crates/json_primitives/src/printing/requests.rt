@@ -30,7 +30,7 @@ pub fn put_reserve(
     object.put_time(alloc, Key::EndTime, form, reserve.end)?;
     object.put_optional_text(alloc, Key::GlobalReservationId, &reserve.global)?;
     object.put_optional_name(alloc, Key::SourceStp, &reserve.source)?;
-    object.put_time(alloc, Key::StartTime, form, reserve.start)?;
+    object.put_optional_time(alloc, Key::StartTime, form, reserve.start)?;
     object.put_optional_flag(alloc, Key::SymmetricPath, reserve.symmetric)?;
     object.put_optional_version(alloc, Key::Version, reserve.version)
 }

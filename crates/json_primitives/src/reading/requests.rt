@@ -11,6 +11,7 @@ use json_fields::reading::{
     optional_directionality, optional_empty_list, optional_flag, optional_id, optional_name,
     optional_text, optional_version, required_capacity, required_id, required_name, required_time,
 };
+use json_fields::row_fields::optional_time;
 use json_fields::{Key, LineFault};
 use nsi_base::Name;
 use nsi_primitive::{Body, Id, Message, ReserveRequest};
@@ -34,7 +35,7 @@ pub fn reserve_from(alloc: Global, value: &Value) -> Result<Message, LineFault>
     let global = optional_text(alloc, value, Key::GlobalReservationId, 128)?;
     let header = header_from(alloc, value, correlation)?;
     let source = point_from(alloc, value, Key::SourceStp, &connection)?;
-    let start = required_time(value, Key::StartTime)?;
+    let start = optional_time(value, Key::StartTime)?;
     let symmetric = optional_flag(value, Key::SymmetricPath)?;
     let version = optional_version(value, Key::Version)?;
     if is_one_point(&source, &dest) {

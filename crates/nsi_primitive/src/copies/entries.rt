@@ -18,6 +18,7 @@ impl ReserveAsk {
             start: self.start,
             end: self.end,
             version: self.version,
+            directionality: self.directionality,
         })
     }
 }

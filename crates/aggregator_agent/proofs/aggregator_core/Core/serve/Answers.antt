@@ -21,5 +21,5 @@ returns-else-is_query-clause-step c =
     let d = c.args.self.now in
     let t = c.args.topology.now in
     let m = c.args.message.now in
-    same_step t d c.answer.new.self c.answer.result (λ setting s. answers (refusal setting.agent.name setting.stp_of s.base.records m) setting s m) _
+    same_step t d c.answer.new.self c.answer.result (λ setting s. answers (refusal s.base.now setting.agent.name setting.stp_of s.base.records m) setting s m) _
     (λ route. serves_other (setting_of t d.agent route) (state_at d) m (sym c.is_query.ensures ∙ c.if-is_query.false)) c.answer.ensures.step

@@ -15,7 +15,7 @@ returns-clause-consistent c =
     let d = c.args.self.now in
     let m = c.args.message.now in
     let own = record_at c.args.place d.records.items in
-    let x = moves_if Side.Provider (requested m.body m.header.correlation own) d.now own in
+    let x = moves_if Side.Provider (requested d.now m.body m.header.correlation own) d.now own in
     record {
       kept =
           subst (λ (x : Core). AreKept x.records.items x.calendar.bookings) (sym c.free_if_dropped.ensures)
