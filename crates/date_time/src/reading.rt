@@ -35,6 +35,7 @@ fn second_at(days: i64, time: u32, offset: i64) -> Option<Second>
 
 /// Two digits at the front, and what stands behind them.
 #[tactic(auto, unfolding(crate::specs::Reading::two_at))]
+#[inline(always)]
 fn two_at(text: &[u8]) -> Option<(u8, &[u8])>
     ensures value { option_map (λ p. (p.0, p.1.now)) result ≡ two_at text.now }
     ensures bound { IfSome result (λ p. p.0 < 100) }
@@ -48,6 +49,7 @@ fn two_at(text: &[u8]) -> Option<(u8, &[u8])>
 }
 
 #[tactic(auto, unfolding(crate::specs::Reading::four_at))]
+#[inline(always)]
 fn four_at(text: &[u8]) -> Option<(u16, &[u8])>
     ensures value { option_map (λ p. (p.0, p.1.now)) result ≡ four_at text.now }
     ensures bound { IfSome result (λ p. p.0 < 10_000) }
@@ -58,6 +60,7 @@ fn four_at(text: &[u8]) -> Option<(u16, &[u8])>
 }
 
 #[tactic(auto, unfolding(crate::specs::Reading::field_at))]
+#[inline(always)]
 fn field_at(most: u8, text: &[u8]) -> Option<(u8, &[u8])>
     ensures value { option_map (λ p. (p.0, p.1.now)) result ≡ field_at most text.now }
     ensures bound { IfSome result (λ p. p.0 ≤ most) }
@@ -68,6 +71,7 @@ fn field_at(most: u8, text: &[u8]) -> Option<(u8, &[u8])>
 
 /// What stands behind a byte.
 #[tactic(auto, unfolding(crate::specs::Reading::behind))]
+#[inline(always)]
 fn behind(byte: u8, text: &[u8]) -> Option<&[u8]>
     ensures { option_map (λ r. r.now) result ≡ behind byte text.now }
 {
@@ -79,6 +83,7 @@ fn behind(byte: u8, text: &[u8]) -> Option<&[u8]>
 
 /// What stands behind a `T` or `t`.
 #[tactic(auto, unfolding(crate::specs::Reading::behind_letter))]
+#[inline(always)]
 fn behind_letter(text: &[u8]) -> Option<&[u8]>
     ensures { option_map (λ r. r.now) result ≡ behind_letter text.now }
 {
@@ -103,6 +108,7 @@ fn days_to(year: u16, month: u8, day: u8) -> Option<i64>
 }
 
 #[tactic(auto, unfolding(crate::specs::Reading::date_at))]
+#[inline(always)]
 fn date_at(text: &[u8]) -> Option<(i64, &[u8])>
     ensures value { option_map (λ p. (p.0, p.1.now)) result ≡ date_at text.now }
     ensures bound { IfSome result (λ p. IsEpochDay p.0) }
@@ -118,6 +124,7 @@ fn date_at(text: &[u8]) -> Option<(i64, &[u8])>
 
 /// Hours and minutes, in seconds.
 #[tactic(auto, unfolding(crate::specs::Reading::minutes_at))]
+#[inline(always)]
 fn minutes_at(text: &[u8]) -> Option<(u32, &[u8])>
     ensures value { option_map (λ p. (p.0, p.1.now)) result ≡ minutes_at text.now }
     ensures bound { IfSome result (λ p. p.0 ≤ 86_340) }
@@ -130,6 +137,7 @@ fn minutes_at(text: &[u8]) -> Option<(u32, &[u8])>
 
 /// A time of day, in seconds since midnight.
 #[tactic(auto, unfolding(crate::specs::Reading::time_at))]
+#[inline(always)]
 fn time_at(text: &[u8]) -> Option<(u32, &[u8])>
     ensures value { option_map (λ p. (p.0, p.1.now)) result ≡ time_at text.now }
     ensures bound { IfSome result (λ p. p.0 < 86_400) }
@@ -155,6 +163,7 @@ fn digits_len(text: &[u8]) -> usize
 
 /// What stands behind a fraction, if there is one.
 #[tactic(auto, unfolding(crate::specs::Reading::behind_fraction))]
+#[inline(always)]
 fn behind_fraction(text: &[u8]) -> Option<&[u8]>
     ensures { option_map (λ r. r.now) result ≡ behind_fraction text.now }
 {
@@ -171,6 +180,7 @@ fn behind_fraction(text: &[u8]) -> Option<&[u8]>
 
 /// How far the clock is ahead of UTC, in seconds.
 #[tactic(auto, unfolding(crate::specs::Reading::offset_of))]
+#[inline(always)]
 fn offset_of(text: &[u8]) -> Option<i64>
     ensures value { result ≡ offset_of text.now }
     ensures bound { IfSome result (IsWithin 86_340) }
@@ -199,6 +209,7 @@ fn span_of(text: &[u8]) -> Option<i64>
 
 /// The second, where it is one of the time line.
 #[tactic(auto, unfolding(crate::specs::Reading::on_time_line))]
+#[inline(always)]
 fn on_time_line(second: i64) -> Option<Second>
     ensures { result ≡ on_time_line second }
 {
