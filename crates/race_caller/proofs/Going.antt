@@ -21,14 +21,12 @@ use Rattle.race_caller.specs.declared.asker.Sent.{Sent}
 use Rattle.race_caller.specs.declared.desk.Answer.{Answer}
 use Rattle.race_caller.specs.declared.desk.DoneWork.{DoneWork}
 use Rattle.race_caller.specs.declared.desk.Work.{Work}
-use Rattle.race_caller.specs.declared.serving.Turn.{Turn}
 use Rattle.nsi_script.specs.declared.script.Act.{Act}
 use Rattle.race_run.specs.Scripts.{ask_by, asks_by}
-use Rattle.race_caller.specs.Turns.{IsTurned}
 use Rattle.race_caller.specs.Plays.{is_work_by}
 use Rattle.race_caller.specs.Askers.{HasSent}
-use Rattle.race_caller.specs.Alone.{Hands, HasTakenIn, HasDoneIn, IsHanded, IsDone, Works, HasRoomFor, HasHeardThese, Rest, rest, idle, sending, waiting, answered, worked, side_of, IsAlone, IsNewRequest, heard_items, done_items, EndsTo, EndsAlone, TurnsTo, TurnsAlone}
-use Rattle.race_caller.proofs.Stepping.{kept_one, kept_all, side_heard, idle_unnamed, idle_done, taken_is_got, is_not_taken, request_taken, work_at_of, work_is, work_taken, silent_idle, sent_alone, sent_new, never_full}
+use Rattle.race_caller.specs.Alone.{Hands, HasTakenIn, HasDoneIn, IsHanded, IsDone, Works, HasRoomFor, HasHeardThese, Rest, rest, idle, sending, waiting, answered, worked, side_of, IsAlone, IsNewRequest, heard_items, done_items, EndsTo, EndsAlone}
+use Rattle.race_caller.proofs.Stepping.{kept_one, kept_all, side_heard, idle_at, idle_unnamed, idle_done, taken_is_got, is_not_taken, request_taken, work_at_of, work_is, work_taken, silent_idle, sent_alone, sent_new, never_full}
 
 ---- Messages
 
@@ -56,17 +54,17 @@ work_heard t first j works at b done x y z on h is hears =
 still_running : (t : Network) (first : List Item) (j works : ℕ) (at : Option ℕ) (b : Book) (x : Asker) → IsAlone t first (waiting j works at) b x → b.state.taken ≡ most_entries → ⊥
 still_running t first j works at b x h full = omega (arith, full, h.room)
 
-pub turn_idle : (t : Network) (first : List Item) (j works id : ℕ) (b : Book) (x : Asker) (new : Option Book) (work : Work) → IsAlone t first (waiting j works (Some id)) b x → IsDone b id new work → work ≡ Work.Idle
-    → TurnsAlone t first j works (Some id) new x Turn.Idle
-turn_idle t first j works id b x new work h done is =
+pub work_idle : (t : Network) (first : List Item) (j id : ℕ) (b : Book) (x : Asker) (new : Option Book) (work : Work) → IsAlone t first (waiting j 1 (Some id)) b x → IsDone b id new work → work ≡ Work.Idle
+    → EndsAlone t first (idle j) new x true
+work_idle t first j id b x new work h done is =
     let k = subst (Works b id done.now) is done.works in
-    record { now = b; told = done.told ∙ ap Some k.book; turns = idle_done t first j works id b (side_of x) k.none h }
+    record { now = b; told = done.told ∙ ap Some k.book; ends = idle_done t first j 1 id b (side_of x) k.none h }
 
-pub turn_refused : (t : Network) (first : List Item) (j works id : ℕ) (b : Book) (x : Asker) (new : Option Book) (work : Work) → IsAlone t first (waiting j works (Some id)) b x → IsDone b id new work → work ≡ Work.Refused
-    → TurnsAlone t first j works (Some id) new x Turn.Ended
-turn_refused t first j works id b x new work h done is =
+pub work_refused : (t : Network) (first : List Item) (j id : ℕ) (b : Book) (x : Asker) (new : Option Book) (work : Work) → IsAlone t first (waiting j 1 (Some id)) b x → IsDone b id new work → work ≡ Work.Refused
+    → EndsAlone t first (idle j) new x false
+work_refused t first j id b x new work h done is =
     let k = subst (Works b id done.now) is done.works in
-    record { now = done.now; told = done.told; turns = ⊎_elim (λ shut. shut) (λ full. absurd (still_running t first j works (Some id) b x h full)) k.why }
+    record { now = done.now; told = done.told; ends = ⊎_elim (λ shut. shut) (λ full. absurd (still_running t first j 1 (Some id) b x h full)) k.why }
 
 -- work was done, and what it causes is heard
 pub done_alone : (t : Network) (first : List Item) (j works id : ℕ) (b d : Book) (x : Asker) (done : DoneWork) → works ≤ 1 → IsAlone t first (waiting j works (Some id)) b x → HasDoneIn b id d done
@@ -85,18 +83,18 @@ done_alone t first j works id b d x done one h k =
           (λ i. item (sym k.place i) (sym event i) ∷ map (heard_item x.call.agent x.call.second (sym k.place i)) (sym messages i)) is),
     )
 
-pub turn_done : (t : Network) (first : List Item) (j works id : ℕ) (b : Book) (x y : Asker) (new : Option Book) (work : Work) (done : DoneWork) (on : Bool) (turn : Turn) → works ≤ 1 → IsAlone t first (waiting j works (Some id)) b x → IsDone b id new work
-    → work ≡ Work.Done done
+-- no more of it waits then
+pub work_done : (t : Network) (first : List Item) (j id : ℕ) (b : Book) (x y : Asker) (new : Option Book) (work : Work) (done : DoneWork) (on : Bool) → IsAlone t first (waiting j 1 (Some id)) b x → IsDone b id new work → work ≡ Work.Done done
     → ((first : List Item) (j works : ℕ) (at : Option ℕ) (b : Book) → is_work_by x.call.provider done.event ≡ true → IsAlone t first (worked j works at (done_items x done)) b x → EndsTo t first (waiting j works at) b y on)
-    → (on ≡ true → turn ≡ Turn.More) → (on ≡ false → turn ≡ Turn.Ended) → TurnsAlone t first j works (Some id) new y turn
-turn_done t first j works id b x y new work done on turn one h is_done is hears more ended =
+    → EndsAlone t first (idle j) new y on
+work_done t first j id b x y new work done on h is_done is hears =
     let k = subst (Works b id is_done.now) is is_done.works in
-    let a = done_alone t first j works id b is_done.now x done one h k in
-    record { now = is_done.now; told = is_done.told; turns = by on refl (hears first j 0 (Some id) is_done.now a.1 a.2) }
+    let a = done_alone t first j 1 id b is_done.now x done (omega arith) h k in
+    record { now = is_done.now; told = is_done.told; ends = by on (hears first j 0 (Some id) is_done.now a.1 a.2) }
   where
-    by : (c : Bool) → on ≡ c → EndsTo t first (waiting j 0 (Some id)) is_done.now y c → TurnsTo t first j works (Some id) is_done.now y turn
-    by true e g = subst (TurnsTo t first j works (Some id) is_done.now y) (sym (more e)) (0, (done_alone t first j works id b is_done.now x done one h (subst (Works b id is_done.now) is is_done.works)).0, g)
-    by false e g = subst (TurnsTo t first j works (Some id) is_done.now y) (sym (ended e)) g
+    by : (c : Bool) → EndsTo t first (waiting j 0 (Some id)) is_done.now y c → EndsTo t first (idle j) is_done.now y c
+    by true g = idle_at t first j 0 (Some id) is_done.now (side_of y) (omega (arith, g.works)) g
+    by false g = g
 
 ---- A request
 
@@ -167,35 +165,7 @@ asked_request t first j b x y ask m sent h s is = go (subst (HasSent t ask x y) 
     go : HasSent t ask x y (Sent.Request m) → IsAlone t first (sending j) b y × IsNewRequest b y m
     go s = (sent_alone t first j b x y ask h s.call s.kept m s.sends.0, sent_new t first j b x y ask h s.call s.kept m s.sends.0)
 
----- Turn after turn
-
-pub turned_none : (t : Network) (first : List Item) (j connection : ℕ) (b : Book) (x : Asker) (new : Option Book) → new ≡ Some b → IsAlone t first (waiting j 1 (Some connection)) b x → IsTurned t first j connection new x 0
-turned_none t first j connection b x new told h = record { now = b; told = told; works = 1; few = omega arith; is = h }
-
-module _ (t : Network) (first : List Item) (j connection : ℕ) (old : Option Book) (x : Asker) (new : Option Book) (y : Asker) (turns : ℕ) where
-  -- what a turn promises
-  abbrev Promises : Turn → Type 0
-  Promises turn = (works : ℕ) (b : Book) → works ≤ 1 → old ≡ Some b → IsAlone t first (waiting j works (Some connection)) b x → TurnsAlone t first j works (Some connection) new y turn
-
-  pub turned_more : (after : ℕ) (turn : Turn) → IsTurned t first j connection old x turns → Promises turn → turn ≡ Turn.More → after ≡ turns + 1 → IsTurned t first j connection new y after
-  turned_more after turn h promises is count =
-      let k = promises h.works h.now (omega (arith, h.few)) h.told h.is in
-      let m = subst (TurnsTo t first j h.works (Some connection) k.now y) is k.turns in
-      record { now = k.now; told = k.told; works = m.0; few = omega (arith, h.few, m.1, count); is = m.2 }
-
-  pub turned_idle : (turn : Turn) → IsTurned t first j connection old x turns → Promises turn → turn ≡ Turn.Idle → EndsAlone t first (idle j) new y true
-  turned_idle turn h promises is =
-      let k = promises h.works h.now (omega (arith, h.few)) h.told h.is in
-      record { now = k.now; told = k.told; ends = subst (TurnsTo t first j h.works (Some connection) k.now y) is k.turns }
-
-  pub turned_ended : (turn : Turn) → IsTurned t first j connection old x turns → Promises turn → turn ≡ Turn.Ended → EndsAlone t first (idle j) new y false
-  turned_ended turn h promises is =
-      let k = promises h.works h.now (omega (arith, h.few)) h.told h.is in
-      record { now = k.now; told = k.told; ends = subst (TurnsTo t first j h.works (Some connection) k.now y) is k.turns }
-
--- so many turns there aren't
-pub turned_out : (t : Network) (first : List Item) (j connection : ℕ) (new : Option Book) (y : Asker) (turns : ℕ) → 1 < turns → IsTurned t first j connection new y turns → EndsAlone t first (idle j) new y false
-turned_out t first j connection new y turns many h = absurd (omega (arith, many, h.few))
+---- Act after act
 
 pub ends_idle : (t : Network) (first : List Item) (j : ℕ) (at : Option ℕ) (b : Book) (x : Asker) (new : Option Book) → new ≡ Some b → IsAlone t first (waiting j 1 at) b x → at ≡ None → EndsAlone t first (idle j) new x true
 ends_idle t first j at b x new told h is = record { now = b; told = told; ends = idle_unnamed t first j b (side_of x) (subst (λ (o : Option ℕ). IsAlone t first (waiting j 1 o) b x) is h) }
@@ -204,8 +174,6 @@ pub ends_here : (t : Network) (first : List Item) (j n : ℕ) (b : Book) (x : As
 ends_here t first j n b x new told none h =
     let same : j + n ≡ j = omega (arith, none) in
     record { now = b; told = told; ends = subst (λ k. IsAlone t first (idle k) b x) same h }
-
----- Act after act
 
 -- an act more was asked, or the book is closed
 pub plays_on : (t : Network) (first : List Item) (acts : List Act) (n : ℕ) (act : Act) → n < length acts → act ≡ get_or acts n act → (a : ℕ) (old : Option Book) (x : Asker) (new : Option Book) (y : Asker) (on : Bool) → x.call.agent ≡ a

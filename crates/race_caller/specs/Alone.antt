@@ -28,7 +28,6 @@ use Rattle.race_caller.specs.declared.asker.Asker.{Asker}
 use Rattle.race_caller.specs.declared.desk.Answer.{Answer}
 use Rattle.race_caller.specs.declared.desk.Work.{Work}
 use Rattle.race_caller.specs.declared.desk.DoneWork.{DoneWork}
-use Rattle.race_caller.specs.declared.serving.Turn.{Turn}
 
 ---- What a book makes of a call
 
@@ -214,17 +213,6 @@ pub record EndsAlone (t : Network) (first : List Item) (w : Rest) (new : Option 
   pub now : Book
   pub told : new ≡ Some now
   pub ends : EndsTo t first w now x on
-
--- one turn of work: it was done, or there was none, or the book is closed
-abbrev pub TurnsTo : Network → List Item → ℕ → ℕ → Option ℕ → Book → Asker → Turn → Type 0
-TurnsTo t first j works at d x Turn.More = (less : ℕ) × (works ≡ less + 1) × IsAlone t first (waiting j less at) d x
-TurnsTo t first j works at d x Turn.Idle = IsAlone t first (idle j) d x
-TurnsTo t first j works at d x Turn.Ended = 0 < d.faults
-
-pub record TurnsAlone (t : Network) (first : List Item) (j works : ℕ) (at : Option ℕ) (new : Option Book) (x : Asker) (turn : Turn) : Type 0 where
-  pub now : Book
-  pub told : new ≡ Some now
-  pub turns : TurnsTo t first j works at now x turn
 
 ---- Before and behind all asks
 

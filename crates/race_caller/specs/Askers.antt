@@ -15,7 +15,6 @@ use Rattle.race_caller.specs.declared.asker.Asker.{Asker}
 use Rattle.race_caller.specs.declared.asker.Sent.{Sent}
 use Rattle.race_caller.specs.declared.desk.Answer.{Answer}
 use Rattle.race_caller.specs.declared.desk.Work.{Work}
-use Rattle.race_caller.specs.declared.serving.Turn.{Turn}
 use Rattle.race_caller.specs.Plays.{asker_after, IsSilent, IsRequestOf, HearsMore, AsksMore, FollowsMore, PlaysMore}
 
 -- its requester is the agent's of the network, and all that it kept can be told
@@ -99,13 +98,3 @@ IsAnswer a = All IsPrintable a.messages.items
 abbrev pub IsWork : Work → Type 0
 IsWork (Work.Done d) = All IsPrintable d.messages.items
 IsWork _ = Unit {0}
-
--- behind work that was done
-abbrev pub turn_of : Bool → Turn
-turn_of true = Turn.More
-turn_of false = Turn.Ended
-
-abbrev pub goes_on : Turn → Bool
-goes_on Turn.More = true
-goes_on Turn.Idle = true
-goes_on Turn.Ended = false

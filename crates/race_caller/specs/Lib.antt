@@ -3,4 +3,4 @@ pub mod Askers
 pub mod Handed
 pub mod Alone
 pub mod Hearing
-pub mod Turns
+pub mod Played

@@ -9,8 +9,8 @@ ghost use Rattle.shared_provider.specs.Book.{Book as ABook};
 ghost use Rattle.sole_requester.specs.Sole.{first_named, named_by};
 ghost use Rattle.race_caller.specs.Plays.{IsOwn, HasEnd, is_work_by};
 ghost use Rattle.race_caller.specs.Handed.{HandsOver};
-ghost use Rattle.race_caller.specs.Askers.{IsAsker, IsAnswer, HasHeard, HasFollowed, HasAsked, HasPlayed, goes_on, turn_of};
-ghost use Rattle.race_caller.specs.Alone.{IsAlone, IsNewRequest, IsReadyFor, EndsTo, EndsAlone, EndsOwn, TurnsAlone, idle, sending, waiting, answered, worked, heard_items, done_items};
+ghost use Rattle.race_caller.specs.Askers.{IsAsker, IsAnswer, HasHeard, HasFollowed, HasAsked, HasPlayed};
+ghost use Rattle.race_caller.specs.Alone.{IsAlone, IsNewRequest, IsReadyFor, EndsTo, EndsAlone, EndsOwn, idle, sending, waiting, answered, worked, heard_items, done_items};
 ghost use Rattle.race_run.specs.Scripts.{ask_by, asks_by, AreAsks, IsPrintableAct};
 
 use crate::asker::{Asker, Sent};
@@ -59,23 +59,6 @@ fn let_go(request: Message) {
     drop(request);
 }
 
-/// How a caller goes on behind a call.
-#[derive(Clone, Copy, Debug, PartialEq, Eq)]
-pub enum Turn {
-    More,
-    /// No work waits.
-    Idle,
-    /// It ends early.
-    Ended,
-}
-
-fn turn_of(on: bool) -> Turn
-    ensures goes { goes_on result ≡ on }
-    ensures is { result ≡ turn_of on }
-{
-    if on { Turn::More } else { Turn::Ended }
-}
-
 /// Takes what work causes that was done. Whether the caller goes on.
 #[tactic(auto, using(crate::proofs::Asking::not_heard))]
 fn hear_work(
@@ -105,34 +88,9 @@ fn hear_work(
     Ok(to_end)
 }
 
-/// Has the first work done that waits on a connection.
+/// Has the work done that waits on a connection. A request leaves one piece at most, so none is asked for behind it. Whether
+/// the caller goes on.
 #[tactic(auto, using(crate::proofs::Asking::heard_as))]
-fn work_once<D: Desk>(
-    alloc: Global,
-    topology: &Topology,
-    desk: &mut D,
-    asker: &mut Asker,
-    connection: Id,
-) -> Result<Turn, AllocError>
-    requires is { IsAsker topology.now asker.old }
-    ensures heard { IfOk result (λ turn. HasHeard topology.now asker.old asker.new (goes_on turn)) }
-    ensures alone { (first : List AnItem) (j works : ℕ) (b : ABook) → works ≤ 1 →
-        D.book desk.old ≡ Some b →
-        IsAlone topology.now first (waiting j works (Some connection)) b asker.old →
-        IfOk result (TurnsAlone topology.now first j works (Some connection)
-        (D.book desk.new) asker.new) }
-{
-    match desk.have_done(alloc, connection)? {
-        Work::Idle => Ok(Turn::Idle),
-        Work::Refused => Ok(Turn::Ended),
-        Work::Done(done) => {
-            let on = hear_work(alloc, topology, asker, done)?;
-            Ok(turn_of(on))
-        }
-    }
-}
-
-/// Has all work done that waits on a connection. Whether the caller goes on.
 fn do_work<D: Desk>(
     alloc: Global,
     topology: &Topology,
@@ -146,15 +104,14 @@ fn do_work<D: Desk>(
         IsAlone topology.now first (waiting j 1 (Some connection)) b asker.old →
         IfOk result (EndsAlone topology.now first (idle j) (D.book desk.new) asker.new) }
 {
-    for _turn in 0..=4_194_304u64 {
-        let turn = work_once(alloc, topology, desk, asker, connection)?;
-        match turn {
-            Turn::More => {}
-            Turn::Idle => return Ok(true),
-            Turn::Ended => return Ok(false),
+    match desk.have_done(alloc, connection)? {
+        Work::Idle => Ok(true),
+        Work::Refused => Ok(false),
+        Work::Done(done) => {
+            let on = hear_work(alloc, topology, asker, done)?;
+            Ok(on)
         }
     }
-    Ok(false)
 }
 
 /// Hands a request to the provider, and takes all that it causes. Whether the caller goes on.
@@ -183,7 +140,7 @@ fn follow<D: Desk>(
     Ok(on)
 }
 
-/// Takes messages, and what all work causes that waits on a connection. Whether the caller goes on.
+/// Takes messages, and what the work causes that waits on a connection. Whether the caller goes on.
 #[tactic(auto, using(crate::proofs::Asking::not_heard))]
 fn hear_through<D: Desk>(
     alloc: Global,
@@ -210,7 +167,7 @@ fn hear_through<D: Desk>(
     Ok(to_end)
 }
 
-/// Has all work done that waits on a connection, where there is one. Whether the caller goes on.
+/// Has the work done that waits on a connection, where there is one. Whether the caller goes on.
 fn work_on<D: Desk>(
     alloc: Global,
     topology: &Topology,

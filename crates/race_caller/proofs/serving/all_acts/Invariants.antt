@@ -1,4 +1,4 @@
-use Rattle.race_caller.specs.Turns.{HasPlayedOn}
+use Rattle.race_caller.specs.Played.{HasPlayedOn}
 use Rattle.race_caller.proofs.serving.all_acts.Given as goal
 
 abbrev pub invariant-loop-act : goal.invariant-loop-act
