@@ -1,0 +1,4 @@
+//! How many agents a reserve comes to, by the least paths of the topology.
+#![tactic(auto)]
+
+pub mod laws;
