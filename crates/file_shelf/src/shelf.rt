@@ -118,7 +118,10 @@ impl<D: Folder> Shelf for FolderShelf<D> {
     ) -> Result<FileDisk<D::File>, ShelfError> {
         match disk.settle() {
             Ok(()) => Ok(disk),
-            Err(_) => Err(self.refuse(ShelfError::Failed)),
+            Err(_) => {
+                self.stops = self.stops.saturating_add(disk.stops());
+                Err(self.refuse(ShelfError::Failed))
+            }
         }
     }
 

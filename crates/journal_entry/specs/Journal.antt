@@ -25,6 +25,7 @@ pub record HasJournalCause {T : Type 0} (old new : Meter) (result : Result T Jou
   pub calm : OnOk result (new.stops ≡ old.stops)
   pub fault : IsErrOf result DiskFault → old.faults < new.faults
   pub stopped : IsErrOf result Stopped → old.stops < new.stops
+  pub spares : IsErrOf result Stopped → new.faults ≡ old.faults
 
 -- no call of the disk failed, and none stopped it
 pub record HasSameCounts (old new : Meter) : Type 0 where

@@ -108,6 +108,7 @@ pub record HasCause {T : Type 0} (old new : Meter) (result : Result T DiskError)
   pub memory : IsErrOf result NoMemory → new.faults ≡ old.faults
   pub failed : IsErrOf result Failed → old.faults < new.faults
   pub stopped : IsErrOf result Stopped → (old.stops < new.stops) ⊎ IsTrue old.stopped
+  pub spares : IsErrOf result Stopped → new.faults ≡ old.faults
   pub refuses : IsTrue old.stopped → IsErrOf result Stopped
   pub stays : IsErrOf result Stopped → IsTrue new.stopped
   pub goes : (IsErrOf result Stopped → ⊥) → new.stopped ≡ old.stopped

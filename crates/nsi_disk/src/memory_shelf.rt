@@ -170,7 +170,14 @@ impl Shelf for MemoryShelf {
         _: &Name,
         disk: MemoryDisk,
     ) -> Result<MemoryDisk, ShelfError> {
-        Ok(disk.again(alloc)?)
+        let stops = disk.stops();
+        match disk.again(alloc) {
+            Ok(disk) => Ok(disk),
+            Err(error) => {
+                self.stops = self.stops.saturating_add(stops);
+                Err(error.into())
+            }
+        }
     }
 
     fn give_back(&mut self, name: &Name, disk: MemoryDisk) {

@@ -8,7 +8,8 @@ use crate::plan::Stop;
 use nsi_base::Name;
 use std::alloc::{AllocError, Global};
 
-/// Why a shelf gave no disk. It is as before but for its count of faults; a disk that was to be fetched again is lost.
+/// Why a shelf gave no disk. It is as before but for its count of faults; a disk that was to be fetched again is lost, and
+/// its stops are counted.
 #[derive(Clone, Copy, Debug, PartialEq, Eq)]
 pub enum ShelfError {
     Failed,
@@ -28,7 +29,7 @@ impl From<AllocError> for ShelfError {
 
 /// Where disks come from and go back to.
 pub trait Shelf {
-    ghost use Rattle.nsi_disk.specs.ShelfCounts.{Raised};
+    ghost use Rattle.nsi_disk.specs.ShelfCounts.{Raised, RaisedFrom};
     ghost use Rattle.nsi_disk.specs.declared.shelf.ShelfError.TheVariants.{Failed};
 
     type Disk: Disk;
@@ -82,7 +83,9 @@ pub trait Shelf {
         ensures failed { IsErrOf result Failed → faults self.old < faults self.new }
         ensures faults { faults self.old ≤ faults self.new }
         ensures quiet { OnOk result (faults self.new ≡ faults self.old) }
-        ensures stops { stops self.new ≡ stops self.old };
+        ensures stops { OnOk result (stops self.new ≡ stops self.old) }
+        ensures lost { OnErr result
+            (RaisedFrom (stops self.old) (Self.Disk.meter disk).stops (stops self.new)) };
 
     /// Puts the disk back under this name: a disk that runs with what it reads, a stopped one with one of its images. The
     /// shelf's counts grow by the disk's.
