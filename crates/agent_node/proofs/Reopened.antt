@@ -1,8 +1,8 @@
 -- A journal that is read again.
-use Rattle.std.proofs.Common.{ℕ, ◌<◌, ◌≡◌, ◌⊎◌, inl, inr, ◌∙◌, ◌-◌, ◌++◌, List, [], true, false, length, Option, Some, None, is_some, IfSome, Result, Ok, Err, IfOk, OnOk, refl, sym, ap, subst, arith}
+use Rattle.std.proofs.Common.{ℕ, ◌<◌, ◌≤◌, ◌≡◌, ◌⊎◌, inl, inr, ◌∙◌, ◌-◌, ◌++◌, List, [], true, false, length, Option, Some, None, is_some, IfSome, Result, Ok, Err, IfOk, OnOk, refl, sym, ap, subst, arith}
 use Rattle.nsi_primitive.specs.declared.entry.Entry.{Entry}
 use Rattle.nsi_disk.specs.Disk.{History, Fresh, Meter, MayLeave, seen}
-use Rattle.nsi_disk.specs.ShelfCounts.{Raised}
+use Rattle.nsi_disk.specs.ShelfCounts.{Raised, RaisedFrom}
 use Rattle.nsi_disk.specs.declared.shelf.ShelfError.{ShelfError}
 use Rattle.journal_entry.specs.Journal.{Kept as Journaled, MayLeaveSynced, MayLeaveWith}
 use Rattle.journal_entry.specs.Journals.{recovers}
@@ -103,6 +103,10 @@ start_cause P f m g s n r old new history StartCause.DiskFault starts d e p q un
 start_cause P f m g s n r old new history StartCause.Stopped starts d e p q unread = (new.stops, omega (arith, starts.stopped refl), subst (λ k. Raised k new.stops r) e q)
 start_cause P f m g s n r old new history (StartCause.NotAJournal place) starts d e p q unread = unread place (starts.reading place refl)
 start_cause P f m g s n r old new history StartCause.NoMemory starts d e p q unread = tt
+
+-- its stops were counted
+pub given_back : (s n r least : ℕ) (old new : Meter) → n ≡ s → old.stops ≡ least → old.stops ≤ new.stops → Raised n new.stops r → RaisedFrom s least r
+given_back s n r least old new e f g p = (new.stops, omega (arith, f, g), subst (λ k. Raised k new.stops r) e p)
 
 -- the same causes, where what is so of bytes that are no journal is more
 pub cause_of : (P Q : ℕ → Type 0) (f g s r : ℕ) (e : ReopenFault) → ((place : ℕ) → P place → Q place) → HasReopenCause f g s r P e → HasReopenCause f g s r Q e

@@ -31,6 +31,7 @@ pub record HasTurnCause (old new : Meter) (fault : Option TurnFault) : Type 0 wh
   pub calm : fault ≡ None → new.stops ≡ old.stops
   pub failed : fault ≡ Some TurnFault.DiskFault → old.faults < new.faults
   pub stopped : fault ≡ Some TurnFault.Stopped → old.stops < new.stops
+  pub spares : fault ≡ Some TurnFault.Stopped → new.faults ≡ old.faults
 
 -- A turn that had room for so many events, whose first part is e, which enters entries. Without a fault it makes f of an agent, and keeps
 -- what is fresh behind e. The fault Long comes exactly where more events were to be made. Where the disk stops, e alone was made of the

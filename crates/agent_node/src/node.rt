@@ -1,7 +1,8 @@
 //! One agent of a net, with its journal and its ends of the links.
 
-ghost use Rattle.std.specs.Prelude.{◌≡◌, ◌≤◌, ◌<◌, ◌+◌, ◌⊎◌, ℕ, List, [], None, Some, true, IfOk, IfErr, OnOk, is_some};
+ghost use Rattle.std.specs.Prelude.{◌≡◌, ◌≤◌, ◌<◌, ◌+◌, ◌⊎◌, ℕ, List, [], None, Some, true, IfOk, IfErr, OnOk, OnErr, is_some};
 ghost use Rattle.std.specs.List.{All};
+ghost use Rattle.nsi_disk.specs.ShelfCounts.{RaisedFrom};
 ghost use Rattle.nsi_primitive.specs.Printable.{IsPrintableAsk, IsPrintableEvent};
 ghost use Rattle.nsi_primitive.specs.declared.entry.Input.{Input};
 ghost use Rattle.stp_topology.specs.Network.{name_of};
@@ -243,6 +244,8 @@ impl<'t, J: Journal + Drop> Node<'t, J> {
             (B.stops shelf.old) (B.stops shelf.new) (λ place. self.entry.kept ≡ None)) }
         ensures faults { B.faults shelf.old ≤ B.faults shelf.new }
         ensures stops { B.stops shelf.old ≤ B.stops shelf.new }
+        ensures lost { OnErr result
+            (RaisedFrom (B.stops shelf.old) self.entry.meter.stops (B.stops shelf.new)) }
         ensures stays { (n : List ℕ) →
             B.listed shelf.old n ≡ true → B.listed shelf.new n ≡ true }
     {

@@ -1,9 +1,9 @@
 //! Where journals are read again.
 
-ghost use Rattle.std.specs.Prelude.{◌≡◌, ◌≤◌, List, ℕ, Bool, true, false, length, Ok, Err, IfOk, IfErr, OnOk};
+ghost use Rattle.std.specs.Prelude.{◌≡◌, ◌≤◌, List, ℕ, Bool, true, false, length, Ok, Err, IfOk, IfErr, OnOk, OnErr};
 ghost use Rattle.std.specs.List.{All};
 ghost use Rattle.nsi_primitive.specs.Printable.{IsPrintableEntry};
-ghost use Rattle.nsi_disk.specs.ShelfCounts.{Raised};
+ghost use Rattle.nsi_disk.specs.ShelfCounts.{Raised, RaisedFrom};
 ghost use Rattle.agent_node.specs.Kept.{HasSynced};
 ghost use Rattle.agent_node.specs.Reopening.{MayRead, KeepsRead, HasSameCounts, HasReopenCause};
 
@@ -34,7 +34,7 @@ pub trait Reopen<J: Journal> {
     /// How often disks stopped.
     ghost stops: { Self → ℕ };
 
-    /// The journal after a crash now, and its entries.
+    /// The journal after a crash now, and its entries. The stops of one that isn't read are counted here.
     fn reopen(
         &mut self,
         alloc: Global,
@@ -56,6 +56,8 @@ pub trait Reopen<J: Journal> {
             (λ place. MayRead J.reading (Err place) (J.history journal))) }
         ensures faults { faults self.old ≤ faults self.new }
         ensures stops { stops self.old ≤ stops self.new }
+        ensures lost { OnErr result
+            (RaisedFrom (stops self.old) (J.meter journal).stops (stops self.new)) }
         ensures stays { (n : List ℕ) → listed self.old n ≡ true → listed self.new n ≡ true };
 
     /// Takes a journal back that isn't used any more. Its counts grow by those of the disk.

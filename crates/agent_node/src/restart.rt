@@ -1,8 +1,9 @@
 //! An agent is made anew from its journal.
 
-ghost use Rattle.std.specs.Prelude.{◌≡◌, ◌≤◌, List, ℕ, None, true, false, length, Ok, Err, IfOk, IfErr, OnOk};
+ghost use Rattle.std.specs.Prelude.{◌≡◌, ◌≤◌, List, ℕ, None, true, false, length, Ok, Err, IfOk, IfErr, OnOk, OnErr};
 ghost use Rattle.std.specs.List.{All};
 ghost use Rattle.nsi_primitive.specs.Printable.{IsPrintableEntry};
+ghost use Rattle.nsi_disk.specs.ShelfCounts.{RaisedFrom};
 ghost use Rattle.disk_journal.specs.declared.opening.StartCause.{StartCause as ACause};
 ghost use Rattle.agent_node.specs.declared.reopen.ReopenFault.{ReopenFault as AFault};
 ghost use Rattle.agent_node.specs.Restarts.{reads};
@@ -39,6 +40,8 @@ fn remake<J: Journal, B: Reopen<J>>(
     ensures memory { IfErr result (λ f. f ≡ AFault.GivenBack ACause.NoMemory) }
     ensures faults { B.faults shelf.old ≤ B.faults shelf.new }
     ensures stops { B.stops shelf.old ≤ B.stops shelf.new }
+    ensures lost { OnErr result
+        (RaisedFrom (B.stops shelf.old) (J.meter journal).stops (B.stops shelf.new)) }
     ensures stays { (n : List ℕ) → B.listed shelf.old n ≡ true → B.listed shelf.new n ≡ true }
 {
     let made = core.read_again(alloc, &entries);
@@ -73,6 +76,8 @@ pub fn read_again<J: Journal, B: Reopen<J>>(
         (B.stops shelf.old) (B.stops shelf.new) (λ place. MayRead J.reading (Err place) (J.history journal))) }
     ensures faults { B.faults shelf.old ≤ B.faults shelf.new }
     ensures stops { B.stops shelf.old ≤ B.stops shelf.new }
+    ensures lost { OnErr result
+        (RaisedFrom (B.stops shelf.old) (J.meter journal).stops (B.stops shelf.new)) }
     ensures stays { (n : List ℕ) → B.listed shelf.old n ≡ true → B.listed shelf.new n ≡ true }
 {
     let name = core.name();
