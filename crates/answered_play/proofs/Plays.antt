@@ -18,7 +18,7 @@ use Rattle.run_growth.proofs.Honest.{role_is}
 use Rattle.request_answers.specs.Answers.{IsAnswered}
 use Rattle.request_answers.specs.Laws.{ProvidersAnswerOrWork, IdleProvidersHaveAnswered, AggregatorsAnswerOrWait}
 use Rattle.answered_play.specs.Answered.{caused_in, IsWaitedFor}
-use Rattle.answered_play.specs.Laws.{GotWasTaken, RunsAnswer, PlayAnswers}
+use Rattle.answered_play.specs.Laws.{GotWasTaken, RunsAnswer, AnswersAtRest, PlayAnswers}
 
 ---- The agents of a topology
 
@@ -50,7 +50,7 @@ runs_answer taken laws t routes events run =
           laws.waits (homes a) (aggregator_of t (agent_in t a) (routes a)) (w.journal a) m (aggregator_is t routes a is) (taken t routes events a m run got asks);
     }
 
----- Plays
+---- At rest
 
 -- where all is synced, what is caused is said
 said_whole : (homes : Homes) (w : World) (a : ℕ) → IsAtRest homes w a → said homes w a ≡ caused_in homes w a
@@ -58,15 +58,15 @@ said_whole homes w a rest =
     let whole : synced_part w a ≡ w.journal a = ap (λ k. take k (w.journal a)) rest.synced ∙ take_all (length (w.journal a)) (w.journal a) (omega arith) in
     ap (λ (es : List Entry). (told (homes a) es).out) whole
 
-pub play_answers : GotWasTaken → AgentLaws → PlayIsRun → PlayRests → PlayAnswers
-play_answers taken laws is_run rests t routes plans groups events last sound well rising acts play few =
+pub answers_at_rest : GotWasTaken → AgentLaws → AnswersAtRest
+answers_at_rest taken laws t routes events sound run rests =
     record {
       providers = λ a m is got asks.
-          let rest : IsAtRest homes w a = at_rest a (provider_within t a sound is) in
+          let rest : IsAtRest homes w a = rests a (provider_within t a sound is) in
           subst (λ out. IsAnswered m out) (sym (said_whole homes w a rest))
           (laws.idle (homes a) (setting_of t a) (own_stp t a) (w.journal a) m (role_is t routes a is) (taken t routes events a m run got asks) rest.idle);
       aggregators = λ a m is got asks.
-          subst (λ out. IsAnswered m out ⊎ IsWaitedFor t homes w a m) (sym (said_whole homes w a (at_rest a (aggregator_within t a sound is))))
+          subst (λ out. IsAnswered m out ⊎ IsWaitedFor t homes w a m) (sym (said_whole homes w a (rests a (aggregator_within t a sound is))))
           ((runs_answer taken laws t routes events run).aggregators a m is got asks);
     }
   where
@@ -76,8 +76,6 @@ play_answers taken laws is_run rests t routes plans groups events last sound wel
     w : World
     w = world_after empty events
 
-    run : AreAllowed (home_in t routes) empty events
-    run = (is_run t routes plans groups events last well rising acts play few).allowed
-
-    at_rest : (a : ℕ) → a < length t.agents → IsAtRest (home_in t routes) (world_after empty events) a
-    at_rest a lt = rests t routes plans groups events last well rising acts play a lt
+pub play_answers : AnswersAtRest → PlayIsRun → PlayRests → PlayAnswers
+play_answers answers is_run rests t routes plans groups events last sound well rising acts play few =
+    answers t routes events sound (is_run t routes plans groups events last well rising acts play few).allowed (rests t routes plans groups events last well rising acts play)

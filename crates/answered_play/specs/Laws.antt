@@ -1,5 +1,5 @@
 -- The laws of requests and answers in runs and plays.
-use Rattle.std.specs.Prelude.{ℕ, ◌≡◌, ◌≤◌, List, true, length}
+use Rattle.std.specs.Prelude.{ℕ, ◌≡◌, ◌≤◌, ◌<◌, List, true, length}
 use Rattle.std.specs.List.{All}
 use Rattle.nsi_primitive.specs.Messages.{is_request}
 use Rattle.nsi_primitive.specs.declared.entry.Event.{Event}
@@ -15,6 +15,7 @@ use Rattle.nsi_script.specs.declared.script.Group.{Group}
 use Rattle.nsi_play.specs.Openings.{Plans, opening}
 use Rattle.nsi_play.specs.Play.{IsPlayFrom}
 use Rattle.nsi_play.specs.Rounds.{Net}
+use Rattle.nsi_world.specs.Rest.{IsAtRest}
 use Rattle.nsi_world.specs.Runs.{world_after, AreAllowed}
 use Rattle.nsi_world.specs.Worlds.{empty, IsGot}
 use Rattle.settled_play.specs.Settled.{LoseNothing, GoesOn}
@@ -30,6 +31,12 @@ GotWasTaken =
 -- so in each world of every run each request is answered, or worked on
 abbrev pub RunsAnswer : Type 0
 RunsAnswer = (t : Network) (routes : Routes) (events : List Event) → AreAllowed (home_in t routes) empty events → AnswersOrWorks t (home_in t routes) (world_after empty events)
+
+-- Where all agents have come to rest in a run each is answered, or an answer of a child is missing: whoever begins again from what was synced.
+abbrev pub AnswersAtRest : Type 0
+AnswersAtRest =
+    (t : Network) (routes : Routes) (events : List Event) → IsSound t → AreAllowed (home_in t routes) empty events →
+    ((a : ℕ) → a < length t.agents → IsAtRest (home_in t routes) (world_after empty events) a) → AnswersAll t (home_in t routes) (world_after empty events)
 
 -- At the end of a play each is answered, or an answer of a child is missing: whatever is lost and whatever comes twice.
 abbrev pub PlayAnswers : Type 0

@@ -1,6 +1,6 @@
 //! The laws of requests and answers in runs and plays. Each function is its contract.
 
-ghost use Rattle.answered_play.specs.Laws.{GotWasTaken, RunsAnswer, PlayAnswers, PlayBringsAnswers};
+ghost use Rattle.answered_play.specs.Laws.{GotWasTaken, RunsAnswer, AnswersAtRest, PlayAnswers, PlayBringsAnswers};
 
 use nsi_world::laws::{play_runs, requests, sent};
 use request_answers::laws::{aggregators, providers};
@@ -18,15 +18,24 @@ pub fn every_run()
     aggregators();
 }
 
-/// At the end of a play each request that a provider got is answered by what it has said, whatever is lost and whatever comes twice;
-/// and each that an aggregator got is answered, or an answer of a child is missing.
-pub fn every_play()
-    ensures { PlayAnswers }
+/// Where all agents have come to rest in a run each request that a provider got is answered by what it has said, whatever is lost,
+/// whatever comes twice and whoever begins again from what was synced; and each that an aggregator got is answered, or an answer of a
+/// child is missing.
+pub fn at_rest()
+    ensures { AnswersAtRest }
 {
     sent();
     requests();
     providers();
     aggregators();
+}
+
+/// At the end of a play each request that a provider got is answered by what it has said, whatever is lost and whatever comes twice;
+/// and each that an aggregator got is answered, or an answer of a child is missing.
+pub fn every_play()
+    ensures { PlayAnswers }
+{
+    at_rest();
     play_runs();
 }
 

@@ -14,15 +14,15 @@ use Rattle.stopped_play.proofs.Calm.{settle_by_none, settle_by_one, begins_by_is
 
 ---- Rounds
 
-pub settled_none : (homes : Homes) (x : Net) → IsSettledBy homes x [] x
+abbrev pub settled_none : (homes : Homes) (x : Net) → IsSettledBy homes x [] x
 settled_none homes x = record { rounds = []; goes = λ rest. refl }
 
 -- a round and its restarts are what comes first
-cuts_first : (cuts : Cuts) (homes : Homes) (y : Net) (rest : Net → Played) → after_cuts cuts homes y rest ≡ behind (events_by cuts homes y) (rest (behind_cuts cuts homes y))
+pub cuts_first : (cuts : Cuts) (homes : Homes) (y : Net) (rest : Net → Played) → after_cuts cuts homes y rest ≡ behind (events_by cuts homes y) (rest (behind_cuts cuts homes y))
 cuts_first cuts homes y rest = behind_twice _ _ (rest (behind_cuts cuts homes y))
 
 -- a round more, whosever disks stopped in it
-pub settled_more : (homes : Homes) (x : Net) (events : List Event) (y : Net) (cuts : Cuts) → IsSettledBy homes x events y → all_quiet homes y ≡ false → IsSettledBy homes x (events ++ events_by cuts homes y) (behind_cuts cuts homes y)
+abbrev pub settled_more : (homes : Homes) (x : Net) (events : List Event) (y : Net) (cuts : Cuts) → IsSettledBy homes x events y → all_quiet homes y ≡ false → IsSettledBy homes x (events ++ events_by cuts homes y) (behind_cuts cuts homes y)
 settled_more homes x events y cuts s q = record {
   rounds = s.rounds ++ cuts ∷ [];
   goes = λ rest.
@@ -32,7 +32,7 @@ settled_more homes x events y cuts s q = record {
       ∙ behind_twice events (events_by cuts homes y) (settles_by rest homes (behind_cuts cuts homes y))));
 }
 
-pub settled_then : (homes : Homes) (x : Net) (before : List Event) (y : Net) (events : List Event) (z : Net) → IsSettledBy homes x before y → IsSettledBy homes y events z → IsSettledBy homes x (before ++ events) z
+abbrev pub settled_then : (homes : Homes) (x : Net) (before : List Event) (y : Net) (events : List Event) (z : Net) → IsSettledBy homes x before y → IsSettledBy homes y events z → IsSettledBy homes x (before ++ events) z
 settled_then homes x before y events z s u = record {
   rounds = s.rounds ++ u.rounds;
   goes = λ rest. ap (λ rs. settles_by rs homes x) (append_assoc s.rounds u.rounds rest) ∙ (s.goes (u.rounds ++ rest) ∙ (ap (behind before) (u.goes rest) ∙ behind_twice before events (settles_by rest homes z)));
@@ -103,10 +103,10 @@ group_over homes g count x acted next y settled z a s q =
           ∙ (ap (λ (b : Played). behind b.events (settles_by s.rounds homes b.net)) (begun_by homes g count x acted next y a s.rounds) ∙ ap (behind first) (settled_end homes y settled z s q));
     }
 
-pub played_none : (homes : Homes) (start : Net) → IsPlayedBy homes [] start [] 0 start
+abbrev pub played_none : (homes : Homes) (start : Net) → IsPlayedBy homes [] start [] 0 start
 played_none homes start = record { tapes = []; goes = λ rest more. refl }
 
-play_first : (t : Tape) (ts : List Tape) (g : Group) (gs : List Group) (count : ℕ) (homes : Homes) (x : Net) → plays_by (t ∷ ts) (g ∷ gs) count homes x ≡ then_on (group_by t g count homes x) (plays_by ts gs (count + asks_among g.acts) homes)
+pub play_first : (t : Tape) (ts : List Tape) (g : Group) (gs : List Group) (count : ℕ) (homes : Homes) (x : Net) → plays_by (t ∷ ts) (g ∷ gs) count homes x ≡ then_on (group_by t g count homes x) (plays_by ts gs (count + asks_among g.acts) homes)
 unfolding plays_by
 play_first t ts g gs count homes x = refl
 
@@ -115,7 +115,7 @@ unfolding plays_by
 play_end ts count homes x = refl
 
 -- a group more
-pub played_more : (homes : Homes) (done : List Group) (start : Net) (events : List Event) (next : ℕ) (now : Net) (g : Group) (own : List Event) (y : Net)
+abbrev pub played_more : (homes : Homes) (done : List Group) (start : Net) (events : List Event) (next : ℕ) (now : Net) (g : Group) (own : List Event) (y : Net)
     → IsPlayedBy homes done start events next now → IsGroupOver homes g next now own y → IsPlayedBy homes (done ++ g ∷ []) start (events ++ own) (next + asks_among g.acts) y
 played_more homes done start events next now g own y p o = record {
   tapes = p.tapes ++ o.tape ∷ [];
@@ -180,7 +180,7 @@ round_passes homes g count x acted next y limit before room a is o =
     )
 
 -- where a group passes it, the play does
-pub play_passes : (homes : Homes) (done : List Group) (start : Net) (events : List Event) (next : ℕ) (now : Net) (g : Group) (rest : List Group) (limit : ℕ) (making : ℕ → ℕ)
+abbrev pub play_passes : (homes : Homes) (done : List Group) (start : Net) (events : List Event) (next : ℕ) (now : Net) (g : Group) (rest : List Group) (limit : ℕ) (making : ℕ → ℕ)
     → IsPlayedBy homes done start events next now → GroupPasses limit (length (remade making start) + length events) homes g next now → PassesBy limit (done ++ g ∷ rest) homes start
 play_passes homes done start events next now g rest limit making p h =
     let after : Net → Played = plays_by [] rest (next + asks_among g.acts) homes in
