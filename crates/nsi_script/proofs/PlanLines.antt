@@ -1,7 +1,8 @@
--- Lines of plans, whose agents are known.
+-- Lines of plans and stops, whose agents are known.
 use Rattle.std.proofs.Common.{◌≡◌, ℕ, List, [], ◌∷◌, ◌++◌, Bool, true, false, not, if◌then◌else◌, Option, Some, None, Result, Ok, Err, refl, sym, ap, ◌∙◌, subst}
 use Rattle.std.specs.List.{All}
 use Rattle.std.proofs.lemmas.List.Elements.{All-push}
+use Rattle.nsi_disk.specs.declared.plan.Stop.{Stop}
 use Rattle.agent_link.specs.declared.plan.LinkFault.{LinkFault}
 use Rattle.stp_topology.specs.declared.network.Network.{Network}
 use Rattle.stp_topology.specs.Network.{agent_of, kind_of}
@@ -9,11 +10,12 @@ use Rattle.nsi_script.specs.declared.fault.ScriptFault.{ScriptFault}
 use Rattle.nsi_script.specs.declared.fault.ScriptFault.TheVariants as faults
 use Rattle.nsi_script.specs.declared.form.Sort.{Sort}
 use Rattle.nsi_script.specs.declared.script.PlanLine.{PlanLine}
+use Rattle.nsi_script.specs.declared.script.StopLine.{StopLine}
 use Rattle.nsi_script.specs.declared.script.Script.{Script}
 use Rattle.nsi_script.specs.Faults.{◌>>=◌, value_or, demand}
-use Rattle.nsi_script.specs.Fits.{IsPlanOf, Fits}
-use Rattle.nsi_script.specs.Lines.{is_of, known_agent, plan_line, is_planned_for}
-use Rattle.nsi_script.specs.Plans.{is_planned}
+use Rattle.nsi_script.specs.Fits.{IsPlanOf, IsStopOf, Fits}
+use Rattle.nsi_script.specs.Lines.{is_of, known_agent, plan_line, is_planned_for, stop_line, is_stopped_for}
+use Rattle.nsi_script.specs.Plans.{is_planned, is_stopped}
 
 abbrev or_zero : Result ℕ ScriptFault → ℕ
 or_zero (Ok x) = x
@@ -46,6 +48,20 @@ pub fits_plan : (t : Network) (s : Script) (line : PlanLine) (lines : List PlanL
 fits_plan t s line lines e is f = record {
   planned = subst (All (IsPlanOf t)) (sym e) (All-push (IsPlanOf t) s.lose line f.planned is);
   stopped = f.stopped;
+  rising = f.rising;
+  acts = f.acts;
+  few_asks = f.few_asks;
+}
+
+-- a disk doesn't stop at the call yet
+pub not_stopped : (lines : List StopLine) (stop : Stop) (o : Option ℕ) (agent : ℕ) → o ≡ Some agent → is_stopped_for lines stop o ≡ false → is_stopped lines (stop_line stop agent) ≡ false
+not_stopped lines stop o agent e h = sym (ap (is_stopped_for lines stop) e) ∙ h
+
+-- a script fits with one more stop of a disk
+pub fits_stop : (t : Network) (s : Script) (line : StopLine) (lines : List StopLine) → lines ≡ s.stops ++ line ∷ [] → IsStopOf t line → Fits t s → Fits t (record s { stops = lines })
+fits_stop t s line lines e is f = record {
+  planned = f.planned;
+  stopped = subst (All (IsStopOf t)) (sym e) (All-push (IsStopOf t) s.stops line f.stopped is);
   rising = f.rising;
   acts = f.acts;
   few_asks = f.few_asks;

@@ -7,7 +7,8 @@ use Rattle.nsi_primitive.specs.Kinds.{kind_name, kind_named, kind_number, first_
 use Rattle.agent_link.specs.declared.plan.How.TheVariants.{Lose, Repeat}
 use Rattle.agent_link.specs.declared.plan.ParcelKind.{ParcelKind}
 use Rattle.agent_link.specs.declared.plan.ParcelKind.TheVariants.{Message, Ack}
-use Rattle.nsi_disk.specs.declared.plan.Image.TheVariants.{Old}
+use Rattle.nsi_disk.specs.declared.plan.Image.{Image}
+use Rattle.nsi_disk.specs.declared.plan.Image.TheVariants.{Old, New}
 use Rattle.nsi_primitive.specs.declared.kind.Kind.TheVariants.{Reserve}
 use Rattle.nsi_primitive.specs.declared.ask.Ask.{Ask}
 use Rattle.nsi_primitive.specs.declared.ask.What.{What}
@@ -16,7 +17,7 @@ use Rattle.stp_topology.specs.declared.network.Network.{Network}
 use Rattle.stp_topology.specs.declared.network.AgentKind.TheVariants.{Provider, Aggregator, Requester}
 use Rattle.stp_topology.specs.Network.{nothing as no_network}
 use Rattle.ask_text.specs.Reading.{labelled_in, summary_in, numbers_in, version_in, way_in, reserve_in, plain_named, by_verb as ask_by_verb}
-use Rattle.nsi_script.specs.declared.fault.ScriptFault.TheVariants.{Word, Unbuilt, Agent, Time, Label}
+use Rattle.nsi_script.specs.declared.fault.ScriptFault.TheVariants.{Word, Agent, Time, Label}
 use Rattle.nsi_script.specs.declared.script.Act.{Act}
 use Rattle.nsi_script.specs.declared.script.Script.{Script}
 use Rattle.nsi_script.specs.Load.{stepped, after, drawn_request}
@@ -78,10 +79,10 @@ words :
 unfolding lines_to value_from number_of words_of kind_name kind_named first_named labelled_in summary_in numbers_in version_in way_in reserve_in plain_named ask_by_verb known_agent add_at put_act put_ask ask_of add_force add_restart add_plan add_stop by_verb of_line read_lines
 words = (refl, refl, refl, refl, refl, refl, refl, refl, refl, refl, refl, refl, refl, refl, refl, refl, refl, refl, refl)
 
--- lines that aren't served, whatever comes behind that
-unbuilt : script_of pair 6 (codes "stop p9 1 torn") ≡ Err (6, Unbuilt)
+-- a disk that stops is an agent's
+stopped_alone : script_of pair 6 (codes "stop p9 1 torn") ≡ Err (6, Agent)
 unfolding lines_to value_from number_of words_of kind_name kind_named first_named labelled_in summary_in numbers_in version_in way_in reserve_in plain_named ask_by_verb known_agent add_at put_act put_ask ask_of add_force add_restart add_plan add_stop by_verb of_line read_lines
-unbuilt = refl
+stopped_alone = refl
 
 -- an agent of any kind is restarted
 restarts :
@@ -177,6 +178,10 @@ planned = record {
 abbrev and_repeat : (from to : ℕ) → ParcelKind → ℕ → Script
 and_repeat from to of nth = record planned { lose = planned.lose ++ record { from = from; to = to; fault = record { of = of; nth = nth; how = Repeat } } ∷ [] }
 
+-- a further stop
+abbrev and_stop : (agent call : ℕ) → Image → Script
+and_stop agent call image = record planned { stops = planned.stops ++ record { agent = agent; stop = record { call = call; image = image } } ∷ [] }
+
 -- a line may not plan what an earlier one plans
 repeated :
     (of_line tree planned (codes "repeat r2 p1 reserve 1") ≡ Err Word)
@@ -185,8 +190,8 @@ repeated :
     × (of_line tree planned (codes "repeat r2 p1 ack 1") ≡ Ok (and_repeat 3 0 Ack 1))
     × (of_line tree planned (codes "repeat r2 a1 ack 1") ≡ Err Agent)
     × (of_line tree planned (codes "stop p1 3 new") ≡ Err Word)
-    × (of_line tree planned (codes "stop p1 4 new") ≡ Err Unbuilt)
-    × (of_line tree planned (codes "stop a1 3 new") ≡ Err Unbuilt)
+    × (of_line tree planned (codes "stop p1 4 new") ≡ Ok (and_stop 0 4 New))
+    × (of_line tree planned (codes "stop a1 3 new") ≡ Ok (and_stop 1 3 New))
 unfolding lines_to value_from number_of words_of kind_name kind_named first_named labelled_in summary_in numbers_in version_in way_in reserve_in plain_named ask_by_verb known_agent add_at put_act put_ask ask_of add_force add_restart add_plan add_stop by_verb of_line read_lines kind_number
 repeated = (refl, refl, refl, refl, refl, refl, refl, refl)
 

@@ -1,14 +1,13 @@
 -- Steps that end with a value or with the first fault.
 use Rattle.std.specs.Prelude.{◌≡◌, ℕ, List, Bool, true, false, Result, Ok, Err, Option, Some, None, codes}
 use Rattle.nsi_script.specs.declared.fault.ScriptFault.{ScriptFault}
-use Rattle.nsi_script.specs.declared.fault.ScriptFault.TheVariants.{Word, Unbuilt, Agent, Time, Label, Limit}
+use Rattle.nsi_script.specs.declared.fault.ScriptFault.TheVariants.{Word, Agent, Time, Label, Limit}
 use Rattle.nsi_script.specs.declared.fault.LineRefusal.{LineRefusal}
 use Rattle.nsi_script.specs.declared.fault.LineRefusal.TheVariants.{Fault, NoMemory}
 
 -- a fault as it is printed
 abbrev pub fault_name : ScriptFault → List ℕ
 fault_name Word = codes "Word"
-fault_name Unbuilt = codes "Unbuilt"
 fault_name Agent = codes "Agent"
 fault_name Time = codes "Time"
 fault_name Label = codes "Label"

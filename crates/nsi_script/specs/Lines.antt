@@ -14,8 +14,6 @@ use Rattle.stp_topology.specs.declared.network.AgentKind.TheVariants.{Provider, 
 use Rattle.stp_topology.specs.Network.{agent_of, kind_of, children_of}
 use Rattle.nsi_script.specs.declared.fault.ScriptFault.{ScriptFault}
 use Rattle.nsi_script.specs.declared.fault.ScriptFault.TheVariants as faults
-use Rattle.nsi_script.specs.declared.form.Form.{Form}
-use Rattle.nsi_script.specs.declared.form.Form.TheVariants as forms
 use Rattle.nsi_script.specs.declared.form.Sort.{Sort}
 use Rattle.nsi_script.specs.declared.form.Sort.TheVariants as sorts
 use Rattle.nsi_script.specs.declared.script.Act.{Act}
@@ -31,11 +29,6 @@ use Rattle.nsi_script.specs.Words.{name_form, number_form, ask_form, parcel_form
 -- asks of a script, at most
 abbrev pub greatest_asks : ℕ
 greatest_asks = 100000
-
--- which lines of plans, stops and restarts are served; the others have the fault `Unbuilt`
-abbrev pub is_served : Form → Bool
-is_served forms.Stop = false
-is_served _ = true
 
 -- whether an agent is of the sort
 abbrev pub is_of : Sort → Option AgentKind → Bool
@@ -130,7 +123,6 @@ unfoldable pub add_restart : Network → Script → List (List ℕ) → Result S
 add_restart t s args = do
   whole ← demand (length args == 1) faults.Word
   name ← name_form (word args 0)
-  served ← demand (is_served forms.Restart) faults.Unbuilt
   agent ← known_agent t sorts.Any name
   put_act s (Act.Restart agent)
 
@@ -151,7 +143,6 @@ add_plan t s how args = do
   of ← parcel_form (word args 2)
   nth ← number_form 1 18446744073709551615 (word args 3)
   new ← demand (not (is_planned_for s.lose (record { of = of; nth = nth; how = how }) (agent_of t from_name) (agent_of t to_name))) faults.Word
-  served ← demand (is_served forms.Plan) faults.Unbuilt
   from ← known_agent t sorts.Any from_name
   to ← known_agent t sorts.Any to_name
   linked ← demand (is_linked t from to) faults.Agent
@@ -173,7 +164,6 @@ add_stop t s args = do
   call ← number_form 1 18446744073709551615 (word args 1)
   image ← image_form (word args 2)
   new ← demand (not (is_stopped_for s.stops (record { call = call; image = image }) (agent_of t name))) faults.Word
-  served ← demand (is_served forms.Stop) faults.Unbuilt
   agent ← known_agent t sorts.Any name
   Ok (record s { stops = s.stops ++ stop_line (record { call = call; image = image }) agent ∷ [] })
 

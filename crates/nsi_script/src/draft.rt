@@ -12,7 +12,7 @@ ghost use Rattle.nsi_script.specs.Text.{is_skipped, of_line};
 ghost use Rattle.nsi_script.specs.declared.script.Act.{Act as Acts};
 
 use crate::fault::{LineRefusal, ScriptFault, demand};
-use crate::form::{Form, Sort, is_linked, is_served, known_agent};
+use crate::form::{Sort, is_linked, known_agent};
 use crate::labels::Labels;
 use crate::plans::{PlanLines, StopLines};
 use crate::script::{Act, Group, PlanLine, Script, StopLine};
@@ -274,7 +274,6 @@ impl Draft {
     {
         demand(args.len() == 1, ScriptFault::Word)?;
         let agent = name(args[0])?;
-        demand(is_served(Form::Restart), ScriptFault::Unbuilt)?;
         let agent = known_agent(topology, Sort::Any, agent)?;
         self.put_act(Act::Restart(agent))
     }
@@ -311,7 +310,6 @@ impl Draft {
         let fault = LinkFault { of, nth, how };
         let is_planned = self.is_planned(&fault, topology.agent_of(from), topology.agent_of(to));
         demand(!is_planned, ScriptFault::Word)?;
-        demand(is_served(Form::Plan), ScriptFault::Unbuilt)?;
         let from = known_agent(topology, Sort::Any, from)?;
         let to = known_agent(topology, Sort::Any, to)?;
         demand(is_linked(topology, from, to), ScriptFault::Agent)?;
@@ -345,7 +343,6 @@ impl Draft {
         let stop = Stop { call, image };
         let is_stopped = self.is_stopped(&stop, topology.agent_of(name));
         demand(!is_stopped, ScriptFault::Word)?;
-        demand(is_served(Form::Stop), ScriptFault::Unbuilt)?;
         let agent = known_agent(topology, Sort::Any, name)?;
         self.stops.push(StopLine { agent, stop })?;
         Ok(())

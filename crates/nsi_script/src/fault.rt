@@ -11,8 +11,6 @@ pub enum ScriptFault {
     /// It has no form of a line, or a number out of its range; or it plans what an earlier line plans, or
     /// stands behind the first `at` and plans something.
     Word,
-    /// It has a form that isn't served yet.
-    Unbuilt,
     /// A name isn't that of an agent of the sort, or two agents have no link.
     Agent,
     /// The second is before the one of the last group, or there is no group yet.
@@ -30,7 +28,6 @@ impl ScriptFault {
     {
         match self {
             ScriptFault::Word => "Word",
-            ScriptFault::Unbuilt => "Unbuilt",
             ScriptFault::Agent => "Agent",
             ScriptFault::Time => "Time",
             ScriptFault::Label => "Label",

@@ -1,23 +1,15 @@
-//! The forms of lines, and the agents that they name.
+//! The agents that lines name.
 
 ghost use Rattle.std.specs.Prelude.{◌≡◌, ◌<◌, ◌==◌, IfOk, Some, length};
 ghost use Rattle.std.specs.List.{list_any};
 ghost use Rattle.stp_topology.specs.Network.{agent_of, kind_of};
 ghost use Rattle.nsi_script.specs.Faults.{Gives};
 ghost use Rattle.nsi_script.specs.Fits.{IsOfSort};
-ghost use Rattle.nsi_script.specs.Lines.{is_served, is_of, known_agent, is_requester_of, is_asking, is_linked};
+ghost use Rattle.nsi_script.specs.Lines.{is_of, known_agent, is_requester_of, is_asking, is_linked};
 
 use crate::fault::{LineRefusal, ScriptFault};
 use nsi_base::AgentNo;
 use stp_topology::{AgentKind, Topology};
-
-/// The forms of lines that aren't all served yet: stops aren't.
-#[derive(Clone, Copy, Debug, PartialEq, Eq)]
-pub enum Form {
-    Plan,
-    Stop,
-    Restart,
-}
 
 /// Of which sort an agent has to be.
 #[derive(Clone, Copy, Debug, PartialEq, Eq)]
@@ -25,13 +17,6 @@ pub enum Sort {
     OneRequester,
     OneProvider,
     Any,
-}
-
-/// Whether lines of the form are served yet.
-pub fn is_served(form: Form) -> bool
-    ensures { result ≡ is_served form }
-{
-    matches!(form, Form::Plan | Form::Restart)
 }
 
 fn is_of(sort: Sort, kind: AgentKind) -> bool

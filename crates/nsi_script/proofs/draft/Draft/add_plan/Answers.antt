@@ -18,4 +18,4 @@ pub returns-clause-fits : goal.returns-clause-fits
 returns-clause-fits c = λ f.
     fits_plan c.args.topology.now (script_in c.args.self.now) (record { from = c.in_ok-from-2.from; to = c.in_ok-to-2.to; fault = record { of = c.in_ok-of.of; nth = c.in_ok-nth.nth; how = c.args.how } }) c.push.new.self
     c.in_ok-push.ensures
-    (record { linked = sym c.is_linked.ensures ∙ demanded c.is_linked.result Agent c.in_ok-demand-5.ensures; counted = c.in_ok-nth.ensures.in_range.0 }) f
+    (record { linked = sym c.is_linked.ensures ∙ demanded c.is_linked.result Agent c.in_ok-demand-4.ensures; counted = c.in_ok-nth.ensures.in_range.0 }) f
