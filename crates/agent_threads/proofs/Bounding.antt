@@ -23,11 +23,16 @@ use Rattle.std.proofs.lemmas.List.Elements.{All-cons, All-head, All-tail}
 use Rattle.quiet_rounds.specs.Left.{left}
 use Rattle.quiet_rounds.specs.Laws.{StepsKeepBounds, LeftFalls, TellingLeaves}
 use Rattle.agent_threads.specs.Coming.{IsTold}
+use Rattle.std.specs.Prelude.{None, Some}
+use Rattle.least_routes.specs.Laws.{RoutesExist}
+use Rattle.agent_node.specs.declared.fault.TurnFault.{TurnFault}
+use Rattle.agent_node.specs.Reopening.{IsReopened}
+use Rattle.agent_threads.specs.Stopping.{MayGoOn, MayAllGoOn, RestartsStopped, Emptied}
 
 ---- Restarts
 
 -- an agent with the same ends of its links
-abbrev SameEnds : Kept → Kept → Type 0
+abbrev pub SameEnds : Kept → Kept → Type 0
 SameEnds old new = HasSameEnds old.seat new.seat
 
 same_numbers : (xs ys : List Kept) → EachIs SameEnds xs ys → numbers (seats ys) ≡ numbers (seats xs)
@@ -43,14 +48,14 @@ ends_bounded_in ns (x ∷ xs) [] e h = absurd e
 ends_bounded_in ns (x ∷ xs) (y ∷ ys) e h =
     All-cons (IsBoundedIn ns) y.seat (seats ys) (bounded_same ns x.seat y.seat e.0 (All-head (IsBoundedIn ns) x.seat (seats xs) h)) (ends_bounded_in ns xs ys e.1 (All-tail (IsBoundedIn ns) x.seat (seats xs) h))
 
-ends_bounded : (xs ys : List Kept) → EachIs SameEnds xs ys → IsBounded (seats xs) → IsBounded (seats ys)
+pub ends_bounded : (xs ys : List Kept) → EachIs SameEnds xs ys → IsBounded (seats xs) → IsBounded (seats ys)
 ends_bounded xs ys e h = subst (λ (ns : List ℕ). All (IsBoundedIn ns) (seats ys)) (sym (same_numbers xs ys e)) (ends_bounded_in (numbers (seats xs)) xs ys e h)
 
 bare_dropped : (ds : List Door) → map bare (map drops ds) ≡ map bare ds
 bare_dropped [] = refl
 bare_dropped (d ∷ ds) = ap (λ (es : List Door). bare d ∷ es) (bare_dropped ds)
 
-same_reads : (h : Home) (es : List Entry) (s : Seat) → HasSameEnds s (reads h 0 es s)
+pub same_reads : (h : Home) (es : List Entry) (s : Seat) → HasSameEnds s (reads h 0 es s)
 unfolding reads
 same_reads h es s = record { number = refl; ends = bare_said h.agent_of (told h es).state.base.waiting (map drops s.doors) ∙ bare_dropped s.doors }
 
@@ -66,6 +71,32 @@ restarts_same a (x ∷ xs) (y ∷ ys) p t o routes r = (one (cases_eq x.seat.num
         let h = home_in t routes x.seat.number in
         subst (λ (s : Seat). HasSameEnds x.seat s) (sym (at_home t x (λ z. y.seat ≡ reads z 0 q.entries x.seat) o.0 q.seat routes r)) (same_reads h q.entries x.seat)
     one (inr m) = subst (λ (k : Kept). HasSameEnds x.seat k.seat) (sym (p.0.there m)) (same_ends x.seat)
+
+stopped_same : RoutesExist → (xs ys : List Kept) → EachIs RestartsStopped xs ys → MayAllGoOn xs → EachIs SameEnds xs ys
+stopped_same exist [] [] p u = tt
+stopped_same exist [] (y ∷ ys) p u = absurd p
+stopped_same exist (x ∷ xs) [] p u = absurd p
+stopped_same exist (x ∷ xs) (y ∷ ys) p u = (one u.0, stopped_same exist xs ys p.1 u.1)
+  where
+    not_stopped : None ≡ Some TurnFault.Stopped → ⊥
+    not_stopped e = absurd (cc)
+
+    one : MayGoOn x → HasSameEnds x.seat y.seat
+    one (inl f) = subst (λ (k : Kept). HasSameEnds x.seat k.seat) (sym (p.0.there (λ e. absurd (not_stopped (sym f ∙ e))))) (same_ends x.seat)
+    one (inr f) =
+        let q : IsReopened x y = (p.0.here f).reopened in
+        let r = exist x.network in
+        subst (λ (s : Seat). HasSameEnds x.seat s) (sym (q.seat r.0 r.1)) (same_reads (home_in x.network r.0 x.seat.number) q.entries x.seat)
+
+emptied_ends : (xs ys : List Kept) → EachIs Emptied xs ys → EachIs SameEnds xs ys
+emptied_ends [] [] e = tt
+emptied_ends [] (y ∷ ys) e = absurd e
+emptied_ends (x ∷ xs) [] e = absurd e
+emptied_ends (x ∷ xs) (y ∷ ys) e = (subst (λ (k : Kept). HasSameEnds x.seat k.seat) (sym e.0) (record { number = refl; ends = refl }), emptied_ends xs ys e.1)
+
+-- those whose disks had stopped leave no link with more than it had
+pub reopened_bounded : RoutesExist → (xs ys zs : List Kept) → EachIs RestartsStopped xs ys → MayAllGoOn xs → EachIs Emptied ys zs → IsBounded (seats xs) → IsBounded (seats zs)
+reopened_bounded exist xs ys zs p u e h = ends_bounded ys zs (emptied_ends ys zs e) (ends_bounded xs ys (stopped_same exist xs ys p u) h)
 
 -- an act leaves no link with more than it had
 pub act_bounded : StepsKeepBounds → (act : Act) (n : ℕ) (xs ys : List Kept) → EachIs (DoesAct act n) xs ys → (t : Network) → AreOf t xs → (routes : Routes) → AreRoutes t routes → IsBounded (seats xs) → IsBounded (seats ys)

@@ -6,14 +6,16 @@ use Rattle.agent_node.specs.Kept.{Kept, IsSameAgent}
 use Rattle.agent_node.specs.Reopening.{HasRisen as HasCountRisen}
 use Rattle.agent_threads.specs.declared.fault.RoundFault.{RoundFault}
 use Rattle.agent_threads.specs.declared.fault.RunFault.{RunFault}
-use Rattle.agent_threads.specs.Made.{run_fault, HasRisen, HasFailed, HasCause, HasRunCause, ShelfCounts, HaveRisen, KeepsShelf, AreUntold, IsOfRestart, IsOfAgent, IsOfWriting}
+use Rattle.agent_threads.specs.Made.{HasRisen, HasFailed, HasCause, HasRunCause, HasMetCause, HasGoOnCause, HasSettleCause, ShelfCounts, HaveRisen, KeepsShelf, AreUntold, IsOfRestart, IsOfAgent, IsOfWriting}
 use Rattle.agent_threads.specs.Nets.{seats, numbers, EachIs, IsOneOf, AreSame, AreAmong, AreListed}
 use Rattle.agent_threads.specs.Leaving.{StayOwned}
 use Rattle.agent_threads.specs.Promise.{Shows}
+use Rattle.agent_threads.specs.Stopping.{AtOwned, WereOwned, NoneCounted}
 use Rattle.agent_threads.proofs.Same.{still_of, same_agents}
 use Rattle.agent_threads.proofs.Owning.{still_seen}
 use Rattle.nsi_script.specs.declared.script.Act.{Act}
 use Rattle.std.specs.List.{All}
+use Rattle.std.proofs.lemmas.List.Elements.{All-nil, All-cons}
 
 pub same_error : {T E : Type 0} (r : Result T E) (y e k : E) → r ≡ Err y → y ≡ e → r ≡ Err k → e ≡ k
 same_error r y e k p q h = cc
@@ -21,7 +23,7 @@ same_error r y e k p q h = cc
 pub if_err : {T E : Type 0} (r : Result T E) (P : E → Type 0) (y : E) → r ≡ Err y → P y → IfErr r P
 if_err r P y e p = subst (λ z. IfErr z P) (sym e) p
 
-failed : (a : ℕ) (os ns : List Kept) → HasRisen a os ns → HasFailed a ns
+pub failed : (a : ℕ) (os ns : List Kept) → HasRisen a os ns → HasFailed a ns
 failed a [] ns h = absurd h
 failed a (o ∷ os) [] h = absurd h
 failed a (o ∷ os) (n ∷ ns) (inl p) = inl (p.0, omega (arith, p.1))
@@ -50,22 +52,15 @@ if_writing (RunFault.NotAJournal a place) P w n m = absurd w
 if_writing RunFault.NoMemory P w n m = m refl
 
 -- a fault of a write has its cause whoever the agents are, and isn't Long
-pub write_cause : (e : RunFault) (acts : List Act) (olds news : List Kept) (c d : ShelfCounts) → IsOfWriting e → HasRunCause acts olds news c d e
-write_cause RunFault.Long acts olds news c d w = tt
-write_cause RunFault.WriteFault acts olds news c d w = tt
-write_cause (RunFault.DiskFault a) acts olds news c d w = absurd w
-write_cause (RunFault.NotAJournal a place) acts olds news c d w = absurd w
-write_cause RunFault.NoMemory acts olds news c d w = tt
+pub write_settle : (acts : List Act) (e : RunFault) (olds news : List Kept) (c d : ShelfCounts) → IsOfWriting e → HasSettleCause acts olds news c d e
+write_settle acts RunFault.Long olds news c d w = tt
+write_settle acts RunFault.WriteFault olds news c d w = tt
+write_settle acts (RunFault.DiskFault a) olds news c d w = absurd w
+write_settle acts (RunFault.NotAJournal a place) olds news c d w = absurd w
+write_settle acts RunFault.NoMemory olds news c d w = tt
 
 pub not_long : (e : RunFault) → IsOfWriting e → e ≡ RunFault.Long → ⊥
 not_long e w p = subst IsOfWriting p w
-
--- a run that is too long is so by a group that is
-pub was_long : (f : RoundFault) → run_fault f ≡ RunFault.Long → f ≡ RoundFault.Long
-was_long RoundFault.Long e = refl
-was_long (RoundFault.DiskFault a) e = absurd (cc)
-was_long (RoundFault.Stopped a) e = absurd (cc)
-was_long RoundFault.NoMemory e = absurd (cc)
 
 ---- Who is left
 
@@ -93,19 +88,6 @@ restart_fits e r p = subst IsOfRestart p r
 pub restart_writes : (e : RunFault) → IsOfRestart e → e ≡ RunFault.WriteFault → ⊥
 restart_writes e r p = subst IsOfRestart p r
 
--- a round's fault, as that of a run
-pub round_cause : (f : RoundFault) (acts : List Act) (olds news : List Kept) (c d : ShelfCounts) → HasCause f news → HasRunCause acts olds news c d (run_fault f)
-round_cause RoundFault.Long acts olds news c d h = tt
-round_cause (RoundFault.DiskFault a) acts olds news c d h = inl h
-round_cause (RoundFault.Stopped a) acts olds news c d h = inl h
-round_cause RoundFault.NoMemory acts olds news c d h = tt
-
-pub round_writes : (f : RoundFault) → run_fault f ≡ RunFault.WriteFault → ⊥
-round_writes RoundFault.Long e = cc
-round_writes (RoundFault.DiskFault a) e = cc
-round_writes (RoundFault.Stopped a) e = cc
-round_writes RoundFault.NoMemory e = cc
-
 -- acts that aren't shown then weren't before, where they are among these
 pub untold_before : (acts more : List Act) (olds mids : List Kept) → AreSame olds mids → StayOwned olds mids → ((b : Bool) → All (Shows b) acts → All (Shows b) more) → AreUntold more mids → AreUntold acts olds
 untold_before acts more olds mids same owned among h t o routes r b w shows = h t (still_of t olds mids same o) routes r b (still_seen t olds mids owned o routes r b w) (among b shows)
@@ -126,6 +108,64 @@ cause_before acts more olds mids news b c d (RunFault.NotAJournal a place) same 
   untold_before acts more olds mids same owned among h.1,
 )
 cause_before acts more olds mids news b c d RunFault.NoMemory same owned among p q h = tt
+
+-- whichever the acts are: all of them show where journals tell what made their agents
+all_shown : (acts : List Act) → All (Shows true) acts
+all_shown [] = All-nil (Shows true)
+all_shown (Act.Ask a ask ∷ rest) = All-cons (Shows true) (Act.Ask a ask) rest tt (all_shown rest)
+all_shown (Act.Force a n ∷ rest) = All-cons (Shows true) (Act.Force a n) rest tt (all_shown rest)
+all_shown (Act.Restart a ∷ rest) = All-cons (Shows true) (Act.Restart a) rest refl (all_shown rest)
+
+pub run_settle : (acts : List Act) (olds news : List Kept) (c d : ShelfCounts) (e : RunFault) → HasRunCause acts olds news c d e → HasSettleCause acts olds news c d e
+run_settle acts olds news c d RunFault.Long h = tt
+run_settle acts olds news c d RunFault.WriteFault h = tt
+run_settle acts olds news c d (RunFault.DiskFault a) h = h
+run_settle acts olds news c d (RunFault.NotAJournal a place) h = (h.0, record { untold = λ t o routes r w. h.1 t o routes r true (λ e. w) (all_shown acts); restarted = λ none. h.1 })
+run_settle acts olds news c d RunFault.NoMemory h = tt
+
+-- a round that has failed for want of memory, or at a disk
+pub met_settle : (acts : List Act) (olds news : List Kept) (c d : ShelfCounts) (e : RunFault) → HasMetCause news e → HasSettleCause acts olds news c d e
+met_settle acts olds news c d RunFault.Long h = tt
+met_settle acts olds news c d RunFault.WriteFault h = absurd h
+met_settle acts olds news c d (RunFault.DiskFault a) h = inl h
+met_settle acts olds news c d (RunFault.NotAJournal a place) h = absurd h
+met_settle acts olds news c d RunFault.NoMemory h = tt
+
+pub met_writes : (ks : List Kept) (e : RunFault) → HasMetCause ks e → e ≡ RunFault.WriteFault → ⊥
+met_writes ks e h p = subst (HasMetCause ks) p h
+
+-- those whose disks had stopped in a round don't go on
+pub go_settle : (acts : List Act) (olds lefts news : List Kept) (c d : ShelfCounts) (e : RunFault) → AreSame olds lefts → AtOwned olds (λ homes. WereOwned homes lefts) → (NoneCounted olds news c d → ⊥) → HasGoOnCause lefts c d e
+    → HasSettleCause acts olds news c d e
+go_settle acts olds lefts news c d RunFault.Long same were stop h = tt
+go_settle acts olds lefts news c d RunFault.WriteFault same were stop h = tt
+go_settle acts olds lefts news c d (RunFault.DiskFault a) same were stop h = inr (among_same olds lefts (same_agents olds lefts same) a h.0, h.1)
+go_settle acts olds lefts news c d (RunFault.NotAJournal a place) same were stop h = (
+  among_same olds lefts (same_agents olds lefts same) a h.0,
+  record { untold = λ t o routes r w. h.1 t (still_of t olds lefts same o) routes r (were t o routes r w); restarted = λ none. absurd (stop none) },
+)
+go_settle acts olds lefts news c d RunFault.NoMemory same were stop h = tt
+
+-- a count of a shelf that rose, seen from where the counts were the same
+risen_before : (b c d : ShelfCounts) → c.faults ≡ b.faults → c.stops ≡ b.stops → HaveRisen c d → HaveRisen b d
+risen_before b c d p q (inl x) = inl (subst (λ (n : ℕ). HasCountRisen n d.faults) p x)
+risen_before b c d p q (inr x) = inr (subst (λ (n : ℕ). HasCountRisen n d.stops) q x)
+
+-- seen from before the rounds that were made
+pub settle_before : (acts more : List Act) (olds mids news : List Kept) (b c d : ShelfCounts) (e : RunFault) → AreSame olds mids → StayOwned olds mids → ((z : Bool) → All (Shows z) acts → All (Shows z) more) → (NoneCounted olds news b d → NoneCounted mids news c d)
+    → c.faults ≡ b.faults → c.stops ≡ b.stops → HasSettleCause more mids news c d e → HasSettleCause acts olds news b d e
+settle_before acts more olds mids news b c d RunFault.Long same owned among later p q h = tt
+settle_before acts more olds mids news b c d RunFault.WriteFault same owned among later p q h = tt
+settle_before acts more olds mids news b c d (RunFault.DiskFault a) same owned among later p q (inl h) = inl h
+settle_before acts more olds mids news b c d (RunFault.DiskFault a) same owned among later p q (inr h) = inr (among_same olds mids (same_agents olds mids same) a h.0, risen_before b c d p q h.1)
+settle_before acts more olds mids news b c d (RunFault.NotAJournal a place) same owned among later p q h = (
+  among_same olds mids (same_agents olds mids same) a h.0,
+  record {
+    untold = λ t o routes r w. h.1.untold t (still_of t olds mids same o) routes r (owned t o routes r w);
+    restarted = λ none. untold_before acts more olds mids same owned among (h.1.restarted (later none));
+  },
+)
+settle_before acts more olds mids news b c d RunFault.NoMemory same owned among later p q h = tt
 
 ---- Shelves
 

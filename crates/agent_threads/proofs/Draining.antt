@@ -6,13 +6,15 @@ use Rattle.nsi_primitive.specs.declared.entry.Event.{Event}
 use Rattle.nsi_script.specs.declared.script.Act.{Act}
 use Rattle.agent_node.specs.Seat.{Seat}
 use Rattle.agent_node.specs.Acts.{asked, forced}
-use Rattle.agent_node.specs.Kept.{Kept, IsSameAgent}
+use Rattle.agent_node.specs.Passing.{others}
+use Rattle.agent_node.specs.Kept.{Kept}
 use Rattle.agent_node.proofs.Pasts.{with_past}
 use Rattle.journal_entry.specs.Journal.{Kept as Journaled}
 use Rattle.nsi_agent.specs.Homes.{Routes, AreRoutes, home_in}
 use Rattle.nsi_play.specs.Rounds.{Net, Homes, events_of, emptied, tells}
 use Rattle.nsi_play.specs.Play.{changes, does, acted, RestartsNone}
-use Rattle.agent_threads.specs.Nets.{seats, seats_by, seen, synced_in, EachIs, AreOf, AreOwned, AreSame, AreNet}
+use Rattle.agent_threads.specs.Nets.{seats, seats_by, seen, synced_in, EachIs, IsUnstopped, AreOf, AreOwned, AreSame, AreNet}
+use Rattle.agent_threads.specs.Stopping.{Emptied}
 use Rattle.agent_threads.specs.Made.{Does, DoesAct, Drained, tells_at, part_in}
 use Rattle.agent_threads.specs.Coming.{IsTold}
 use Rattle.agent_threads.proofs.Same.{does_net, does_same}
@@ -28,6 +30,16 @@ told_next ks i d es fs h e =
 
 pub told_end : (ks : List Kept) (i : ℕ) (es : List Event) → length ks ≤ i → es ≡ es ++ events_of (seats (drop i ks))
 told_end ks i es h = sym (ap (λ (xs : List Kept). es ++ events_of (seats xs)) (drop_all i ks h) ∙ append-nil es)
+
+pub emptied_unstopped : (a b : Kept) → Emptied a b → IsUnstopped a b
+emptied_unstopped a b e = record {
+  same = record {
+    network = ap (λ (k : Kept). k.network) e;
+    number = ap (λ (k : Kept). k.seat.number) e;
+    others = ap (λ (k : Kept). others k.seat.doors) e;
+  };
+  stops = ap (λ (k : Kept). k.meter.stops) e;
+}
 
 drained_does : (os ns : List Kept) → EachIs Drained os ns → EachIs (Does tells_at) os ns
 drained_does [] [] e = tt
@@ -50,9 +62,6 @@ drained_net os ns e n = does_net tells_at os ns (drained_does os ns e) n
 
 pub drained_same : (os ns : List Kept) → EachIs Drained os ns → AreSame os ns
 drained_same os ns e = does_same tells_at os ns (drained_does os ns e)
-
-pub drained_agent : (a b : Kept) → Drained a b → IsSameAgent a b
-drained_agent a b d = d.made.same
 
 pub emptied_events : (net : Net) → events_of (emptied net) ≡ []
 emptied_events [] = refl

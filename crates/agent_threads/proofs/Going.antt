@@ -17,10 +17,10 @@ use Rattle.agent_node.specs.Seat.{Seat}
 use Rattle.agent_node.specs.Turns.{turned}
 use Rattle.agent_node.specs.Kept.{Kept}
 use Rattle.agent_node.specs.Made.{IsTurn}
-use Rattle.nsi_play.specs.Rounds.{Net, events_of, meets_all, met_all}
+use Rattle.nsi_play.specs.Rounds.{Net, events_of, tells, emptied, meets_all, met_all}
 use Rattle.run_totals.specs.Totals.{IsOf}
 use Rattle.agent_threads.specs.Nets.{seats, numbers, IsOneOf, EachIs, AtHomes, AreUsable, AreSame}
-use Rattle.agent_threads.specs.Made.{Does, Drained, Stays, HaveRoom}
+use Rattle.agent_threads.specs.Made.{Does, Stays, HaveRoom}
 use Rattle.agent_threads.specs.Bounds.{AreBy, AreUpTo, AreUnder, AreNumbered, AreOfOne, Moves, MovesOn, AreFurther, AreOneOf, GoOn}
 use Rattle.agent_threads.proofs.Same.{at_home, still_of, numbers_same}
 use Rattle.agent_threads.proofs.Moving.{moves_then, turned_moves, meets_move}
@@ -91,7 +91,7 @@ one_append : (ns : List ℕ) (es fs : List Event) → AreOneOf ns es → AreOneO
 one_append ns [] fs p q = q
 one_append ns (e ∷ es) fs p q = (p.0, one_append ns es fs p.1 q)
 
-both_none : (xs ys : List Event) → xs ++ ys ≡ [] → (xs ≡ []) × (ys ≡ [])
+pub both_none : (xs ys : List Event) → xs ++ ys ≡ [] → (xs ≡ []) × (ys ≡ [])
 both_none [] ys e = (refl, e)
 both_none (x ∷ xs) ys e = absurd (cc)
 
@@ -110,31 +110,35 @@ grown_by to (x ∷ xs) (y ∷ ys) e f =
     (by_one x.seat.number (x.seat.number ∷ ns) y.seat.events (own_events to x y e.0 q.0) (inl refl))
     (one_more x.seat.number ns (events_of (seats ys)) (grown_by to xs ys e.1 q.1))
 
-further_drained : (to total : ℕ) (xs ys zs : List Kept) → EachIs (MovesOn to) xs ys → EachIs Drained ys zs → length (events_of (seats ys)) ≤ total → AreFurther to total xs zs
-further_drained to total [] [] [] p d h = tt
-further_drained to total [] [] (z ∷ zs) p d h = absurd d
-further_drained to total [] (y ∷ ys) zs p d h = absurd p
-further_drained to total (x ∷ xs) [] zs p d h = absurd p
-further_drained to total (x ∷ xs) (y ∷ ys) [] p d h = absurd d
-further_drained to total (x ∷ xs) (y ∷ ys) (z ∷ zs) p d h =
+further_told : (to total : ℕ) (xs ys zs : List Kept) → EachIs (MovesOn to) xs ys → seats zs ≡ emptied (seats ys) → length (events_of (seats ys)) ≤ total → AreFurther to total xs zs
+further_told to total [] [] [] p d h = tt
+further_told to total [] [] (z ∷ zs) p d h = absurd (cc)
+further_told to total [] (y ∷ ys) zs p d h = absurd p
+further_told to total (x ∷ xs) [] zs p d h = absurd p
+further_told to total (x ∷ xs) (y ∷ ys) [] p d h = absurd (cc)
+further_told to total (x ∷ xs) (y ∷ ys) (z ∷ zs) p d h =
+    let q = first_and_rest z.seat (tells y.seat) (seats zs) (emptied (seats ys)) d in
     let len : length (y.seat.events ++ events_of (seats ys)) ≡ length y.seat.events + length (events_of (seats ys)) = length-append y.seat.events (events_of (seats ys)) in
-    let taken : z.seat.state.base.taken ≡ y.seat.state.base.taken = ap (λ (s : Seat). s.state.base.taken) d.0.seat in
-    let now : z.seat.state.base.now ≡ y.seat.state.base.now = ap (λ (s : Seat). s.state.base.now) d.0.seat in
+    let taken : z.seat.state.base.taken ≡ y.seat.state.base.taken = ap (λ (s : Seat). s.state.base.taken) q.0 in
+    let now : z.seat.state.base.now ≡ y.seat.state.base.now = ap (λ (s : Seat). s.state.base.now) q.0 in
     let own : length x.seat.events + y.seat.state.base.taken ≤ x.seat.state.base.taken + length y.seat.events = p.0.taken in (
       record {
         taken = omega (arith, own, taken, len, h);
         clock = λ second a b. subst (λ (n : ℕ). n ≤ second) (sym now) (p.0.clock second a b);
       },
-      further_drained to total xs ys zs p.1 d.1 (omega (arith, len, h)),
+      further_told to total xs ys zs p.1 q.1 (omega (arith, len, h)),
     )
+  where
+    first_and_rest : (s u : Seat) (ss us : Net) → s ∷ ss ≡ u ∷ us → (s ≡ u) × (ss ≡ us)
+    first_and_rest s u ss us g = (cc, cc)
 
 -- one step of a net, and what it tells
-pub go_on : (to : ℕ) (xs ys zs : List Kept) (before events : List Event) → EachIs (MovesOn to) xs ys → EachIs Drained ys zs → events_of (seats xs) ≡ [] → events ≡ before ++ events_of (seats ys) → GoOn to xs zs before events
+pub go_on : (to : ℕ) (xs ys zs : List Kept) (before events : List Event) → EachIs (MovesOn to) xs ys → seats zs ≡ emptied (seats ys) → events_of (seats xs) ≡ [] → events ≡ before ++ events_of (seats ys) → GoOn to xs zs before events
 go_on to xs ys zs before events m d n e = record {
   own = events_of (seats ys);
   told = e;
   by = grown_by to xs ys m n;
-  each = further_drained to (length (events_of (seats ys))) xs ys zs m d (omega arith);
+  each = further_told to (length (events_of (seats ys))) xs ys zs m d (omega arith);
 }
 
 ---- One step after another

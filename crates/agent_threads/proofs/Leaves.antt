@@ -46,7 +46,7 @@ leaves_drained to xs ys zs before events old net same moves bounded owned keep h
   same = same_twice xs ys zs same (drained_same ys zs drained);
   told = drained_told ys zs drained;
   printable = printable;
-  further = go_on to xs ys zs before events moves drained none told;
+  further = go_on to xs ys zs before events moves (drained_seen false ys zs drained) none told;
   bounded = λ h. subst (λ (net : Net). IsBounded net) (sym (drained_seen false ys zs drained)) ((keep homes (seats ys) (bounded h)).told);
   owned = λ t o routes r w. drained_owned ys zs drained t (still_of t xs ys same o) routes r (owned t o routes r w);
 }

@@ -6,6 +6,7 @@ pub mod Pairs
 pub mod Wires
 pub mod OneMeets
 pub mod Turning
+pub mod Stopping
 pub mod Draining
 pub mod Quiet
 pub mod Causes
@@ -15,4 +16,10 @@ pub mod Moving
 pub mod Bounding
 pub mod Going
 pub mod Restarting
+pub mod Left
 pub mod Leaves
+pub mod Reopening
+pub mod Showing
+pub mod Emptying
+pub mod Stepping
+pub mod Playing

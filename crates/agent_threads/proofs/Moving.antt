@@ -11,7 +11,7 @@ use Rattle.nsi_agent.specs.Homes.{Home}
 use Rattle.nsi_agent.specs.Steps.{after, may_take_as, is_new, waits, work_of, works_left}
 use Rattle.nsi_agent.proofs.Staying.{entries_are_taken, others_are_left_out}
 use Rattle.agent_node.specs.Seat.{Seat, entered, enters, enters_if, enters_now, now_at}
-use Rattle.agent_node.specs.Turns.{lying, cleared, takes, takes_all, works_off, work_then, worked, sync_event, syncs_if, synced_all, turn_with, turned}
+use Rattle.agent_node.specs.Turns.{lying, cleared, takes, takes_all, works_off, work_then, worked, sync_event, syncs_if, synced_all, turn_with, turned, halted}
 use Rattle.agent_node.specs.Acts.{asked, forced, tick_at, ticked}
 use Rattle.agent_node.specs.Meetings.{met}
 use Rattle.nsi_script.specs.declared.script.Act.{Act}
@@ -154,6 +154,13 @@ turned_moves to h s =
     let made : Moves to s u = moves_then to s b u first (works_move to (works_left h.role b.state) h b) in
     let all : Moves to s v = moves_then to s u v made (sync_moves to (length u.fresh == 0) h u) in
     moves_still to s v _ all refl refl refl
+
+pub halted_moves : (to : ℕ) (h : Home) (s : Seat) → Moves to s (halted h s)
+halted_moves to h s =
+    let a : Seat = cleared s in
+    let b : Seat = takes_all h (lying s.doors) a in
+    let first : Moves to s b = moves_then to s a b (moves_none to s a refl refl refl) (takes_move to h (lying s.doors) a) in
+    moves_then to s b (worked h b) first (works_move to (works_left h.role b.state) h b)
 
 pub tick_moves : (to : ℕ) (h : Home) (s : Seat) → Moves to s (tick_to to h s)
 unfolding ticked

@@ -14,7 +14,7 @@ use Rattle.nsi_agent.specs.Steps.{after, is_new, waits, work_of, works_left}
 use Rattle.nsi_agent.specs.Told.{Told, told, goes_on}
 use Rattle.nsi_agent.proofs.Telling.{telling_is_in_parts}
 use Rattle.agent_node.specs.Seat.{Seat, enters, enters_if, enters_now, now_at}
-use Rattle.agent_node.specs.Turns.{lying, cleared, takes, takes_all, works_off, work_then, worked, syncs_if, synced_all, turn_with, turned}
+use Rattle.agent_node.specs.Turns.{lying, cleared, takes, takes_all, works_off, work_then, worked, syncs_if, synced_all, turn_with, turned, halted}
 use Rattle.agent_node.specs.Acts.{asked, forced, tick_at, ticked}
 use Rattle.agent_node.specs.Meetings.{met}
 use Rattle.agent_node.specs.Restarts.{reads}
@@ -101,8 +101,16 @@ unfolding syncs_if
 sync_owns true h s none = record { state = λ es p. ap (λ (xs : List Entry). (told h ((es ++ xs) ++ s.fresh)).state) (none refl) ∙ (ap (λ (xs : List Entry). (told h (xs ++ s.fresh)).state) (append-nil es) ∙ p) }
 sync_owns false h s none = record { state = λ es p. ap (λ (xs : List Entry). (told h xs).state) (append-nil (es ++ s.fresh)) ∙ p }
 
+-- so much of a turn as comes before its sync
+pub halted_owns : (h : Home) (s : Seat) → Owns h [] s (halted h s)
+halted_owns h s =
+    let a : Seat = cleared s in
+    let b : Seat = takes_all h (lying s.doors) a in
+    let first : Owns h [] s b = owns_then h [] [] s a b (owns_none h s a refl refl) (takes_own h (lying s.doors) a) in
+    owns_then h [] [] s b (worked h b) first (works_own (works_left h.role b.state) h b)
+
 -- a turn syncs all that it has taken
-turned_owns : (h : Home) (s : Seat) → Owns h (keeps h s) s (turned h s)
+pub turned_owns : (h : Home) (s : Seat) → Owns h (keeps h s) s (turned h s)
 unfolding turn_with
 turned_owns h s =
     let a : Seat = cleared s in
@@ -131,7 +139,7 @@ met_owns : (h : Home) (o s : Seat) → Owns h [] s (met o s)
 unfolding met
 met_owns h o s = owns_none h s _ refl refl
 
-meets_own : (h : Home) (s : Seat) (os : Net) → Owns h [] s (meets_each s os)
+pub meets_own : (h : Home) (s : Seat) (os : Net) → Owns h [] s (meets_each s os)
 unfolding meets_each
 meets_own h s [] = owns_self h s
 meets_own h s (o ∷ os) = owns_then h [] [] s (met o s) (meets_each (met o s) os) (met_owns h o s) (meets_own h (met o s) os)
@@ -139,7 +147,7 @@ meets_own h s (o ∷ os) = owns_then h [] [] s (met o s) (meets_each (met o s) o
 ---- Agents with their journals
 
 -- an agent whose journal keeps what it did before
-kept_owned : (homes : Homes) (x y : Kept) → y.seat.number ≡ x.seat.number → y.kept ≡ x.kept → Owns (homes x.seat.number) [] x.seat y.seat → IsOwned homes x → IsOwned homes y
+pub kept_owned : (homes : Homes) (x y : Kept) → y.seat.number ≡ x.seat.number → y.kept ≡ x.kept → Owns (homes x.seat.number) [] x.seat y.seat → IsOwned homes x → IsOwned homes y
 kept_owned homes x y n kept p (j, e, s) = (
   j,
   kept ∙ e,
@@ -148,7 +156,7 @@ kept_owned homes x y n kept p (j, e, s) = (
 )
 
 -- an agent whose journal keeps more
-more_owned : (homes : Homes) (es : List Entry) (x y : Kept) → y.seat.number ≡ x.seat.number → Adds es x.kept y.kept → Owns (homes x.seat.number) es x.seat y.seat → IsOwned homes x → IsOwned homes y
+pub more_owned : (homes : Homes) (es : List Entry) (x y : Kept) → y.seat.number ≡ x.seat.number → Adds es x.kept y.kept → Owns (homes x.seat.number) es x.seat y.seat → IsOwned homes x → IsOwned homes y
 more_owned homes es x y n a p (j, e, s) =
     let kept : IfSome (Some j) (λ k. y.kept ≡ Some (record { synced = k.synced ++ es; waiting = [] })) = subst (λ (o : Option Journaled). Adds es o y.kept) e a in (
       record { synced = j.synced ++ es; waiting = [] },
@@ -190,7 +198,7 @@ turns_owned room (x ∷ xs) (y ∷ ys) e u t o routes r w =
       turns_owned room xs ys e.1 u.1 t o.1 routes r w.1,
     )
 
-heads : (s u : Seat) (ss us : Net) → s ∷ ss ≡ u ∷ us → (s ≡ u) × (ss ≡ us)
+pub heads : (s u : Seat) (ss us : Net) → s ∷ ss ≡ u ∷ us → (s ≡ u) × (ss ≡ us)
 heads s u ss us g = (cc, cc)
 
 meets_owned : (all : Net) (xs ys : List Kept) → EachIs Stays xs ys → seats ys ≡ map (meets_all all) (seats xs) → StayOwned xs ys
@@ -210,11 +218,11 @@ met_owned xs ys e f = meets_owned (seats xs) xs ys e f
 
 ---- Restarts
 
-read_state : (h : Home) (es : List Entry) (s : Seat) → (reads h 0 es s).state ≡ (told h es).state
+pub read_state : (h : Home) (es : List Entry) (s : Seat) → (reads h 0 es s).state ≡ (told h es).state
 unfolding reads
 read_state h es s = refl
 
-read_fresh : (h : Home) (es : List Entry) (s : Seat) → (reads h 0 es s).fresh ≡ []
+pub read_fresh : (h : Home) (es : List Entry) (s : Seat) → (reads h 0 es s).fresh ≡ []
 unfolding reads
 read_fresh h es s = refl
 

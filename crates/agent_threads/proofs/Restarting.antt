@@ -1,5 +1,5 @@
 -- Agents that go on from their journals.
-use Rattle.std.proofs.Common.{ℕ, ◌+◌, ◌≤◌, ◌≡◌, ◌&&◌, nat_le, Bool, true, false, List, [], ◌∷◌, ◌++◌, ◌⊎◌, Option, None, inl, inr, refl, sym, ap, ◌∙◌, subst, arith, length, length-append}
+use Rattle.std.proofs.Common.{ℕ, ◌+◌, ◌≤◌, ◌≡◌, ◌&&◌, nat_le, Bool, true, false, List, [], ◌∷◌, ◌++◌, ◌⊎◌, Option, Some, None, inl, inr, refl, sym, ap, ◌∙◌, subst, arith, length, length-append}
 use Rattle.std.specs.Prelude.{IfSome, Result, Ok, Err, OnOk, OnErr}
 use Rattle.std.proofs.lemmas.Bool.Decides.{nat_tests}
 use Rattle.std.proofs.lemmas.Bool.{cases_eq}
@@ -17,16 +17,21 @@ use Rattle.nsi_agent.proofs.Staying.{entries_are_taken, others_are_left_out}
 use Rattle.nsi_agent.proofs.Telling.{telling_is_in_parts, clocks_rise}
 use Rattle.agent_node.specs.Seat.{Seat}
 use Rattle.agent_node.specs.Restarts.{reads, restart_event}
-use Rattle.agent_node.specs.Reopening.{IsReread}
-use Rattle.agent_node.specs.Kept.{Kept, IsSameAgent}
+use Rattle.agent_node.specs.declared.fault.TurnFault.{TurnFault}
+use Rattle.agent_node.specs.Reopening.{IsReread, IsReopened, AreEither}
+use Rattle.agent_node.specs.Kept.{Kept, first_kept}
+use Rattle.agent_node.specs.Made.{AtHome}
 use Rattle.agent_threads.specs.declared.fault.RunFault.{RunFault}
-use Rattle.agent_threads.specs.Nets.{seats, numbers, EachIs, AreOf, AtHomes, AreSame, AreUsable, AreNet, IsOwned, AreOwned, IsAbsent, IsOneOf, AreAmong, AreListed}
+use Rattle.agent_threads.specs.Nets.{seats, numbers, EachIs, AreOf, AtHomes, AreSame, AreUsable, AreNet, IsOwned, AreOwned, IsAbsent, IsOneOf, AreAmong, AreListed, IsUnstopped}
 use Rattle.agent_threads.specs.Bounds.{MovesOn}
 use Rattle.agent_threads.specs.Promise.{Shows}
 use Rattle.std.proofs.lemmas.List.Elements.{All-head}
 use Rattle.agent_threads.specs.Made.{Does, DoesAct, IsRestarted, RestartsAt, part_in, PutsBack, LosesOne, ShelfCounts, HasFailed, AreUntold, IsUntold, HasRestartCause, HasRunCause}
+use Rattle.agent_threads.specs.Stopping.{MayGoOn, kept_before, kept_in, WasOwned, GoesOnAgain}
+use Rattle.agent_threads.proofs.Stopping.{owned_before}
 use Rattle.agent_threads.proofs.Same.{KeepsLinks, does_links, does_usable, links_same, links_net}
 use Rattle.agent_threads.proofs.Moving.{moves_self, part_moves}
+use Rattle.agent_threads.proofs.Owning.{read_state}
 use Rattle.agent_threads.proofs.Going.{does_move}
 use Rattle.agent_threads.proofs.Wires.{each_more}
 
@@ -63,45 +68,73 @@ goes_later h s (e ∷ es) =
 front_later : (h : Home) (es fs : List Entry) → IsLater (told h es).state (told h (es ++ fs)).state
 front_later h es fs = subst (λ (u : AgentState). IsLater (told h es).state u) (sym (ap (λ (x : Told). x.state) (telling_is_in_parts h blank_agent es fs))) (goes_later h (told h es).state fs)
 
-read_state : (h : Home) (es : List Entry) (s : Seat) → (reads h 0 es s).state ≡ (told h es).state
-unfolding reads
-read_state h es s = refl
-
-read_events : (h : Home) (es : List Entry) (s : Seat) → (reads h 0 es s).events ≡ s.events ++ restart_event s.number (length es) ∷ []
+pub read_events : (h : Home) (es : List Entry) (s : Seat) → (reads h 0 es s).events ≡ s.events ++ restart_event s.number (length es) ∷ []
 unfolding reads
 read_events h es s = refl
 
+later_self : (s : AgentState) → IsLater s s
+later_self s = record { taken = omega arith; now = omega arith }
+
 -- what its journal tells is no more than the agent took
-own_later : (homes : Home) (x y : Kept) (j : Journaled) (es : List Entry) → es ≡ j.synced → (told homes (j.synced ++ x.seat.fresh)).state ≡ x.seat.state → y.seat ≡ reads homes 0 es x.seat → IsLater y.seat.state x.seat.state
-own_later h x y j es same state is =
+own_later : (h : Home) (x y : Kept) (j : Journaled) (es : List Entry) → (es ≡ j.synced) ⊎ (es ≡ j.synced ++ x.seat.fresh) → (told h (j.synced ++ x.seat.fresh)).state ≡ x.seat.state → y.seat ≡ reads h 0 es x.seat → IsLater y.seat.state x.seat.state
+own_later h x y j es (inl same) state is =
     let now : y.seat.state ≡ (told h j.synced).state = ap (λ (s : Seat). s.state) is ∙ (read_state h es x.seat ∙ ap (λ (xs : List Entry). (told h xs).state) same) in
     subst (λ (u : AgentState). IsLater y.seat.state u) state (subst (λ (u : AgentState). IsLater u (told h (j.synced ++ x.seat.fresh)).state) (sym now) (front_later h j.synced x.seat.fresh))
+own_later h x y j es (inr same) state is =
+    let now : y.seat.state ≡ x.seat.state = ap (λ (s : Seat). s.state) is ∙ (read_state h es x.seat ∙ (ap (λ (xs : List Entry). (told h xs).state) same ∙ state)) in
+    subst (λ (u : AgentState). IsLater y.seat.state u) now (later_self y.seat.state)
+
+-- what a journal told before a stop, with the entries that were being synced or without
+first_told : (k : Kept) (j : Journaled) → k.fault ≡ Some TurnFault.Stopped → kept_in k ≡ Some j → first_kept k.seat.synced k.kept ≡ Some j
+first_told k j f e = sym (ap (λ (z : Option TurnFault). kept_before z k.seat.synced k.kept) f) ∙ e
 
 -- so a journal that has more doesn't tell what made it
-pub untold_more : (x y : Kept) → IsReread x y → (nat_le y.seat.state.base.taken x.seat.state.base.taken && nat_le y.seat.state.base.now x.seat.state.base.now) ≡ false → IsUntold x
-untold_more x y q more routes r (j, e, state) =
-    let same : q.entries ≡ j.synced = subst (λ (o : Option Journaled). IfSome o (λ k. q.entries ≡ k.synced)) e q.synced in
-    let later = own_later (home_in x.network routes x.seat.number) x y j q.entries same state (q.seat routes r) in
+untold_more : (x y : Kept) → x.fault ≡ None → IsReread x y → (nat_le y.seat.state.base.taken x.seat.state.base.taken && nat_le y.seat.state.base.now x.seat.state.base.now) ≡ false → IsUntold x
+untold_more x y f q more routes r (j, e, state) =
+    let kept : x.kept ≡ Some j = sym (ap (λ (z : Option TurnFault). kept_before z x.seat.synced x.kept) f) ∙ e in
+    let same : q.entries ≡ j.synced = subst (λ (o : Option Journaled). IfSome o (λ k. q.entries ≡ k.synced)) kept q.synced in
+    let later = own_later (home_in x.network routes x.seat.number) x y j q.entries (inl same) state (q.seat routes r) in
     not_within y.seat.state.base.taken x.seat.state.base.taken y.seat.state.base.now x.seat.state.base.now more later.taken later.now
+
+untold_again : (x y : Kept) → x.fault ≡ Some TurnFault.Stopped → IsReopened x y → (nat_le y.seat.state.base.taken x.seat.state.base.taken && nat_le y.seat.state.base.now x.seat.state.base.now) ≡ false → IsUntold x
+untold_again x y f q more routes r (j, e, state) =
+    let either : (q.entries ≡ j.synced) ⊎ (q.entries ≡ j.synced ++ x.seat.fresh) = subst (λ (o : Option Journaled). AreEither x.seat.fresh o q.entries) (first_told x j f e) q.read in
+    let later = own_later (home_in x.network routes x.seat.number) x y j q.entries either state (q.seat routes r) in
+    not_within y.seat.state.base.taken x.seat.state.base.taken y.seat.state.base.now x.seat.state.base.now more later.taken later.now
+
+pub untold : (x y : Kept) → MayGoOn x → (x.fault ≡ None → IsReread x y) → (x.fault ≡ Some TurnFault.Stopped → IsReopened x y)
+    → (nat_le y.seat.state.base.taken x.seat.state.base.taken && nat_le y.seat.state.base.now x.seat.state.base.now) ≡ false → IsUntold x
+untold x y (inl f) p q more = untold_more x y f (p f) more
+untold x y (inr f) p q more = untold_again x y f (q f) more
+
+pub same_again : (x y : Kept) → MayGoOn x → (x.fault ≡ None → IsReread x y) → (x.fault ≡ Some TurnFault.Stopped → IsReopened x y) → IsUnstopped x y
+same_again x y (inl f) p q = record { same = (p f).same; stops = (p f).counts.stops }
+same_again x y (inr f) p q = record { same = (q f).same; stops = (q f).counts.stops }
+
+-- an agent that has read its journal and taken no more
+read_moves : RoutesExist → (x y : Kept) (es : List Entry) → AtHome x (λ h. y.seat ≡ reads h 0 es x.seat) → y.seat.number ≡ x.seat.number
+    → (nat_le y.seat.state.base.taken x.seat.state.base.taken && nat_le y.seat.state.base.now x.seat.state.base.now) ≡ true → MovesOn 0 x y
+read_moves exist x y es is number within =
+    let r = exist x.network in
+    let h = home_in x.network r.0 x.seat.number in
+    let events : y.seat.events ≡ x.seat.events ++ restart_event x.seat.number (length es) ∷ [] = ap (λ (s : Seat). s.events) (is r.0 r.1) ∙ read_events h es x.seat in
+    let both = within_both y.seat.state.base.taken x.seat.state.base.taken y.seat.state.base.now x.seat.state.base.now within in
+    record {
+      number = number;
+      more = restart_event x.seat.number (length es) ∷ [];
+      events = events;
+      own = (refl, tt);
+      taken = let t = both.0 in omega (arith, t, ap length events, length-append x.seat.events (restart_event x.seat.number (length es) ∷ []));
+      clock = λ second a b. let n = both.1 in omega (arith, n, b);
+    }
 
 -- an agent that has taken no more was restarted
 pub is_restarted : RoutesExist → (x y : Kept) → IsReread x y → (nat_le y.seat.state.base.taken x.seat.state.base.taken && nat_le y.seat.state.base.now x.seat.state.base.now) ≡ true → IsRestarted x y
-is_restarted exist x y q within =
-    let r = exist x.network in
-    let h = home_in x.network r.0 x.seat.number in
-    let events : y.seat.events ≡ x.seat.events ++ restart_event x.seat.number (length q.entries) ∷ [] = ap (λ (s : Seat). s.events) (q.seat r.0 r.1) ∙ read_events h q.entries x.seat in
-    let both = within_both y.seat.state.base.taken x.seat.state.base.taken y.seat.state.base.now x.seat.state.base.now within in
-    record {
-      reread = q;
-      moves = record {
-        number = q.same.number;
-        more = restart_event x.seat.number (length q.entries) ∷ [];
-        events = events;
-        own = (refl, tt);
-        taken = let t = both.0 in omega (arith, t, ap length events, length-append x.seat.events (restart_event x.seat.number (length q.entries) ∷ []));
-        clock = λ second a b. let n = both.1 in omega (arith, n, b);
-      };
-    }
+is_restarted exist x y q within = record { reread = q; moves = read_moves exist x y q.entries q.seat q.same.number within }
+
+-- or goes on behind a stop
+pub goes_again : RoutesExist → (x y : Kept) → IsReopened x y → (nat_le y.seat.state.base.taken x.seat.state.base.taken && nat_le y.seat.state.base.now x.seat.state.base.now) ≡ true → GoesOnAgain x y
+goes_again exist x y q within = record { reopened = q; moves = read_moves exist x y q.entries q.seat q.same.number within }
 
 ---- A list with one more behind it
 
@@ -121,11 +154,11 @@ pub listed_last : (f : List ℕ → Bool) (ks : List Kept) (k : Kept) → AreLis
 listed_last f [] k l = l.0
 listed_last f (x ∷ xs) k l = listed_last f xs k l.1
 
-of_front : (t : Network) (ks : List Kept) (k : Kept) → AreOf t (ks ++ k ∷ []) → AreOf t ks
+pub of_front : (t : Network) (ks : List Kept) (k : Kept) → AreOf t (ks ++ k ∷ []) → AreOf t ks
 of_front t [] k o = tt
 of_front t (x ∷ xs) k o = (o.0, of_front t xs k o.1)
 
-of_last : (t : Network) (ks : List Kept) (k : Kept) → AreOf t (ks ++ k ∷ []) → k.network ≡ t
+pub of_last : (t : Network) (ks : List Kept) (k : Kept) → AreOf t (ks ++ k ∷ []) → k.network ≡ t
 of_last t [] k o = o.0
 of_last t (x ∷ xs) k o = of_last t xs k o.1
 
@@ -137,12 +170,12 @@ owned_last : (homes : ℕ → Home) (ks : List Kept) (k : Kept) → AreOwned hom
 owned_last homes [] k w = w.0
 owned_last homes (x ∷ xs) k w = owned_last homes xs k w.1
 
-one_front : (a : ℕ) (ks : List Kept) (k : Kept) → IsOneOf a (numbers (seats ks)) → IsOneOf a (numbers (seats (ks ++ k ∷ [])))
+pub one_front : (a : ℕ) (ks : List Kept) (k : Kept) → IsOneOf a (numbers (seats ks)) → IsOneOf a (numbers (seats (ks ++ k ∷ [])))
 one_front a [] k h = absurd h
 one_front a (x ∷ xs) k (inl e) = inl e
 one_front a (x ∷ xs) k (inr h) = inr (one_front a xs k h)
 
-one_last : (a : ℕ) (ks : List Kept) (k : Kept) → a ≡ k.seat.number → IsOneOf a (numbers (seats (ks ++ k ∷ [])))
+pub one_last : (a : ℕ) (ks : List Kept) (k : Kept) → a ≡ k.seat.number → IsOneOf a (numbers (seats (ks ++ k ∷ [])))
 one_last a [] k e = inl e
 one_last a (x ∷ xs) k e = inr (one_last a xs k e)
 
@@ -182,20 +215,13 @@ front_restarted a ks ms k olds news e f n u p =
     let whole : EachIs (RestartsAt a) (ks ++ k ∷ []) (ms ++ k ∷ []) = each_more (RestartsAt a) ks ms k k p (record { here = λ q. absurd (n q); there = λ m. refl; usable = usable_last ks k (subst AreUsable e u) }) in
     subst (λ (xs : List Kept). EachIs (RestartsAt a) xs news) (sym e) (subst (λ (ys : List Kept). EachIs (RestartsAt a) (ks ++ k ∷ []) ys) (sym f) whole)
 
-among_put : (R : Kept → Kept → Type 0) (ks : List Kept) (k : Kept) (olds news : List Kept) → olds ≡ ks ++ k ∷ [] → ((n : Kept) → R k n → n.seat.number ≡ k.seat.number) → PutsBack R k ks news → AreAmong olds news
+pub among_put : (R : Kept → Kept → Type 0) (ks : List Kept) (k : Kept) (olds news : List Kept) → olds ≡ ks ++ k ∷ [] → ((n : Kept) → R k n → n.seat.number ≡ k.seat.number) → PutsBack R k ks news → AreAmong olds news
 among_put R ks k olds news e same p a h =
     subst (λ (xs : List Kept). IsOneOf a (numbers (seats xs))) (sym e) (by_place (one_cases a ks p.0 (subst (λ (ys : List Kept). IsOneOf a (numbers (seats ys))) p.1 h)))
   where
     by_place : IsOneOf a (numbers (seats ks)) ⊎ (a ≡ p.0.seat.number) → IsOneOf a (numbers (seats (ks ++ k ∷ [])))
     by_place (inl i) = one_front a ks k i
     by_place (inr q) = one_last a ks k (q ∙ same p.0 p.2)
-
-pub among_restarted : (ks : List Kept) (k : Kept) (olds news : List Kept) → olds ≡ ks ++ k ∷ [] → PutsBack IsRestarted k ks news → AreAmong olds news
-among_restarted ks k olds news e p = among_put IsRestarted ks k olds news e (λ n r. r.moves.number) p
-
-pub among_lost : (ks : List Kept) (k : Kept) (olds news : List Kept) → olds ≡ ks ++ k ∷ [] → LosesOne k ks news → AreAmong olds news
-among_lost ks k olds news e (inl f) a h = subst (λ (xs : List Kept). IsOneOf a (numbers (seats xs))) (sym e) (one_front a ks k (subst (λ (ys : List Kept). IsOneOf a (numbers (seats ys))) f h))
-among_lost ks k olds news e (inr p) a h = among_put IsSameAgent ks k olds news e (λ n s. s.number) p a h
 
 pub among_more : (ks ms : List Kept) (k : Kept) (olds news : List Kept) → olds ≡ ks ++ k ∷ [] → news ≡ ms ++ k ∷ [] → AreAmong ks ms → AreAmong olds news
 among_more ks ms k olds news e f p a h =
@@ -207,19 +233,19 @@ among_more ks ms k olds news e f p a h =
 
 ---- Why it has failed
 
-untold_last : (a : ℕ) (ks : List Kept) (k : Kept) (olds : List Kept) → olds ≡ ks ++ k ∷ [] → IsUntold k → AreUntold (Act.Restart a ∷ []) olds
-untold_last a ks k olds e none t o routes r b w shows =
+untold_last : (a : ℕ) (ks : List Kept) (k : Kept) (olds : List Kept) → olds ≡ ks ++ k ∷ [] → k.fault ≡ None → IsUntold k → AreUntold (Act.Restart a ∷ []) olds
+untold_last a ks k olds e f none t o routes r b w shows =
     let told : b ≡ true = All-head (Shows b) (Act.Restart a) [] shows in
     let of : k.network ≡ t = of_last t ks k (subst (λ (xs : List Kept). AreOf t xs) e o) in
-    let own : IsOwned (home_in t routes) k = owned_last (home_in t routes) ks k (subst (λ (xs : List Kept). AreOwned (home_in t routes) xs) e (w told)) in
-    none routes (subst (λ (u : Network). AreRoutes u routes) (sym of) r) (subst (λ (u : Network). IsOwned (home_in u routes) k) (sym of) own)
+    let own : WasOwned (home_in t routes) k = owned_before (home_in t routes) k f (owned_last (home_in t routes) ks k (subst (λ (xs : List Kept). AreOwned (home_in t routes) xs) e (w told))) in
+    none routes (subst (λ (u : Network). AreRoutes u routes) (sym of) r) (subst (λ (u : Network). WasOwned (home_in u routes) k) (sym of) own)
 
-pub restart_cause : (n : ℕ) (ks : List Kept) (k : Kept) (olds news : List Kept) (c d : ShelfCounts) (e : RunFault) → olds ≡ ks ++ k ∷ [] → HasRestartCause k c d e → HasRunCause (Act.Restart n ∷ []) olds news c d e
-restart_cause n ks k olds news c d RunFault.Long is h = absurd h
-restart_cause n ks k olds news c d RunFault.WriteFault is h = absurd h
-restart_cause n ks k olds news c d (RunFault.DiskFault a) is h = inr (subst (λ (xs : List Kept). IsOneOf a (numbers (seats xs))) (sym is) (one_last a ks k h.0), h.1)
-restart_cause n ks k olds news c d (RunFault.NotAJournal a place) is h = (subst (λ (xs : List Kept). IsOneOf a (numbers (seats xs))) (sym is) (one_last a ks k h.0), untold_last n ks k olds is h.1)
-restart_cause n ks k olds news c d RunFault.NoMemory is h = tt
+pub restart_cause : (n : ℕ) (ks : List Kept) (k : Kept) (olds news : List Kept) (c d : ShelfCounts) (e : RunFault) → olds ≡ ks ++ k ∷ [] → k.fault ≡ None → HasRestartCause k c d e → HasRunCause (Act.Restart n ∷ []) olds news c d e
+restart_cause n ks k olds news c d RunFault.Long is f h = absurd h
+restart_cause n ks k olds news c d RunFault.WriteFault is f h = absurd h
+restart_cause n ks k olds news c d (RunFault.DiskFault a) is f h = inr (subst (λ (xs : List Kept). IsOneOf a (numbers (seats xs))) (sym is) (one_last a ks k h.0), h.1)
+restart_cause n ks k olds news c d (RunFault.NotAJournal a place) is f h = (subst (λ (xs : List Kept). IsOneOf a (numbers (seats xs))) (sym is) (one_last a ks k h.0), untold_last n ks k olds is f h.1)
+restart_cause n ks k olds news c d RunFault.NoMemory is f h = tt
 
 pub front_cause : (n : ℕ) (ks ms : List Kept) (k : Kept) (olds news : List Kept) (c d : ShelfCounts) (e : RunFault) → olds ≡ ks ++ k ∷ [] → news ≡ ms ++ k ∷ [] → HasRunCause (Act.Restart n ∷ []) ks ms c d e → HasRunCause (Act.Restart n ∷ []) olds news c d e
 front_cause n ks ms k olds news c d RunFault.Long is now h = tt
@@ -243,12 +269,12 @@ restarts_links a (x ∷ xs) [] p = absurd p
 restarts_links a (x ∷ xs) (y ∷ ys) p = (one (cases_eq x.seat.number a), restarts_links a xs ys p.1)
   where
     self : KeepsLinks x x
-    self = record { same = record { network = refl; number = refl; others = refl; faults = refl; stops = refl }; plugs = refl }
+    self = record { same = record { network = refl; number = refl; others = refl; faults = refl; stops = omega arith }; plugs = refl }
 
     one : (x.seat.number ≡ a) ⊎ (x.seat.number ≡ a → ⊥) → KeepsLinks x y
     one (inl e) =
         let q = (p.0.here e).reread in
-        record { same = record { network = q.same.network; number = q.same.number; others = q.same.others; faults = q.counts.faults; stops = q.counts.stops }; plugs = q.plugs }
+        record { same = record { network = q.same.network; number = q.same.number; others = q.same.others; faults = q.counts.faults; stops = let n = q.counts.stops in omega (arith, n) }; plugs = q.plugs }
     one (inr m) = subst (λ (k : Kept). KeepsLinks x k) (sym (p.0.there m)) self
 
 restarts_usable : (a : ℕ) (xs ys : List Kept) → EachIs (RestartsAt a) xs ys → AreUsable ys
@@ -296,22 +322,17 @@ acts_plainly (Act.Restart a) n xs ys none p = absurd (none a refl)
 
 ---- The calls' ends
 
--- whether it was restarted or not, nobody new stands there
-pub among_either : {T : Type 0} (r : Result T RunFault) (ks : List Kept) (k : Kept) (olds news : List Kept) → olds ≡ ks ++ k ∷ [] → OnOk r (PutsBack IsRestarted k ks news) → OnErr r (LosesOne k ks news) → AreAmong olds news
-among_either (Ok x) ks k olds news e p q = among_restarted ks k olds news e p
-among_either (Err x) ks k olds news e p q = among_lost ks k olds news e q
-
-put_length : (R : Kept → Kept → Type 0) (ks : List Kept) (k : Kept) (news : List Kept) → PutsBack R k ks news → length news ≡ length ks + 1
+pub put_length : (R : Kept → Kept → Type 0) (ks : List Kept) (k : Kept) (news : List Kept) → PutsBack R k ks news → length news ≡ length ks + 1
 put_length R ks k news p = omega (arith, ap length p.1, length-append ks (p.0 ∷ []))
 
-more_length : (ks : List Kept) (k : Kept) (olds : List Kept) → olds ≡ ks ++ k ∷ [] → length olds ≡ length ks + 1
+pub more_length : (ks : List Kept) (k : Kept) (olds : List Kept) → olds ≡ ks ++ k ∷ [] → length olds ≡ length ks + 1
 more_length ks k olds e = omega (arith, ap length e, length-append ks (k ∷ []))
 
-lost_length : (ks : List Kept) (k : Kept) (news : List Kept) → LosesOne k ks news → length news ≤ length ks + 1
-lost_length ks k news (inl f) = omega (arith, ap length f)
-lost_length ks k news (inr p) = omega (arith, put_length IsSameAgent ks k news p)
+pub lost_length : (ks : List Kept) (k : Kept) (news : List Kept) (c d : ShelfCounts) → LosesOne k ks news c d → length news ≤ length ks + 1
+lost_length ks k news c d (inl f) = omega (arith, ap length f.0)
+lost_length ks k news c d (inr p) = omega (arith, put_length IsUnstopped ks k news p.0)
 
 -- and no more of them
-pub few_either : {T : Type 0} (r : Result T RunFault) (ks : List Kept) (k : Kept) (olds news : List Kept) → olds ≡ ks ++ k ∷ [] → OnOk r (PutsBack IsRestarted k ks news) → OnErr r (LosesOne k ks news) → length news ≤ length olds
-few_either (Ok x) ks k olds news e p q = omega (arith, more_length ks k olds e, put_length IsRestarted ks k news p)
-few_either (Err x) ks k olds news e p q = omega (arith, more_length ks k olds e, lost_length ks k news q)
+pub few_either : {T : Type 0} (r : Result T RunFault) (ks : List Kept) (k : Kept) (olds news : List Kept) (c d : ShelfCounts) → olds ≡ ks ++ k ∷ [] → OnOk r (PutsBack IsRestarted k ks news) → OnErr r (LosesOne k ks news c d) → length news ≤ length olds
+few_either (Ok x) ks k olds news c d e p q = omega (arith, more_length ks k olds e, put_length IsRestarted ks k news p)
+few_either (Err x) ks k olds news c d e p q = omega (arith, more_length ks k olds e, lost_length ks k news c d q)

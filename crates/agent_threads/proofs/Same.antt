@@ -1,5 +1,5 @@
 -- The same agents, with the same links.
-use Rattle.std.proofs.Common.{ℕ, zero, suc, ◌<◌, ◌≡◌, List, [], ◌∷◌, refl, sym, ap, ap₂, ◌∙◌, subst, length, get_or, arith}
+use Rattle.std.proofs.Common.{ℕ, zero, suc, ◌<◌, ◌≤◌, ◌≡◌, List, [], ◌∷◌, refl, sym, ap, ap₂, ◌∙◌, subst, length, get_or, arith}
 use Rattle.stp_topology.specs.declared.network.Network.{Network}
 use Rattle.nsi_agent.specs.Homes.{Home, Routes, AreRoutes, home_in}
 use Rattle.agent_node.specs.Passing.{others, plug_to, crossed}
@@ -7,8 +7,9 @@ use Rattle.agent_node.specs.Seat.{Seat}
 use Rattle.agent_node.specs.Kept.{Kept, AreLinked, IsSameAgent}
 use Rattle.agent_node.specs.Made.{AtHome}
 use Rattle.nsi_disk.specs.Disk.{Meter}
-use Rattle.agent_threads.specs.Nets.{seats, numbers, EachIs, AreOf, IsSteady, AreSame, AreCalm, AreUsable, IsAbsent, AreApart, IsLinkedToAll, AreWired, AreNet}
+use Rattle.agent_threads.specs.Nets.{seats, numbers, EachIs, AreOf, IsSteady, IsUnstopped, AreSame, AreCalm, AreUsable, IsAbsent, AreApart, IsLinkedToAll, AreWired, AreNet}
 use Rattle.agent_threads.specs.Made.{Does, Stays}
+use Rattle.agent_threads.specs.Stopping.{stops_among}
 use Rattle.agent_threads.proofs.Places.{each_map}
 
 -- a fact of one agent, in the topology of all
@@ -22,14 +23,14 @@ pub same_self : (a : Kept) → IsSameAgent a a
 same_self a = record { network = refl; number = refl; others = refl }
 
 steady_trans : (a b c : Kept) → IsSteady a b → IsSteady b c → IsSteady a c
-steady_trans a b c p q = record { network = q.network ∙ p.network; number = q.number ∙ p.number; others = q.others ∙ p.others; faults = q.faults ∙ p.faults; stops = q.stops ∙ p.stops }
+steady_trans a b c p q = record { network = q.network ∙ p.network; number = q.number ∙ p.number; others = q.others ∙ p.others; faults = q.faults ∙ p.faults; stops = let u = p.stops in let v = q.stops in omega (arith, u, v) }
 
 steady_self : (a : Kept) → IsSteady a a
-steady_self a = record { network = refl; number = refl; others = refl; faults = refl; stops = refl }
+steady_self a = record { network = refl; number = refl; others = refl; faults = refl; stops = omega arith }
 
 -- with the counts of its disk
 pub steady_of : (a b : Kept) → IsSameAgent a b → b.meter.faults ≡ a.meter.faults → b.meter.stops ≡ a.meter.stops → IsSteady a b
-steady_of a b s f q = record { network = s.network; number = s.number; others = s.others; faults = f; stops = q }
+steady_of a b s f q = record { network = s.network; number = s.number; others = s.others; faults = f; stops = omega (arith, q) }
 
 pub are_calm : (xs ys : List Kept) → AreSame xs ys → AreCalm xs ys
 are_calm [] [] p = tt
@@ -71,8 +72,28 @@ stays_agent a b s = s.same
 pub stays_agents : (xs ys : List Kept) → EachIs Stays xs ys → EachIs IsSameAgent xs ys
 stays_agents xs ys p = each_map Stays IsSameAgent xs ys stays_agent p
 
-pub does_agent : (f : Home → Seat → Seat) (a b : Kept) → Does f a b → IsSameAgent a b
-does_agent f a b d = d.same
+pub unstopped_self : (a : Kept) → IsUnstopped a a
+unstopped_self a = record { same = same_self a; stops = refl }
+
+unstopped_trans : (a b c : Kept) → IsUnstopped a b → IsUnstopped b c → IsUnstopped a c
+unstopped_trans a b c p q = record { same = same_trans a b c p.same q.same; stops = q.stops ∙ p.stops }
+
+pub unstopped_twice : (xs ys zs : List Kept) → EachIs IsUnstopped xs ys → EachIs IsUnstopped ys zs → EachIs IsUnstopped xs zs
+unstopped_twice [] [] [] p q = tt
+unstopped_twice [] [] (z ∷ zs) p q = absurd q
+unstopped_twice [] (y ∷ ys) zs p q = absurd p
+unstopped_twice (x ∷ xs) [] zs p q = absurd p
+unstopped_twice (x ∷ xs) (y ∷ ys) [] p q = absurd q
+unstopped_twice (x ∷ xs) (y ∷ ys) (z ∷ zs) p q = (unstopped_trans x y z p.0 q.0, unstopped_twice xs ys zs p.1 q.1)
+
+pub does_unstopped : (f : Home → Seat → Seat) (a b : Kept) → Does f a b → IsUnstopped a b
+does_unstopped f a b d = record { same = d.same; stops = ap (λ (m : Meter). m.stops) d.journal.meter }
+
+pub stops_up : (xs ys : List Kept) → AreSame xs ys → stops_among xs ≤ stops_among ys
+stops_up [] [] s = omega arith
+stops_up [] (y ∷ ys) s = absurd s
+stops_up (x ∷ xs) [] s = absurd s
+stops_up (x ∷ xs) (y ∷ ys) s = let one = s.0.stops in let rest = stops_up xs ys s.1 in omega (arith, one, rest)
 
 pub still_of : (t : Network) (xs ys : List Kept) → AreSame xs ys → AreOf t xs → AreOf t ys
 still_of t [] [] p o = tt

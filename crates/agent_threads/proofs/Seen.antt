@@ -19,11 +19,15 @@ use Rattle.agent_node.proofs.Pasts.{with_past, past_enters, past_turned, past_ti
 use Rattle.nsi_script.specs.declared.script.Act.{Act}
 use Rattle.nsi_play.specs.Rounds.{Net, Homes, events_of, turned_all, meets_each, meets_all, met_all}
 use Rattle.nsi_play.specs.Play.{changes, acted, RestartsNone}
-use Rattle.agent_threads.specs.Nets.{seats, seats_by, seen, synced_in, EachIs, AreOf, IsOwned, AreOwned, AreUsable}
+use Rattle.agent_threads.specs.Nets.{seats, seats_by, numbers, seen, synced_in, EachIs, AreOf, IsOwned, AreOwned, AreUsable}
 use Rattle.agent_threads.specs.Made.{Does, RestartsAt, Stays, tick_to, part_in}
 use Rattle.agent_threads.proofs.Same.{at_home}
 
 -- the events are the same
+pub seen_numbers : (b : Bool) (ks : List Kept) → numbers (seats_by b ks) ≡ numbers (seats ks)
+seen_numbers b [] = refl
+seen_numbers b (k ∷ ks) = ap (λ (ns : List ℕ). k.seat.number ∷ ns) (seen_numbers b ks)
+
 pub seen_events : (b : Bool) (ks : List Kept) → events_of (seats_by b ks) ≡ events_of (seats ks)
 seen_events b [] = refl
 seen_events b (k ∷ ks) = ap (λ (es : List Event). k.seat.events ++ es) (seen_events b ks)
@@ -72,7 +76,7 @@ some_kept es j o new e a =
     let added : IfSome (Some j) (λ k. new ≡ Some (record { synced = k.synced ++ es; waiting = [] })) = subst (λ (z : Option Journaled). Adds es z new) e a in
     ap synced_in added
 
-turn_seen : (h : Home) (x y : Kept) (j : Journaled) → x.kept ≡ Some j → y.seat ≡ turned h x.seat → Adds (keeps h x.seat) x.kept y.kept → seen true y ≡ turned h (seen true x)
+pub turn_seen : (h : Home) (x y : Kept) (j : Journaled) → x.kept ≡ Some j → y.seat ≡ turned h x.seat → Adds (keeps h x.seat) x.kept y.kept → seen true y ≡ turned h (seen true x)
 turn_seen h x y j e is a =
     ap₂ (λ (o : Option (List Entry)) (s : Seat). with_past o s) (some_kept (keeps h x.seat) j x.kept y.kept e a) is
     ∙ (sym (past_turned (Some j.synced) h x.seat) ∙ ap (λ (o : Option Journaled). turned h (with_past (synced_in o) x.seat)) (sym e))

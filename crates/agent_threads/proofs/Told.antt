@@ -1,5 +1,5 @@
 -- What has been written.
-use Rattle.std.proofs.Common.{Bool, ℕ, zero, suc, ◌+◌, ◌<◌, ◌≡◌, List, [], ◌∷◌, ◌++◌, inl, inr, Option, Some, None, Result, Ok, Err, IfSome, refl, sym, ap, ◌∙◌, subst, arith, length, length-append, ◌≤◌, take, drop, append_assoc, append-nil, get_or}
+use Rattle.std.proofs.Common.{Bool, ℕ, zero, suc, ◌+◌, ◌<◌, ◌≡◌, ◌⊎◌, List, [], ◌∷◌, ◌++◌, inl, Option, Some, None, Result, Ok, Err, IfSome, refl, sym, ap, ◌∙◌, subst, arith, length, length-append, ◌≤◌, take, drop, append_assoc, append-nil, get_or}
 use Rattle.std.specs.Result.{OnErr}
 use Rattle.std.proofs.Math.Seq.{take-append-add}
 use Rattle.std.proofs.lemmas.List.{take_all, take_more, drop_more, take-append-drop}
@@ -11,23 +11,27 @@ use Rattle.nsi_script.specs.declared.script.Act.{Act}
 use Rattle.nsi_script.specs.declared.script.Group.{Group}
 use Rattle.agent_node.specs.Kept.{Kept}
 use Rattle.nsi_play.specs.Rounds.{Net, Homes}
-use Rattle.nsi_play.specs.Play.{asks_among, PassesFrom}
-use Rattle.agent_threads.specs.Nets.{seats_by, AreSame}
-use Rattle.agent_threads.specs.Coming.{IsPlayedBy, IsGroupOver, GroupPasses}
+use Rattle.nsi_play.specs.Play.{asks_among}
+use Rattle.agent_threads.specs.Nets.{seats_by, numbers, AreSame}
+use Rattle.agent_threads.specs.Stopping.{ShelfCounts, more_stops, NoneCounted, NoneStopped, ArePlayed, IsOver, Passes, PlayPasses}
+use Rattle.agent_threads.specs.Made.{AreLeft}
+use Rattle.nsi_disk.specs.ShelfCounts.{Raised}
 use Rattle.run_totals.specs.Totals.{plus, totals_of}
 use Rattle.run_totals.specs.declared.totals.Totals.{Totals}
 use Rattle.run_totals.proofs.Appending.{totals_append}
 use Rattle.agent_threads.specs.Reports.{written}
 use Rattle.run_totals.specs.declared.report.Report.{Report}
 use Rattle.agent_threads.specs.declared.report.RunOptions.{RunOptions}
-use Rattle.agent_threads.specs.Promise.{AllCanBeDone, CanBeDone, CanBePlayed, Shows, AtShown, WritesSomeOfGroup, WritesSomeOfPlay}
+use Rattle.agent_threads.specs.Promise.{AllCanBeDone, CanBeDone, CanBePlayed, Shows, AtShown, NoRestart, WritesGroups, WritesSomeOfPlay}
 use Rattle.agent_threads.specs.Leaving.{StayOwned}
-use Rattle.agent_threads.proofs.Same.{still_of}
+use Rattle.agent_threads.proofs.Same.{still_of, same_twice, stops_up}
+use Rattle.agent_threads.proofs.Stepping.{numbers_by}
+use Rattle.agent_threads.proofs.Left.{left_same, none_counted, none_still}
 use Rattle.agent_threads.proofs.Owning.{still_seen}
 use Rattle.nsi_script.specs.Scripts.{acts_of}
 use Rattle.std.specs.List.{All}
 use Rattle.std.proofs.lemmas.List.Elements.{All-nil, All-cons, All-head, All-tail}
-use Rattle.agent_threads.proofs.Coming.{played_more, played_all, play_passes}
+use Rattle.agent_threads.proofs.Playing.{are_played_more, all_played, play_overruns, none_by, none_both}
 
 pub on_err : {T E : Type 0} (r : Result T E) (P : Type 0) → P → OnErr r P
 on_err (Ok x) P p = tt
@@ -99,47 +103,78 @@ cut_here : (gs : List Group) (i : ℕ) (d : Group) → i < length gs → take i 
 cut_here gs i d h = ap (λ zs. take i gs ++ zs) (sym (drop_more gs i d h)) ∙ take-append-drop i gs
 
 -- where a group passes the limit, so does the script
-pub script_passes : (homes : Homes) (script : List Group) (i : ℕ) (d : Group) (start : Net) (events : List Event) (next : ℕ) (now : Net) (limit count : ℕ) → i < length script → IsPlayedBy homes (take i script) start events next now
-    → count ≡ length events → GroupPasses limit count homes (get_or script i d) next now → PassesFrom limit script homes start
-script_passes homes script i d start events next now limit count h p e q =
-    subst (λ gs. PassesFrom limit gs homes start) (cut_here script i d h)
-    (play_passes homes (take i script) start events next now (get_or script i d) (drop (i + 1) script) limit p (subst (λ n. GroupPasses limit n homes (get_or script i d) next now) e q))
+pub script_passes : (homes : Homes) (b : Bool) (Calm Here Later : Type 0) (most here all : ℕ) → (Later → Calm × Here) → most + here ≤ all → (script : List Group) (i : ℕ) (d : Group) (start : Net) (events : List Event) (next : ℕ) (now : Net) (limit count : ℕ) → i < length script
+    → numbers now ≡ numbers start → ArePlayed homes b Calm most (take i script) start events next now → count ≡ length events → Passes homes b Here here limit count (get_or script i d) next now → PlayPasses homes b Later all limit script start
+script_passes homes b Calm Here Later most here all f le script i d start events next now limit count h same p e q =
+    subst (λ gs. PlayPasses homes b Later all limit gs start) (cut_here script i d h)
+    (play_overruns homes b Calm Here Later most here all f le (take i script) start events next now (get_or script i d) (drop (i + 1) script) limit same p (subst (λ n. Passes homes b Here here limit n (get_or script i d) next now) e q))
 
 -- and so does the script up to that group
-pub front_passes : (homes : Homes) (script : List Group) (i : ℕ) (d : Group) (start : Net) (events : List Event) (next : ℕ) (now : Net) (limit count : ℕ) → i < length script → IsPlayedBy homes (take i script) start events next now
-    → count ≡ length events → GroupPasses limit count homes (get_or script i d) next now → PassesFrom limit (take (i + 1) script) homes start
-front_passes homes script i d start events next now limit count h p e q =
-    subst (λ gs. PassesFrom limit gs homes start) (sym (take_more script i d h))
-    (play_passes homes (take i script) start events next now (get_or script i d) [] limit p (subst (λ n. GroupPasses limit n homes (get_or script i d) next now) e q))
+pub front_passes : (homes : Homes) (b : Bool) (Calm Here Later : Type 0) (most here all : ℕ) → (Later → Calm × Here) → most + here ≤ all → (script : List Group) (i : ℕ) (d : Group) (start : Net) (events : List Event) (next : ℕ) (now : Net) (limit count : ℕ) → i < length script
+    → numbers now ≡ numbers start → ArePlayed homes b Calm most (take i script) start events next now → count ≡ length events → Passes homes b Here here limit count (get_or script i d) next now → PlayPasses homes b Later all limit (take (i + 1) script) start
+front_passes homes b Calm Here Later most here all f le script i d start events next now limit count h same p e q =
+    subst (λ gs. PlayPasses homes b Later all limit gs start) (sym (take_more script i d h))
+    (play_overruns homes b Calm Here Later most here all f le (take i script) start events next now (get_or script i d) [] limit same p (subst (λ n. Passes homes b Here here limit n (get_or script i d) next now) e q))
 
-pub group_more : (homes : Homes) (script : List Group) (i : ℕ) (d : Group) (start : Net) (events : List Event) (next : ℕ) (now : Net) (own : List Event) (y : Net) → i < length script → IsPlayedBy homes (take i script) start events next now
-    → IsGroupOver homes (get_or script i d) next now own y → IsPlayedBy homes (take (i + 1) script) start (events ++ own) (next + asks_among (get_or script i d).acts) y
-group_more homes script i d start events next now own y h p o =
-    subst (λ gs. IsPlayedBy homes gs start (events ++ own) (next + asks_among (get_or script i d).acts) y) (sym (take_more script i d h)) (played_more homes (take i script) start events next now (get_or script i d) own y p o)
+pub group_more : (homes : Homes) (b : Bool) (Calm Here Later : Type 0) (most here all : ℕ) → (Later → Calm × Here) → most + here ≤ all → (script : List Group) (i : ℕ) (d : Group) (start : Net) (events : List Event) (next : ℕ) (now : Net) (own : List Event) (y : Net) → i < length script
+    → numbers now ≡ numbers start → ArePlayed homes b Calm most (take i script) start events next now → IsOver homes b Here here (get_or script i d) next now own y
+    → ArePlayed homes b Later all (take (i + 1) script) start (events ++ own) (next + asks_among (get_or script i d).acts) y
+group_more homes b Calm Here Later most here all f le script i d start events next now own y h same p o =
+    subst (λ gs. ArePlayed homes b Later all gs start (events ++ own) (next + asks_among (get_or script i d).acts) y) (sym (take_more script i d h))
+    (are_played_more homes b Calm Here Later most here all f le (take i script) start events next now (get_or script i d) own y same p o)
 
--- what stands where a group wasn't made or wasn't written
-pub some_of_play : (t : Network) (script : List Group) (i : ℕ) (d : Group) (starts nows : List Kept) (events : List Event) (next : ℕ) (options : RunOptions) (old mid new : Option (List ℕ)) → i < length script → AreSame starts nows → StayOwned starts nows
-    → AtShown starts (acts_of script) (λ homes tells. IsPlayedBy homes (take i script) (seats_by tells starts) events next (seats_by tells nows)) → length events ≤ options.limit → WritesAll old mid (written options.report t events)
-    → WritesSomeOfGroup t options (length events) (get_or script i d) next nows mid new → WritesSomeOfPlay t options script starts old new
-some_of_play t script i d starts nows events next options old mid new h s own p few w (inl e) = (
+-- what stands where a group wasn't made
+pub front_of_play : (t : Network) (script : List Group) (i : ℕ) (starts nows lasts : List Kept) (before mid after : ShelfCounts) (events : List Event) (next : ℕ) (options : RunOptions) (old new : Option (List ℕ))
+    → AtShown starts (acts_of script) (λ homes tells. ArePlayed homes tells (NoneStopped starts nows [] events) (more_stops starts nows) (take i script) (seats_by tells starts) events next (seats_by tells nows)) → length events ≤ options.limit
+    → WritesAll old new (written options.report t events) → AreSame starts nows → mid.stops ≡ before.stops → AreLeft nows lasts mid after → WritesGroups t options script starts lasts before after old new
+front_of_play t script i starts nows lasts before mid after events next options old new p few w same still left = (
   i,
   events,
-  (λ u o routes r b q shows. (seats_by b nows, played_all _ (take i script) (seats_by b starts) events next (seats_by b nows) (p u o routes r b q shows))),
+  (
+    left.by,
+    subst (λ (n : ℕ). Raised n left.by after.stops) still left.raised,
+    λ u o routes r b q shows. (
+      seats_by b nows,
+      all_played _ b (NoneStopped starts nows [] events) (NoneCounted starts lasts before after ⊎ NoRestart events) (more_stops starts nows) (left.by + more_stops starts lasts)
+          (none_by starts nows events (none_counted starts nows lasts before mid after same still left)) (let up = left.stops in omega (arith, up)) (take i script) (seats_by b starts) events next (seats_by b nows) (p u o routes r b q shows),
+    ),
+  ),
   few,
-  writes_front_all options.report t events old new (subst (λ m. WritesAll old m (written options.report t events)) (sym e) w),
+  w,
 )
-some_of_play t script i d starts nows events next options old mid new h s own p few w (inr q) = (
-  i + 1,
-  events ++ q.0,
-  (λ u o routes r b seen shows. (
-    seats_by b q.1,
-    played_all _ (take (i + 1) script) (seats_by b starts) (events ++ q.0) (next + asks_among (get_or script i d).acts) (seats_by b q.1)
-        (group_more _ script i d (seats_by b starts) events next (seats_by b nows) q.0 (seats_by b q.1) h (p u o routes r b seen shows)
-        (q.2 u (still_of u starts nows s o) routes r b (still_seen u starts nows own o routes r b seen) (shows_at b script i d h shows))),
-  )),
-  (let m = q.3 in omega (arith, m, length-append events q.0)),
-  writes_front_more options.report t events q.0 old mid new w q.4,
-)
+
+pub some_of_groups : (t : Network) (options : RunOptions) (script : List Group) (start last : List Kept) (before after : ShelfCounts) (old new : Option (List ℕ)) → WritesGroups t options script start last before after old new → WritesSomeOfPlay t options script start last before after old new
+some_of_groups t options script start last before after old new (i, events, plays, few, all) = (i, events, plays, few, writes_front_all options.report t events old new all)
+
+-- what stands where a group is over, and wasn't written to its end
+pub some_of_play : (t : Network) (script : List Group) (i : ℕ) (d : Group) (starts nows lasts : List Kept) (before mid after : ShelfCounts) (events own : List Event) (next : ℕ) (options : RunOptions) (old half new : Option (List ℕ)) → i < length script
+    → AreSame starts nows → StayOwned starts nows
+    → AtShown starts (acts_of script) (λ homes tells. ArePlayed homes tells (NoneStopped starts nows [] events) (more_stops starts nows) (take i script) (seats_by tells starts) events next (seats_by tells nows)) → length events + length own ≤ options.limit
+    → AtShown nows (get_or script i d).acts (λ homes tells. IsOver homes tells (NoneStopped nows lasts [] own) (more_stops nows lasts) (get_or script i d) next (seats_by tells nows) own (seats_by tells lasts))
+    → WritesAll old half (written options.report t events) → WritesFront half new (written options.report t own) → AreSame nows lasts → mid.stops ≡ before.stops → after.stops ≡ before.stops → WritesSomeOfPlay t options script starts lasts before after old new
+some_of_play t script i d starts nows lasts before mid after events own next options old half new h s stay p few over w q last still still_then =
+    let all : List Event = events ++ own in
+    let Later : Type 0 = NoneCounted starts lasts before after ⊎ NoRestart all in
+    let most : ℕ = more_stops starts lasts in
+    let a = stops_up starts nows s in
+    let c = stops_up nows lasts last in
+    let left : AreLeft nows lasts mid after = left_same nows lasts mid after last (still_then ∙ sym still) in
+    let none = none_both starts nows lasts events own (none_counted starts nows lasts before mid after s still left) (none_still starts lasts before after (same_twice starts nows lasts s last) still_then) in (
+      i + 1,
+      all,
+      (
+        0,
+        inl (omega (arith, still_then)),
+        λ u o routes r b seen shows. (
+          seats_by b lasts,
+          all_played _ b Later Later most (0 + most) (λ none. none) (omega arith) (take (i + 1) script) (seats_by b starts) all (next + asks_among (get_or script i d).acts) (seats_by b lasts)
+              (group_more _ b (NoneStopped starts nows [] events) (NoneStopped nows lasts [] own) Later (more_stops starts nows) (more_stops nows lasts) most none (omega (arith, a, c)) script i d (seats_by b starts) events next (seats_by b nows) own (seats_by b lasts) h
+              (numbers_by b starts nows s) (p u o routes r b seen shows) (over u (still_of u starts nows s o) routes r b (still_seen u starts nows stay o routes r b seen) (shows_at b script i d h shows))),
+        ),
+      ),
+      omega (arith, few, length-append events own),
+      writes_front_more options.report t events own old half new w q,
+    )
 
 ---- What a script asks for
 

@@ -14,13 +14,15 @@ use Rattle.agent_node.specs.Turns.{lying, cleared, takes, takes_all, works_off, 
 use Rattle.agent_node.specs.Meetings.{met}
 use Rattle.agent_node.specs.Kept.{Kept, IsSameAgent}
 use Rattle.agent_node.specs.Made.{IsTurn}
+use Rattle.nsi_disk.specs.Disk.{Meter}
 use Rattle.agent_node.proofs.Pasts.{past_turned}
 use Rattle.nsi_play.specs.Rounds.{Net, Homes, events_of, turned_in, turned_all, meets_each, meets_all, met_all, round}
 use Rattle.agent_threads.specs.declared.fault.RoundFault.{RoundFault}
 use Rattle.agent_threads.specs.Nets.{seats_by, seen, synced_in, EachIs, AtHomes, AreUsable}
-use Rattle.agent_threads.specs.Made.{HasRoom, HaveRoom, or_else, failure_at, stop_at, first_failure, first_stop, fault_of, HasRisen}
+use Rattle.agent_threads.specs.Made.{HasRoom, HaveRoom, or_else, failure_at, stop_at, first_failure, first_stop, fault_of, answer, HasRisen, Stays}
+use Rattle.agent_threads.specs.Stopping.{IsStop}
 use Rattle.agent_threads.proofs.Places.{each_map}
-use Rattle.agent_threads.proofs.Same.{at_home, KeepsLinks, steady_of}
+use Rattle.agent_threads.proofs.Same.{at_home}
 
 pub usable_at : (ks : List Kept) (i : ℕ) (d : Kept) → i < length ks → AreUsable ks → (get_or ks i d).fault ≡ None
 usable_at [] i d h u = absurd (omega arith)
@@ -83,12 +85,6 @@ events_grow homes (s ∷ ss) = omega (arith, events_cons s ss, events_cons (turn
 
 ---- Turns
 
-pub turns_links : (room : ℕ) (os ns : List Kept) → EachIs (IsTurn room) os ns → AreUsable ns → EachIs KeepsLinks os ns
-turns_links room [] [] e u = tt
-turns_links room [] (n ∷ ns) e u = absurd e
-turns_links room (o ∷ os) [] e u = absurd e
-turns_links room (o ∷ os) (n ∷ ns) e u = (record { same = steady_of o n e.0.same (e.0.cause.quiet u.0) (e.0.cause.calm u.0); plugs = e.0.plugs }, turns_links room os ns e.1 u.1)
-
 turn_agent : (room : ℕ) (a b : Kept) → IsTurn room a b → IsSameAgent a b
 turn_agent room a b t = t.same
 
@@ -98,11 +94,11 @@ turns_agents room os ns e = each_map (IsTurn room) IsSameAgent os ns (turn_agent
 
 ---- The fault of a round
 
-none_both : (a b : Option RoundFault) → or_else a b ≡ None → (a ≡ None) × (b ≡ None)
+pub none_both : (a b : Option RoundFault) → or_else a b ≡ None → (a ≡ None) × (b ≡ None)
 none_both None b e = (refl, e)
 none_both (Some x) b e = absurd (cc)
 
-one_of : (a b : Option RoundFault) (x : RoundFault) → or_else a b ≡ Some x → (a ≡ Some x) ⊎ (b ≡ Some x)
+pub one_of : (a b : Option RoundFault) (x : RoundFault) → or_else a b ≡ Some x → (a ≡ Some x) ⊎ (b ≡ Some x)
 one_of None b x e = inr e
 one_of (Some y) b x e = inl e
 
@@ -113,16 +109,13 @@ no_fault a (Some TurnFault.DiskFault) p q = absurd (cc)
 no_fault a (Some TurnFault.Stopped) p q = absurd (cc)
 no_fault a (Some TurnFault.NoMemory) p q = absurd (cc)
 
-none_failed : (ks : List Kept) → first_failure ks ≡ None → first_stop ks ≡ None → AreUsable ks
+pub all_usable : (ks : List Kept) → first_failure ks ≡ None → first_stop ks ≡ None → AreUsable ks
 unfolding first_failure first_stop
-none_failed [] p q = tt
-none_failed (k ∷ ks) p q =
+all_usable [] p q = tt
+all_usable (k ∷ ks) p q =
     let x = none_both (failure_at k.seat.number k.fault) (first_failure ks) p in
     let y = none_both (stop_at k.seat.number k.fault) (first_stop ks) q in
-    (no_fault k.seat.number k.fault x.0 y.0, none_failed ks x.1 y.1)
-
-pub all_usable : (ks : List Kept) → fault_of ks ≡ None → AreUsable ks
-all_usable ks e = let p = none_both (first_failure ks) (first_stop ks) e in none_failed ks p.0 p.1
+    (no_fault k.seat.number k.fault x.0 y.0, all_usable ks x.1 y.1)
 
 is_long : (a : ℕ) (f : Option TurnFault) → failure_at a f ≡ Some RoundFault.Long → f ≡ Some TurnFault.Long
 is_long a None p = absurd (cc)
@@ -149,10 +142,6 @@ is_stop a b (Some TurnFault.NoMemory) p = absurd (cc)
 abbrev NoStop : RoundFault → Type 0
 NoStop (RoundFault.Stopped a) = ⊥
 NoStop _ = Unit {0}
-
-abbrev IsStop : RoundFault → Type 0
-IsStop (RoundFault.Stopped a) = Unit {0}
-IsStop _ = ⊥
 
 failure_no_stop : (a : ℕ) (f : Option TurnFault) → IfSome (failure_at a f) NoStop
 failure_no_stop a None = tt
@@ -182,30 +171,29 @@ unfolding first_stop
 stops_are_stops [] = tt
 stops_are_stops (k ∷ ks) = if_or IsStop (stop_at k.seat.number k.fault) (first_stop ks) (stop_is_stop k.seat.number k.fault) (stops_are_stops ks)
 
--- what isn't a stop is the first failure
-failed_first : (ks : List Kept) (x : RoundFault) → (IsStop x → ⊥) → fault_of ks ≡ Some x → first_failure ks ≡ Some x
-failed_first ks x n e = ⊎_elim
-    (λ p. p)
-    (λ q. absurd (n (subst (λ (o : Option RoundFault). IfSome o IsStop) q (stops_are_stops ks))))
-    (one_of (first_failure ks) (first_stop ks) x e)
+not_both : (x : RoundFault) → NoStop x → IsStop x → ⊥
+not_both RoundFault.Long n s = s
+not_both (RoundFault.DiskFault a) n s = s
+not_both (RoundFault.Stopped a) n s = n
+not_both RoundFault.NoMemory n s = s
 
-stopped_first : (ks : List Kept) (a : ℕ) → fault_of ks ≡ Some (RoundFault.Stopped a) → first_stop ks ≡ Some (RoundFault.Stopped a)
-stopped_first ks a e = ⊎_elim
-    (λ p. absurd (subst (λ (o : Option RoundFault). IfSome o NoStop) p (failures_no_stop ks)))
-    (λ q. q)
-    (one_of (first_failure ks) (first_stop ks) (RoundFault.Stopped a) e)
+pub failure_is_no_stop : (ks : List Kept) (x : RoundFault) → first_failure ks ≡ Some x → IsStop x → ⊥
+failure_is_no_stop ks x e s = not_both x (subst (λ (o : Option RoundFault). IfSome o NoStop) e (failures_no_stop ks)) s
+
+pub is_a_stop : (ks : List Kept) (x : RoundFault) → first_stop ks ≡ Some x → IsStop x
+is_a_stop ks x e = subst (λ (o : Option RoundFault). IfSome o IsStop) e (stops_are_stops ks)
 
 -- its events are the same whatever is told of its synced entries
 turned_past : (b : Bool) (h : Home) (k : Kept) → (turned h (seen b k)).events ≡ (turned h k.seat).events
 turned_past true h k = ap (λ (s : Seat). s.events) (past_turned (synced_in k.kept) h k.seat)
 turned_past false h k = refl
 
-failures_long : (room : ℕ) (os ns : List Kept) → EachIs (IsTurn room) os ns → first_failure ns ≡ Some RoundFault.Long → AtHomes os (λ homes tells. length (events_of (seats_by tells os)) + room < length (events_of (turned_all homes (seats_by tells os))))
+pub turns_long : (room : ℕ) (os ns : List Kept) → EachIs (IsTurn room) os ns → first_failure ns ≡ Some RoundFault.Long → AtHomes os (λ homes tells. length (events_of (seats_by tells os)) + room < length (events_of (turned_all homes (seats_by tells os))))
 unfolding first_failure
-failures_long room [] [] e f t o routes r z w = absurd (cc)
-failures_long room [] (n ∷ ns) e f t o routes r z w = absurd e
-failures_long room (o ∷ os) [] e f t p routes r z w = absurd e
-failures_long room (o ∷ os) (n ∷ ns) e f t p routes r z w =
+turns_long room [] [] e f t o routes r z w = absurd (cc)
+turns_long room [] (n ∷ ns) e f t o routes r z w = absurd e
+turns_long room (o ∷ os) [] e f t p routes r z w = absurd e
+turns_long room (o ∷ os) (n ∷ ns) e f t p routes r z w =
     let homes : Homes = home_in t routes in
     let a = events_cons (seen z o) (seats_by z os) in
     let b = events_cons (turned_in homes (seen z o)) (turned_all homes (seats_by z os)) in
@@ -216,44 +204,35 @@ failures_long room (o ∷ os) (n ∷ ns) e f t p routes r z w =
     omega (arith, ap length (turned_past z (homes o.seat.number) o)))
     (λ q.
     let x = turned_grow (homes o.seat.number) (seen z o) in
-    let y = failures_long room os ns e.1 q t p.1 routes r z (λ told. (w told).1) in
+    let y = turns_long room os ns e.1 q t p.1 routes r z (λ told. (w told).1) in
     omega arith)
     (one_of (failure_at n.seat.number n.fault) (first_failure ns) RoundFault.Long f)
 
-failures_risen : (room a : ℕ) (os ns : List Kept) → EachIs (IsTurn room) os ns → first_failure ns ≡ Some (RoundFault.DiskFault a) → HasRisen a os ns
+pub turns_disk : (room a : ℕ) (os ns : List Kept) → EachIs (IsTurn room) os ns → first_failure ns ≡ Some (RoundFault.DiskFault a) → HasRisen a os ns
 unfolding first_failure
-failures_risen room a [] [] e f = absurd (cc)
-failures_risen room a [] (n ∷ ns) e f = absurd e
-failures_risen room a (o ∷ os) [] e f = absurd e
-failures_risen room a (o ∷ os) (n ∷ ns) e f = ⊎_elim
+turns_disk room a [] [] e f = absurd (cc)
+turns_disk room a [] (n ∷ ns) e f = absurd e
+turns_disk room a (o ∷ os) [] e f = absurd e
+turns_disk room a (o ∷ os) (n ∷ ns) e f = ⊎_elim
     (λ q.
     let p = is_disk n.seat.number a n.fault q in
     let x = e.0.cause.failed p.0 in
     inl (p.1, omega (arith, x, e.0.cause.stops)))
-    (λ q. inr (failures_risen room a os ns e.1 q))
+    (λ q. inr (turns_disk room a os ns e.1 q))
     (one_of (failure_at n.seat.number n.fault) (first_failure ns) (RoundFault.DiskFault a) f)
 
-stops_risen : (room a : ℕ) (os ns : List Kept) → EachIs (IsTurn room) os ns → first_stop ns ≡ Some (RoundFault.Stopped a) → HasRisen a os ns
+pub turns_stopped : (room a : ℕ) (os ns : List Kept) → EachIs (IsTurn room) os ns → first_stop ns ≡ Some (RoundFault.Stopped a) → HasRisen a os ns
 unfolding first_stop
-stops_risen room a [] [] e f = absurd (cc)
-stops_risen room a [] (n ∷ ns) e f = absurd e
-stops_risen room a (o ∷ os) [] e f = absurd e
-stops_risen room a (o ∷ os) (n ∷ ns) e f = ⊎_elim
+turns_stopped room a [] [] e f = absurd (cc)
+turns_stopped room a [] (n ∷ ns) e f = absurd e
+turns_stopped room a (o ∷ os) [] e f = absurd e
+turns_stopped room a (o ∷ os) (n ∷ ns) e f = ⊎_elim
     (λ q.
     let p = is_stop n.seat.number a n.fault q in
     let x = e.0.cause.stopped p.0 in
     inl (p.1, omega (arith, x, e.0.cause.faults)))
-    (λ q. inr (stops_risen room a os ns e.1 q))
+    (λ q. inr (turns_stopped room a os ns e.1 q))
     (one_of (stop_at n.seat.number n.fault) (first_stop ns) (RoundFault.Stopped a) f)
-
-pub turns_long : (room : ℕ) (os ns : List Kept) → EachIs (IsTurn room) os ns → fault_of ns ≡ Some RoundFault.Long → AtHomes os (λ homes tells. length (events_of (seats_by tells os)) + room < length (events_of (turned_all homes (seats_by tells os))))
-turns_long room os ns e f = failures_long room os ns e (failed_first ns RoundFault.Long (λ x. x) f)
-
-pub turns_disk : (room a : ℕ) (os ns : List Kept) → EachIs (IsTurn room) os ns → fault_of ns ≡ Some (RoundFault.DiskFault a) → HasRisen a os ns
-turns_disk room a os ns e f = failures_risen room a os ns e (failed_first ns (RoundFault.DiskFault a) (λ x. x) f)
-
-pub turns_stopped : (room a : ℕ) (os ns : List Kept) → EachIs (IsTurn room) os ns → fault_of ns ≡ Some (RoundFault.Stopped a) → HasRisen a os ns
-turns_stopped room a os ns e f = stops_risen room a os ns e (stopped_first ns a f)
 
 ---- The first of a list
 
@@ -264,6 +243,38 @@ failure_cons k ks = refl
 stop_cons : (k : Kept) (ks : List Kept) → first_stop (k ∷ ks) ≡ or_else (stop_at k.seat.number k.fault) (first_stop ks)
 unfolding first_stop
 stop_cons k ks = refl
+
+---- Meetings
+
+-- a meeting changes no fault, and no count of a disk
+pub failures_met : (xs ys : List Kept) → EachIs Stays xs ys → first_failure ys ≡ first_failure xs
+unfolding first_failure
+failures_met [] [] e = refl
+failures_met [] (y ∷ ys) e = absurd e
+failures_met (x ∷ xs) [] e = absurd e
+failures_met (x ∷ xs) (y ∷ ys) e = ap₂ or_else (ap₂ failure_at e.0.same.number e.0.fault) (failures_met xs ys e.1)
+
+pub stops_met : (xs ys : List Kept) → EachIs Stays xs ys → first_stop ys ≡ first_stop xs
+unfolding first_stop
+stops_met [] [] e = refl
+stops_met [] (y ∷ ys) e = absurd e
+stops_met (x ∷ xs) [] e = absurd e
+stops_met (x ∷ xs) (y ∷ ys) e = ap₂ or_else (ap₂ stop_at e.0.same.number e.0.fault) (stops_met xs ys e.1)
+
+pub risen_met : (a : ℕ) (os xs ys : List Kept) → EachIs Stays xs ys → HasRisen a os xs → HasRisen a os ys
+risen_met a [] xs ys e h = absurd h
+risen_met a (o ∷ os) [] ys e h = absurd h
+risen_met a (o ∷ os) (x ∷ xs) [] e h = absurd e
+risen_met a (o ∷ os) (x ∷ xs) (y ∷ ys) e (inl p) = inl (e.0.same.number ∙ p.0, subst (λ (m : Meter). o.meter.faults + o.meter.stops < m.faults + m.stops) (sym e.0.journal.meter) p.1)
+risen_met a (o ∷ os) (x ∷ xs) (y ∷ ys) e (inr q) = inr (risen_met a os xs ys e.1 q)
+
+---- The fault that is answered
+
+pub failure_first : (ks : List Kept) (x : RoundFault) → first_failure ks ≡ Some x → Err x ≡ answer (fault_of ks)
+failure_first ks x e = sym (ap (λ (o : Option RoundFault). answer (or_else o (first_stop ks))) e)
+
+pub stop_first : (ks : List Kept) (x : RoundFault) → first_failure ks ≡ None → first_stop ks ≡ Some x → Err x ≡ answer (fault_of ks)
+stop_first ks x e f = sym (ap₂ (λ (o q : Option RoundFault). answer (or_else o q)) e f)
 
 ---- A round
 

@@ -5,3 +5,4 @@ pub mod Coming
 pub mod Promise
 pub mod Bounds
 pub mod Leaving
+pub mod Stopping

@@ -1,5 +1,5 @@
 -- What calls make of the agents of a net.
-use Rattle.std.specs.Prelude.{ℕ, ◌≡◌, ◌+◌, ◌≤◌, ◌<◌, ◌⊎◌, List, [], ◌∷◌, ◌++◌, Option, Some, None, Result, Ok, Err, OnOk}
+use Rattle.std.specs.Prelude.{ℕ, ◌≡◌, ◌+◌, ◌≤◌, ◌<◌, ◌⊎◌, Bool, true, List, [], ◌∷◌, ◌++◌, Option, Some, None, Result, Ok, Err, OnOk}
 use Rattle.agent_state.specs.Entries.{most_entries}
 use Rattle.nsi_agent.specs.Homes.{Home, Routes, AreRoutes, home_in}
 use Rattle.agent_node.specs.declared.fault.TurnFault.{TurnFault}
@@ -9,6 +9,7 @@ use Rattle.agent_node.specs.Restarts.{restarted}
 use Rattle.agent_node.specs.Reopening.{HasRisen as HasCountRisen, IsReread}
 use Rattle.agent_node.specs.declared.reopen.ReopenFault.{ReopenFault}
 use Rattle.disk_journal.specs.declared.opening.StartCause.{StartCause}
+use Rattle.nsi_disk.specs.ShelfCounts.{Raised, RaisedFrom}
 use Rattle.nsi_disk.specs.declared.shelf.ShelfError.{ShelfError}
 use Rattle.agent_node.specs.Meetings.{met}
 use Rattle.agent_node.specs.Kept.{Kept, IsSameAgent, HasSameJournal}
@@ -17,7 +18,9 @@ use Rattle.nsi_primitive.specs.declared.ask.Ask.{Ask}
 use Rattle.nsi_script.specs.declared.script.Act.{Act}
 use Rattle.nsi_play.specs.Play.{changes}
 use Rattle.nsi_play.specs.Rounds.{tells}
-use Rattle.agent_threads.specs.Nets.{seats, numbers, IsOneOf, IsOwned}
+use Rattle.agent_threads.specs.Nets.{seats, numbers, IsOneOf, AreAmong, IsUnstopped}
+use Rattle.agent_threads.specs.Stopping.{WasOwned, AtOwned, AtOwnedBefore, stops_among, NoneCounted}
+pub use Rattle.agent_threads.specs.Stopping.{ShelfCounts, counted}
 use Rattle.agent_threads.specs.Promise.{AtShown}
 use Rattle.agent_threads.specs.Bounds.{MovesOn}
 use Rattle.agent_threads.specs.declared.fault.RoundFault.{RoundFault}
@@ -119,13 +122,6 @@ HasRisen a [] ns = ⊥
 HasRisen a (o ∷ os) [] = ⊥
 HasRisen a (o ∷ os) (n ∷ ns) = ((n.seat.number ≡ a) × (o.meter.faults + o.meter.stops < n.meter.faults + n.meter.stops)) ⊎ HasRisen a os ns
 
--- a stop is told as a fault of the disk: the agent isn't restarted behind it
-abbrev pub run_fault : RoundFault → RunFault
-run_fault RoundFault.Long = RunFault.Long
-run_fault (RoundFault.DiskFault a) = RunFault.DiskFault a
-run_fault (RoundFault.Stopped a) = RunFault.DiskFault a
-run_fault RoundFault.NoMemory = RunFault.NoMemory
-
 -- a disk of the agent with that number has failed or stopped
 abbrev pub HasFailed : ℕ → List Kept → Type 0
 HasFailed a [] = ⊥
@@ -149,14 +145,6 @@ reopen_fault a (ReopenFault.GivenBack StartCause.NoMemory) = RunFault.NoMemory
 reopen_fault a (ReopenFault.Lost ShelfError.Failed) = RunFault.DiskFault a
 reopen_fault a (ReopenFault.Lost ShelfError.NoMemory) = RunFault.NoMemory
 
--- the counts of where journals are read again
-pub record ShelfCounts : Type 0 where
-  pub faults : ℕ
-  pub stops : ℕ
-
-abbrev pub counted : (faults stops : ℕ) → ShelfCounts
-counted faults stops = record { faults = faults; stops = stops }
-
 -- a count rose, as far as its type reaches
 abbrev pub HaveRisen : ShelfCounts → ShelfCounts → Type 0
 HaveRisen old new = HasCountRisen old.faults new.faults ⊎ HasCountRisen old.stops new.stops
@@ -172,9 +160,9 @@ pub record KeepsShelf {T : Type 0} (old new : ShelfCounts) (result : Result T Ru
 abbrev pub AreUntold : List Act → List Kept → Type 0
 AreUntold acts ks = AtShown ks acts (λ homes tells. ⊥)
 
--- its journal doesn't tell what made it
+-- its journal doesn't tell what made it, nor did it before its disk stopped
 abbrev pub IsUntold : Kept → Type 0
-IsUntold k = (routes : Routes) → AreRoutes k.network routes → IsOwned (home_in k.network routes) k → ⊥
+IsUntold k = (routes : Routes) → AreRoutes k.network routes → WasOwned (home_in k.network routes) k → ⊥
 
 -- why an agent wasn't restarted: a count of where its disk went rose, or its journal has no reading, and doesn't tell what made the agent
 abbrev pub HasRestartCause : Kept → (before after : ShelfCounts) → RunFault → Type 0
@@ -193,9 +181,16 @@ IsOfRestart _ = Unit {0}
 abbrev pub PutsBack : (Kept → Kept → Type 0) → Kept → (before after : List Kept) → Type 0
 PutsBack R old before after = (new : Kept) × (after ≡ before ++ new ∷ []) × R old new
 
--- the others are left, and perhaps the agent behind them
-abbrev pub LosesOne : Kept → (before after : List Kept) → Type 0
-LosesOne old before after = (after ≡ before) ⊎ PutsBack IsSameAgent old before after
+-- the others are left, and its stops are counted where its disk went; or it stands behind them
+abbrev pub LosesOne : Kept → (before after : List Kept) → (c d : ShelfCounts) → Type 0
+LosesOne old before after c d = ((after ≡ before) × RaisedFrom c.stops old.meter.stops d.stops) ⊎ (PutsBack IsUnstopped old before after × (d.stops ≡ c.stops))
+
+-- These are left of those agents. No stop that was counted at one is lost: it is counted at these, or where their disks went.
+pub record AreLeft (olds news : List Kept) (before after : ShelfCounts) : Type 0 where
+  pub among : AreAmong olds news
+  pub by : ℕ
+  pub raised : Raised before.stops by after.stops
+  pub stops : stops_among olds ≤ by + stops_among news
 
 -- Why acts of these agents have failed, which are those then: a disk of one of them has failed or stopped, or where it went when it was read
 -- again; a journal has no reading, and the acts aren't shown.
@@ -203,6 +198,40 @@ abbrev pub HasRunCause : List Act → (olds news : List Kept) → (before after 
 HasRunCause acts olds news before after (RunFault.DiskFault a) = HasFailed a news ⊎ (IsOneOf a (numbers (seats olds)) × HaveRisen before after)
 HasRunCause acts olds news before after (RunFault.NotAJournal a place) = IsOneOf a (numbers (seats olds)) × AreUntold acts olds
 HasRunCause acts olds news before after _ = Unit {0}
+
+-- Why those whose disks had stopped don't go on: a disk has failed or stopped where it went, or a journal has no reading, and they didn't all
+-- tell what made them.
+abbrev pub HasGoOnCause : (olds : List Kept) → (before after : ShelfCounts) → RunFault → Type 0
+HasGoOnCause olds before after (RunFault.DiskFault a) = IsOneOf a (numbers (seats olds)) × HaveRisen before after
+HasGoOnCause olds before after (RunFault.NotAJournal a place) = IsOneOf a (numbers (seats olds)) × AtOwnedBefore olds (λ homes. ⊥)
+HasGoOnCause olds before after _ = Unit {0}
+
+-- what a round's fault is to a run: behind a stop it goes on
+abbrev pub behind_fault : RoundFault → Result Bool RunFault
+behind_fault RoundFault.Long = Err RunFault.Long
+behind_fault (RoundFault.DiskFault a) = Err (RunFault.DiskFault a)
+behind_fault (RoundFault.Stopped a) = Ok true
+behind_fault RoundFault.NoMemory = Err RunFault.NoMemory
+
+-- why a round has failed: behind a stop the agent goes on
+abbrev pub HasMetCause : List Kept → RunFault → Type 0
+HasMetCause ks RunFault.Long = Unit {0}
+HasMetCause ks RunFault.WriteFault = ⊥
+HasMetCause ks (RunFault.DiskFault a) = HasFailed a ks
+HasMetCause ks (RunFault.NotAJournal a place) = ⊥
+HasMetCause ks RunFault.NoMemory = Unit {0}
+
+-- a journal has no reading: they didn't all tell what made them, and where no stop was counted the acts restart an agent
+pub record HasUnread (acts : List Act) (olds news : List Kept) (before after : ShelfCounts) : Type 0 where
+  pub untold : AtOwned olds (λ homes. ⊥)
+  pub restarted : NoneCounted olds news before after → AreUntold acts olds
+
+-- Why these acts and rounds have failed: a disk has failed, or has failed or stopped where it went when it was read again; a journal has no
+-- reading.
+abbrev pub HasSettleCause : List Act → (olds news : List Kept) → (before after : ShelfCounts) → RunFault → Type 0
+HasSettleCause acts olds news before after (RunFault.DiskFault a) = HasFailed a news ⊎ (IsOneOf a (numbers (seats olds)) × HaveRisen before after)
+HasSettleCause acts olds news before after (RunFault.NotAJournal a place) = IsOneOf a (numbers (seats olds)) × HasUnread acts olds news before after
+HasSettleCause acts olds news before after _ = Unit {0}
 
 -- a fault that is an agent's
 abbrev pub IsOfAgent : RunFault → Type 0

@@ -1,5 +1,5 @@
 -- The agents of a net with their journals and links, as their contracts see them.
-use Rattle.std.specs.Prelude.{ℕ, ◌≡◌, Bool, true, false, List, [], ◌∷◌, ◌++◌, ◌⊎◌, map, Option, Some, None}
+use Rattle.std.specs.Prelude.{ℕ, ◌≡◌, ◌≤◌, Bool, true, false, List, [], ◌∷◌, ◌++◌, ◌⊎◌, map, Option, Some, None}
 use Rattle.nsi_primitive.specs.declared.entry.Entry.{Entry}
 use Rattle.stp_topology.specs.declared.network.Network.{Network}
 use Rattle.agent_link.specs.Link.{Wire}
@@ -9,7 +9,7 @@ use Rattle.nsi_agent.specs.Homes.{Routes, AreRoutes, home_in}
 use Rattle.nsi_agent.specs.Told.{told}
 use Rattle.agent_node.specs.Passing.{others}
 use Rattle.agent_node.specs.Seat.{Seat}
-use Rattle.agent_node.specs.Kept.{Kept, plug, AreLinked}
+use Rattle.agent_node.specs.Kept.{Kept, plug, AreLinked, IsSameAgent}
 use Rattle.nsi_play.specs.Rounds.{Net, Homes}
 
 abbrev pub seat_in : Kept → Seat
@@ -63,24 +63,29 @@ AreOf t (k ∷ ks) = (k.network ≡ t) × AreOf t ks
 abbrev pub AtHomes : List Kept → (Homes → (tells : Bool) → Type 0) → Type 0
 AtHomes ks P = (t : Network) → AreOf t ks → (routes : Routes) → AreRoutes t routes → (tells : Bool) → (tells ≡ true → AreOwned (home_in t routes) ks) → P (home_in t routes) tells
 
--- the same agent, with links to the same others; no call of its disk has failed, and none has stopped it
+-- the same agent, with links to the same others; no call of its disk has failed
 pub record IsSteady (old new : Kept) : Type 0 where
   pub network : new.network ≡ old.network
   pub number : new.seat.number ≡ old.seat.number
   pub others : others new.seat.doors ≡ others old.seat.doors
   pub faults : new.meter.faults ≡ old.meter.faults
-  pub stops : new.meter.stops ≡ old.meter.stops
+  pub stops : old.meter.stops ≤ new.meter.stops
 
 abbrev pub AreSame : List Kept → List Kept → Type 0
 AreSame olds news = EachIs IsSteady olds news
 
--- no call of its disk has failed, and none has stopped it
+-- no call of its disk has failed
 pub record IsCalm (old new : Kept) : Type 0 where
   pub faults : new.meter.faults ≡ old.meter.faults
-  pub stops : new.meter.stops ≡ old.meter.stops
+  pub stops : old.meter.stops ≤ new.meter.stops
 
 abbrev pub AreCalm : List Kept → List Kept → Type 0
 AreCalm olds news = EachIs IsCalm olds news
+
+-- the same agent, whose disk no call has stopped
+pub record IsUnstopped (old new : Kept) : Type 0 where
+  pub same : IsSameAgent old new
+  pub stops : new.meter.stops ≡ old.meter.stops
 
 ---- Nets
 

@@ -3,6 +3,7 @@ use Rattle.std.specs.Prelude.{ℕ, ◌≤◌, ◌+◌, ◌≡◌, ◌⊎◌, Boo
 use Rattle.std.specs.List.{All}
 use Rattle.nsi_primitive.specs.Printable.{IsPrintableAsk}
 use Rattle.nsi_primitive.specs.declared.entry.Event.{Event}
+use Rattle.nsi_disk.specs.ShelfCounts.{Raised}
 use Rattle.nsi_outside.specs.Stream.{WritesAll, WritesFront}
 use Rattle.stp_topology.specs.declared.network.Network.{Network}
 use Rattle.requester_agent.specs.Setting.{IsRequester}
@@ -11,9 +12,9 @@ use Rattle.nsi_script.specs.declared.script.Group.{Group}
 use Rattle.agent_node.specs.Kept.{Kept}
 use Rattle.nsi_script.specs.Scripts.{acts_of}
 use Rattle.nsi_play.specs.Rounds.{Net, Homes}
-use Rattle.nsi_play.specs.Play.{IsPlayFrom, PassesFrom}
+use Rattle.stopped_play.specs.Counts.{restarts_in}
 use Rattle.agent_threads.specs.Nets.{seats_by, AtHomes, AreOf}
-use Rattle.agent_threads.specs.Coming.{IsGroupOver}
+use Rattle.agent_threads.specs.Stopping.{ShelfCounts, stops_among, more_stops, NoneStopped, NoneCounted, IsPlayed, PlayPasses}
 use Rattle.agent_threads.specs.Reports.{written}
 use Rattle.agent_threads.specs.declared.report.RunOptions.{RunOptions}
 use Rattle.run_totals.specs.Totals.{totals_of}
@@ -58,45 +59,48 @@ Shows tells act = Unit {0}
 abbrev pub AtShown : List Kept → List Act → (Homes → (tells : Bool) → Type 0) → Type 0
 AtShown ks acts P = AtHomes ks (λ homes tells. All (Shows tells) acts → P homes tells)
 
--- these are the events of what they play
-abbrev pub Plays : List Kept → (whole part : List Group) → List Event → Type 0
-Plays start whole part events = AtShown start (acts_of whole) (λ homes tells. (last : Net) × IsPlayFrom part homes (seats_by tells start) events last)
+-- these are the events of what they play, in which disks stop no more often than so
+abbrev pub Plays : (Calm : Type 0) → (most : ℕ) → List Kept → (whole part : List Group) → List Event → Type 0
+Plays Calm most start whole part events = AtShown start (acts_of whole) (λ homes tells. (last : Net) × IsPlayed homes tells Calm most part (seats_by tells start) events last)
 
 -- what they play has more events
-abbrev pub PlaysPast : ℕ → List Kept → (whole part : List Group) → Type 0
-PlaysPast limit start whole part = AtShown start (acts_of whole) (λ homes tells. PassesFrom limit part homes (seats_by tells start))
+abbrev pub PlaysPast : (Calm : Type 0) → (most limit : ℕ) → List Kept → (whole part : List Group) → Type 0
+PlaysPast Calm most limit start whole part = AtShown start (acts_of whole) (λ homes tells. PlayPasses homes tells Calm most limit part (seats_by tells start))
 
--- the agents have played that, and these are the events
-abbrev pub HavePlayed : List Group → List Kept → List Kept → Type 0
-HavePlayed script olds news = (events : List Event) × AtShown olds (acts_of script) (λ homes tells. IsPlayFrom script homes (seats_by tells olds) events (seats_by tells news))
+-- these are the events of the whole play, behind which the agents stand so
+abbrev pub PlaysTo : (Calm : Type 0) → (most : ℕ) → (olds : List Kept) → List Group → List Event → (news : List Kept) → Type 0
+PlaysTo Calm most olds script events news = AtShown olds (acts_of script) (λ homes tells. IsPlayed homes tells Calm most script (seats_by tells olds) events (seats_by tells news))
+
+-- no restart was told
+abbrev pub NoRestart : List Event → Type 0
+NoRestart events = restarts_in events ≡ 0
 
 ---- What is written
 
--- what is wanted of the play was written, and these are its numbers
-abbrev pub WritesPlay : Network → RunOptions → List Group → List Kept → Option (List ℕ) → Option (List ℕ) → Totals → Type 0
-WritesPlay t options script start old new totals =
-    (events : List Event) × Plays start script script events × (totals ≡ totals_of t events) × (length events ≤ options.limit) × WritesAll old new (written options.report t events)
+-- what is wanted of the play was written, behind which the agents stand so, and these are its numbers
+abbrev pub WritesPlay : Network → RunOptions → List Group → (start last : List Kept) → Option (List ℕ) → Option (List ℕ) → Totals → Type 0
+WritesPlay t options script start last old new totals =
+    (events : List Event) × PlaysTo (NoneStopped start last [] events) (more_stops start last) start script events last × (totals ≡ totals_of t events) × (length events ≤ options.limit) × WritesAll old new (written options.report t events)
 
 -- these groups of the script were played and written, and with the next one the play has too many events
-abbrev pub WritesTooLong : Network → RunOptions → List Group → List Kept → Option (List ℕ) → Option (List ℕ) → Type 0
-WritesTooLong t options script start old new =
-    (groups : ℕ) × (events : List Event) × Plays start script (take groups script) events
-    × PlaysPast options.limit start script (take (groups + 1) script)
-    × PlaysPast options.limit start script script
+abbrev pub WritesTooLong : Network → RunOptions → List Group → (start last : List Kept) → Option (List ℕ) → Option (List ℕ) → Type 0
+WritesTooLong t options script start last old new =
+    (groups : ℕ) × (events : List Event) × Plays (NoneStopped start last [] events) (more_stops start last) start script (take groups script) events
+    × PlaysPast (stops_among last ≡ stops_among start) (more_stops start last) options.limit start script (take (groups + 1) script)
+    × PlaysPast (stops_among last ≡ stops_among start) (more_stops start last) options.limit start script script
     × (length events ≤ options.limit) × WritesAll old new (written options.report t events)
 
--- a front of what is wanted of some groups of the play was written
-abbrev pub WritesSomeOfPlay : Network → RunOptions → List Group → List Kept → Option (List ℕ) → Option (List ℕ) → Type 0
-WritesSomeOfPlay t options script start old new =
-    (groups : ℕ) × (events : List Event) × Plays start script (take groups script) events × (length events ≤ options.limit) × WritesFront old new (written options.report t events)
+-- Some groups are played, behind which these agents are left. Their disks have stopped no more often than is counted at these, and where others went.
+abbrev pub PlaysFirst : List Group → (start last : List Kept) → (before after : ShelfCounts) → (groups : ℕ) → List Event → Type 0
+PlaysFirst script start last before after groups events =
+    (by : ℕ) × Raised before.stops by after.stops × Plays (NoneCounted start last before after ⊎ NoRestart events) (by + more_stops start last) start script (take groups script) events
 
--- what is wanted of some whole groups of the play was written
-abbrev pub WritesGroups : Network → RunOptions → List Group → List Kept → Option (List ℕ) → Option (List ℕ) → Type 0
-WritesGroups t options script start old new =
-    (groups : ℕ) × (events : List Event) × Plays start script (take groups script) events × (length events ≤ options.limit) × WritesAll old new (written options.report t events)
+-- a front of what is wanted of some groups of the play was written, behind which these agents are left
+abbrev pub WritesSomeOfPlay : Network → RunOptions → List Group → (start last : List Kept) → (before after : ShelfCounts) → Option (List ℕ) → Option (List ℕ) → Type 0
+WritesSomeOfPlay t options script start last before after old new =
+    (groups : ℕ) × (events : List Event) × PlaysFirst script start last before after groups events × (length events ≤ options.limit) × WritesFront old new (written options.report t events)
 
--- nothing of the group was written, or it is over and a front of what is wanted of it was
-abbrev pub WritesSomeOfGroup : Network → RunOptions → (before : ℕ) → Group → ℕ → List Kept → Option (List ℕ) → Option (List ℕ) → Type 0
-WritesSomeOfGroup t options before g next x old new =
-    (new ≡ old)
-    ⊎ ((own : List Event) × (ys : List Kept) × AtShown x g.acts (λ homes tells. IsGroupOver homes g next (seats_by tells x) own (seats_by tells ys)) × (before + length own ≤ options.limit) × WritesFront old new (written options.report t own))
+-- what is wanted of some whole groups of the play was written, behind which these agents are left
+abbrev pub WritesGroups : Network → RunOptions → List Group → (start last : List Kept) → (before after : ShelfCounts) → Option (List ℕ) → Option (List ℕ) → Type 0
+WritesGroups t options script start last before after old new =
+    (groups : ℕ) × (events : List Event) × PlaysFirst script start last before after groups events × (length events ≤ options.limit) × WritesAll old new (written options.report t events)

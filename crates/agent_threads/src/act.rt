@@ -3,10 +3,9 @@
 ghost use Rattle.std.specs.Prelude.{◌≡◌, ◌≤◌, [], ◌∷◌, List, ℕ, None, true, IfErr, OnOk};
 ghost use Rattle.nsi_primitive.specs.Printable.{IsPrintableAsk};
 ghost use Rattle.requester_agent.specs.Setting.{IsRequester};
-ghost use Rattle.agent_node.specs.Kept.{IsSameAgent};
 ghost use Rattle.nsi_play.specs.Play.{RestartsNone};
-ghost use Rattle.agent_threads.specs.Nets.{seats, EachIs, AreUsable, AreApart, AreListed, AreAmong};
-ghost use Rattle.agent_threads.specs.Made.{Does, DoesAct, HasRoom, HaveRoom, asks_at, forces_at, part_in, counted, KeepsShelf, HasRunCause, IsOfRestart};
+ghost use Rattle.agent_threads.specs.Nets.{seats, EachIs, AreUsable, AreApart, AreListed, IsUnstopped};
+ghost use Rattle.agent_threads.specs.Made.{Does, DoesAct, HasRoom, HaveRoom, asks_at, forces_at, part_in, counted, KeepsShelf, HasRunCause, IsOfRestart, AreLeft};
 ghost use Rattle.agent_threads.specs.Promise.{CanBeDone, CanAct};
 
 use crate::fault::RunFault;
@@ -31,7 +30,7 @@ fn ask_one<'t, J: Journal + Drop>(
     requires requester { IsRequester node.old.network agent }
     requires printable { IsPrintableAsk ask.now }
     ensures done { OnOk result (Does (asks_at agent number ask.now) node.old node.new) }
-    ensures agent { IsSameAgent node.old node.new }
+    ensures agent { IsUnstopped node.old node.new }
 {
     if node.number() != agent {
         return Ok(());
@@ -51,7 +50,7 @@ fn force_one<'t, J: Journal + Drop>(
     requires usable { node.old.fault ≡ None }
     requires few { HasRoom 1 node.old }
     ensures done { OnOk result (Does (forces_at agent connection) node.old node.new) }
-    ensures agent { IsSameAgent node.old node.new }
+    ensures agent { IsUnstopped node.old node.new }
 {
     if node.number() != agent {
         return Ok(());
@@ -72,7 +71,7 @@ fn act_one<'t, J: Journal + Drop>(
     requires can { CanBeDone node.old.network act.now }
     requires none { RestartsNone act.now }
     ensures done { OnOk result (Does (part_in act.now number) node.old node.new) }
-    ensures agent { IsSameAgent node.old node.new }
+    ensures agent { IsUnstopped node.old node.new }
 {
     match act {
         Act::Ask { agent, ask } => ask_one(alloc, node, *agent, number, ask),
@@ -97,7 +96,7 @@ fn act_each<'t, J: Journal + Drop>(
     requires none { RestartsNone act.now }
     ensures done { OnOk result
         (EachIs (Does (part_in act.now number)) nodes.old.items nodes.new.items) }
-    ensures agents { EachIs IsSameAgent nodes.old.items nodes.new.items }
+    ensures agents { EachIs IsUnstopped nodes.old.items nodes.new.items }
 {
     for node in nodes.iter_mut() {
         act_one(alloc, node, act, number)?;
@@ -120,7 +119,9 @@ pub fn act_all<'t, J: Journal + Drop, B: Reopen<J>>(
     requires listed { AreListed (B.listed shelf.old) nodes.old.items }
     ensures done { OnOk result
         (EachIs (DoesAct act.now number) nodes.old.items nodes.new.items) }
-    ensures agents { AreAmong nodes.old.items nodes.new.items }
+    ensures agents { AreLeft nodes.old.items nodes.new.items
+        (counted (B.faults shelf.old) (B.stops shelf.old))
+        (counted (B.faults shelf.new) (B.stops shelf.new)) }
     ensures shelf { KeepsShelf (counted (B.faults shelf.old) (B.stops shelf.old))
         (counted (B.faults shelf.new) (B.stops shelf.new)) result }
     ensures stays { (n : List ℕ) → B.listed shelf.old n ≡ true → B.listed shelf.new n ≡ true }

@@ -26,14 +26,14 @@ impl From<AllocError> for RoundFault {
     }
 }
 
-/// Why a run has ended before its script. Behind a stop agents aren't restarted: it is a fault of the disk.
+/// Why a run has ended before its script. A stop in a turn is none: the agent goes on behind the round.
 #[derive(Clone, Copy, Debug, PartialEq, Eq)]
 pub enum RunFault {
     /// It has more events than are allowed.
     Long,
     /// The text was not written whole.
     WriteFault,
-    /// The agent's disk failed or stopped.
+    /// The agent's disk failed, or stopped while its journal was made or read.
     DiskFault(AgentNo),
     /// The agent's journal was to be read again, and the bytes of its disk are none from this place on; or it has more than the agent
     /// took, and this is 0.

@@ -9,16 +9,21 @@ ghost use Rattle.nsi_play.specs.Rounds.{round, events_of, all_quiet};
 ghost use Rattle.nsi_play.specs.Play.{asks_among, asks_in, acted, begins, ticked_in};
 ghost use Rattle.quiet_rounds.specs.Bounded.{IsBounded};
 ghost use Rattle.agent_node.specs.Kept.{IsSameAgent};
-ghost use Rattle.agent_threads.specs.Nets.{seats, seats_by, EachIs, AtHomes, AreUsable, AreNet, AreListed, AreAmong};
-ghost use Rattle.agent_threads.specs.Made.{Does, Drained, tick_to, HasRoom, HaveRoom, HasCause, counted, KeepsShelf, HasRunCause, IsOfRestart};
-ghost use Rattle.agent_threads.specs.Bounds.{AreUpTo, AreOfOne};
-ghost use Rattle.agent_threads.specs.Leaving.{LeavesNet};
-ghost use Rattle.agent_threads.specs.Coming.{IsTold, IsBegun, IsSettledBy, OverrunsBy};
+ghost use Rattle.agent_threads.specs.Nets.{seats, seats_by, EachIs, AtHomes, AreSame, AreUsable, AreNet, AreListed, AreOwned, IsUnstopped};
+ghost use Rattle.agent_threads.specs.Made.{Does, tick_to, HasRoom, HaveRoom, behind_fault, HasMetCause, HasSettleCause, HasGoOnCause, counted, KeepsShelf, HasRunCause, IsOfRestart, AreLeft};
+ghost use Rattle.agent_threads.specs.Bounds.{AreUpTo, AreOfOne, MovesOn, GoOn};
+ghost use Rattle.agent_threads.specs.Leaving.{LeavesNet, StayOwned};
+ghost use Rattle.stopped_play.specs.Tapes.{Cuts};
+ghost use Rattle.stopped_play.specs.Rounds.{round_by, reopens};
+ghost use Rattle.stopped_play.specs.Counts.{restarts_in};
+ghost use Rattle.agent_threads.specs.Coming.{IsTold, IsBegun};
+ghost use Rattle.agent_threads.specs.Stopping.{AreHalted, AgreesWith, seats_before, WereOwned, AtOwned, AtOwnedBefore, Emptied, stopped_in, stops_among, more_stops, NoneStopped, IsStepped, StepOverruns, AreSettled, Overrun};
 ghost use Rattle.agent_threads.specs.Promise.{CanAct, CanDo, Shows, AtShown};
 
 use crate::act::act_all;
 use crate::fault::{RoundFault, RunFault};
 use crate::resources::Resources;
+use crate::restart::restart_stopped;
 use crate::rounds::{round, settled};
 use agent_node::{Node, Reopen};
 use journal_entry::Journal;
@@ -29,6 +34,7 @@ use nsi_script::{Act, Group};
 use quiet_rounds::laws::{left_falls, nets_are_bounded};
 use std::alloc::{AllocError, Global};
 use std::thread::Threads;
+use stopped_play::laws::rounds;
 
 /// An agent's clock goes on.
 fn tick_one<'t, J: Journal + Drop>(
@@ -40,7 +46,7 @@ fn tick_one<'t, J: Journal + Drop>(
     requires few { HasRoom 1 node.old }
     requires later { node.old.seat.state.base.now ≤ to }
     ensures done { OnOk result (Does (tick_to to) node.old node.new) }
-    ensures agent { IsSameAgent node.old node.new }
+    ensures agent { IsUnstopped node.old node.new }
 {
     node.tick(alloc, to)?;
     Ok(())
@@ -55,7 +61,7 @@ fn tick_all<'t, J: Journal + Drop>(
     requires few { HaveRoom 1 nodes.old.items }
     requires later { AreUpTo to nodes.old.items }
     ensures done { OnOk result (EachIs (Does (tick_to to)) nodes.old.items nodes.new.items) }
-    ensures agents { EachIs IsSameAgent nodes.old.items nodes.new.items }
+    ensures agents { EachIs IsUnstopped nodes.old.items nodes.new.items }
 {
     for node in nodes.iter_mut() {
         tick_one(alloc, node, to)?;
@@ -68,12 +74,11 @@ fn drain_one<'t, J: Journal + Drop>(
     node: &mut Node<'t, J>,
     events: &mut Vec<Event>,
 ) -> Result<(), AllocError>
-    requires usable { node.old.fault ≡ None }
     requires printable { All IsPrintableEvent events.old.items }
-    ensures made { OnOk result (Drained node.old node.new) }
+    ensures made { OnOk result (Emptied node.old node.new) }
     ensures events { OnOk result (events.new.items ≡ events.old.items ++ node.old.seat.events) }
     ensures printable { OnOk result (All IsPrintableEvent events.new.items) }
-    ensures agent { IsSameAgent node.old node.new }
+    ensures agent { IsUnstopped node.old node.new }
 {
     let mut own = node.take_events();
     events.append(&mut own)?;
@@ -85,13 +90,12 @@ fn drain<'t, J: Journal + Drop>(
     nodes: &mut Vec<Node<'t, J>>,
     events: &mut Vec<Event>,
 ) -> Result<(), AllocError>
-    requires usable { AreUsable nodes.old.items }
     requires printable { All IsPrintableEvent events.old.items }
-    ensures made { OnOk result (EachIs Drained nodes.old.items nodes.new.items) }
+    ensures made { OnOk result (EachIs Emptied nodes.old.items nodes.new.items) }
     ensures events { OnOk result
         (events.new.items ≡ events.old.items ++ events_of (seats nodes.old.items)) }
     ensures printable { OnOk result (All IsPrintableEvent events.new.items) }
-    ensures agents { EachIs IsSameAgent nodes.old.items nodes.new.items }
+    ensures agents { EachIs IsUnstopped nodes.old.items nodes.new.items }
 {
     for node in nodes.iter_mut() {
         drain_one(node, events)?;
@@ -117,7 +121,7 @@ fn tick<'t, J: Journal + Drop>(
         events.old.items events.new.items (seats_by tells nodes.new.items))) }
     ensures leaves { OnOk result (LeavesNet to nodes.old.items nodes.new.items
         events.old.items events.new.items) }
-    ensures agents { EachIs IsSameAgent nodes.old.items nodes.new.items }
+    ensures agents { EachIs IsUnstopped nodes.old.items nodes.new.items }
 {
     routes_exist();
     nets_are_bounded();
@@ -146,7 +150,9 @@ fn act<'t, J: Journal + Drop, B: Reopen<J>>(
         events.old.items events.new.items (seats_by tells nodes.new.items))) }
     ensures leaves { OnOk result (LeavesNet 0 nodes.old.items nodes.new.items
         events.old.items events.new.items) }
-    ensures agents { AreAmong nodes.old.items nodes.new.items }
+    ensures agents { AreLeft nodes.old.items nodes.new.items
+        (counted (B.faults shelf.old) (B.stops shelf.old))
+        (counted (B.faults shelf.new) (B.stops shelf.new)) }
     ensures shelf { KeepsShelf (counted (B.faults shelf.old) (B.stops shelf.old))
         (counted (B.faults shelf.new) (B.stops shelf.new)) result }
     ensures stays { (n : List ℕ) → B.listed shelf.old n ≡ true → B.listed shelf.new n ≡ true }
@@ -207,7 +213,11 @@ pub fn begin<'t, J: Journal + Drop, B: Reopen<J>>(
     ensures long { AtShown nodes.old.items group.now.acts (λ homes tells.
         IsErrOf result RunFault.Long → start.room < length
         (begins group.now start.number homes (seats_by tells nodes.old.items)).events) }
-    ensures agents { AreAmong nodes.old.items nodes.new.items }
+    ensures rises { IsErrOf result RunFault.Long →
+        stops_among nodes.old.items ≤ stops_among nodes.new.items }
+    ensures agents { AreLeft nodes.old.items nodes.new.items
+        (counted (B.faults shelf.old) (B.stops shelf.old))
+        (counted (B.faults shelf.new) (B.stops shelf.new)) }
     ensures shelf { KeepsShelf (counted (B.faults shelf.old) (B.stops shelf.old))
         (counted (B.faults shelf.new) (B.stops shelf.new)) result }
     ensures stays { (n : List ℕ) → B.listed shelf.old n ≡ true → B.listed shelf.new n ≡ true }
@@ -232,49 +242,167 @@ pub fn begin<'t, J: Journal + Drop, B: Reopen<J>>(
     Ok(next)
 }
 
-/// A round, and what has happened then, where there is room for its events.
-fn step<'t, R: Threads + Sync, J: Journal + Drop + Send>(
+/// A round. It answers whether disks have stopped in it.
+fn meet<'t, R: Threads + Sync, J: Journal + Drop + Send>(
     resources: &Resources<'_, R>,
     nodes: &mut Vec<Node<'t, J>>,
+    room: u64,
+) -> Result<bool, RunFault>
+    requires net { AreNet nodes.old.items }
+    requires few { HaveRoom room nodes.old.items }
+    ensures calm { AtHomes nodes.old.items (λ homes tells. IfOk result (λ stopped. stopped ≡ false →
+        seats_by tells nodes.new.items ≡ round homes (seats_by tells nodes.old.items))) }
+    ensures net { IfOk result (λ stopped. stopped ≡ false → AreNet nodes.new.items) }
+    ensures owned { IfOk result (λ stopped. stopped ≡ false →
+        StayOwned nodes.old.items nodes.new.items) }
+    ensures halts { AtOwned nodes.old.items (λ homes. OnOk result
+        ((cuts : Cuts) → AgreesWith cuts nodes.new.items →
+        seats_before nodes.new.items ≡ round_by cuts homes (seats_by true nodes.old.items))) }
+    ensures halted { OnOk result (AreHalted nodes.new.items) }
+    ensures still { OnOk result (AreSame nodes.old.items nodes.new.items) }
+    ensures were { AtOwned nodes.old.items (λ homes. OnOk result (WereOwned homes nodes.new.items)) }
+    ensures moved { AtHomes nodes.old.items (λ homes tells.
+        OnOk result (EachIs (MovesOn 0) nodes.old.items nodes.new.items)) }
+    ensures long { AtHomes nodes.old.items (λ homes tells. IsErrOf result RunFault.Long →
+        let before = seats_by tells nodes.old.items in
+        length (events_of before) + room < length (events_of (round homes before))) }
+    ensures cause { IfErr result (HasMetCause nodes.new.items) }
+    ensures agents { EachIs IsSameAgent nodes.old.items nodes.new.items }
+    ensures counts { stops_among nodes.old.items + stopped_in nodes.new.items
+        ≤ stops_among nodes.new.items }
+    ensures some { IfOk result (λ stopped. stopped ≡ true → 0 < stopped_in nodes.new.items) }
+    ensures plain { AtHomes nodes.old.items (λ homes tells. IfOk result (λ stopped. stopped ≡ true →
+        (cuts : Cuts) → AgreesWith cuts nodes.new.items →
+        seats nodes.new.items ≡ round_by cuts homes (seats nodes.old.items))) }
+{
+    match round(resources, nodes, room) {
+        Ok(()) => Ok(false),
+        Err(fault) => behind_fault(fault),
+    }
+}
+
+/// What a round's fault is to a run: behind a stop it goes on.
+fn behind_fault(fault: RoundFault) -> Result<bool, RunFault>
+    ensures { result ≡ behind_fault fault }
+{
+    match fault {
+        RoundFault::Long => Err(RunFault::Long),
+        RoundFault::DiskFault(agent) => Err(RunFault::DiskFault(agent)),
+        RoundFault::Stopped(_) => Ok(true),
+        RoundFault::NoMemory => Err(RunFault::NoMemory),
+    }
+}
+
+/// Those whose disks have stopped go on, and what has happened then.
+fn reopen<'t, J: Journal + Drop, B: Reopen<J>>(
+    alloc: Global,
+    nodes: &mut Vec<Node<'t, J>>,
+    shelf: &mut B,
+    events: &mut Vec<Event>,
+) -> Result<(), RunFault>
+    requires halted { AreHalted nodes.old.items }
+    requires told { events_of (seats nodes.old.items) ≡ [] }
+    requires listed { AreListed (B.listed shelf.old) nodes.old.items }
+    requires printable { All IsPrintableEvent events.old.items }
+    ensures ok { AtOwnedBefore nodes.old.items (λ homes. OnOk result ((cuts : Cuts)
+        × AgreesWith cuts nodes.old.items
+        × IsTold (reopens cuts homes (seats_before nodes.old.items))
+        events.old.items events.new.items (seats_by true nodes.new.items))) }
+    ensures net { OnOk result (AreNet nodes.new.items) }
+    ensures still { OnOk result (AreSame nodes.old.items nodes.new.items) }
+    ensures owned { AtOwnedBefore nodes.old.items (λ homes.
+        OnOk result (AreOwned homes nodes.new.items)) }
+    ensures further { OnOk result
+        (GoOn 0 nodes.old.items nodes.new.items events.old.items events.new.items) }
+    ensures told { OnOk result (events_of (seats nodes.new.items) ≡ []) }
+    ensures printable { OnOk result (All IsPrintableEvent events.new.items) }
+    ensures shows { OnOk result (restarts_in events.new.items
+        ≡ restarts_in events.old.items + stopped_in nodes.old.items) }
+    ensures bounded { OnOk result
+        (IsBounded (seats nodes.old.items) → IsBounded (seats nodes.new.items)) }
+    ensures agents { AreLeft nodes.old.items nodes.new.items
+        (counted (B.faults shelf.old) (B.stops shelf.old))
+        (counted (B.faults shelf.new) (B.stops shelf.new)) }
+    ensures shelf { KeepsShelf (counted (B.faults shelf.old) (B.stops shelf.old))
+        (counted (B.faults shelf.new) (B.stops shelf.new)) result }
+    ensures stays { (n : List ℕ) → B.listed shelf.old n ≡ true → B.listed shelf.new n ≡ true }
+    ensures cause { IfErr result (HasGoOnCause nodes.old.items
+        (counted (B.faults shelf.old) (B.stops shelf.old))
+        (counted (B.faults shelf.new) (B.stops shelf.new))) }
+    ensures mild { IfErr result IsOfRestart }
+{
+    routes_exist();
+    restart_stopped(alloc, nodes, shelf)?;
+    drain(nodes, events)?;
+    Ok(())
+}
+
+/// A round with the restarts behind it, and what has happened then, where there is room for its events.
+fn step<'t, R: Threads + Sync, J: Journal + Drop + Send, B: Reopen<J>>(
+    resources: &Resources<'_, R>,
+    nodes: &mut Vec<Node<'t, J>>,
+    shelf: &mut B,
     events: &mut Vec<Event>,
     room: u64,
-) -> Result<(), RoundFault>
+) -> Result<(), RunFault>
     requires net { AreNet nodes.old.items }
     requires one { AreOfOne nodes.old.items }
     requires told { events_of (seats nodes.old.items) ≡ [] }
     requires printable { All IsPrintableEvent events.old.items }
     requires within { length events.old.items ≤ room }
     requires few { HaveRoom (room - length events.old.items) nodes.old.items }
-    ensures ok { AtHomes nodes.old.items (λ homes tells. OnOk result
-        (IsTold (round homes (seats_by tells nodes.old.items))
-        events.old.items events.new.items (seats_by tells nodes.new.items))) }
+    requires listed { AreListed (B.listed shelf.old) nodes.old.items }
+    ensures ok { AtHomes nodes.old.items (λ homes tells. OnOk result (IsStepped homes tells
+        (NoneStopped nodes.old.items nodes.new.items events.old.items events.new.items)
+        (more_stops nodes.old.items nodes.new.items) (seats_by tells nodes.old.items) events.old.items events.new.items
+        (seats_by tells nodes.new.items))) }
     ensures leaves { OnOk result (LeavesNet 0 nodes.old.items nodes.new.items
         events.old.items events.new.items) }
     ensures within { OnOk result (length events.new.items ≤ room) }
-    ensures long { AtHomes nodes.old.items (λ homes tells. IsErrOf result RoundFault.Long →
-        let more = events_of (round homes (seats_by tells nodes.old.items)) in
-        room < length events.old.items + length more) }
-    ensures cause { IfErr result (λ e. HasCause e nodes.new.items) }
-    ensures agents { EachIs IsSameAgent nodes.old.items nodes.new.items }
+    ensures long { AtHomes nodes.old.items (λ homes tells. IsErrOf result RunFault.Long →
+        StepOverruns homes tells (stops_among nodes.new.items ≡ stops_among nodes.old.items)
+        (more_stops nodes.old.items nodes.new.items)
+        (seats_by tells nodes.old.items) (length events.old.items) room) }
+    ensures rises { IsErrOf result RunFault.Long →
+        stops_among nodes.old.items ≤ stops_among nodes.new.items }
+    ensures agents { AreLeft nodes.old.items nodes.new.items
+        (counted (B.faults shelf.old) (B.stops shelf.old))
+        (counted (B.faults shelf.new) (B.stops shelf.new)) }
+    ensures shelf { KeepsShelf (counted (B.faults shelf.old) (B.stops shelf.old))
+        (counted (B.faults shelf.new) (B.stops shelf.new)) result }
+    ensures stays { (n : List ℕ) → B.listed shelf.old n ≡ true → B.listed shelf.new n ≡ true }
+    ensures cause { IfErr result (HasSettleCause [] nodes.old.items nodes.new.items
+        (counted (B.faults shelf.old) (B.stops shelf.old))
+        (counted (B.faults shelf.new) (B.stops shelf.new))) }
+    ensures mild { IsErrOf result RunFault.WriteFault → ⊥ }
 {
     routes_exist();
     nets_are_bounded();
+    rounds();
     let left = room - events.len() as u64;
-    round(resources, nodes, left)?;
+    let has_stopped = meet(resources, nodes, left)?;
     drain(nodes, events)?;
     if events.len() as u64 > room {
-        return Err(RoundFault::Long);
+        return Err(RunFault::Long);
+    }
+    if !has_stopped {
+        return Ok(());
+    }
+    reopen(resources.alloc, nodes, shelf, events)?;
+    if events.len() as u64 > room {
+        return Err(RunFault::Long);
     }
     Ok(())
 }
 
 /// Rounds until something happens or all agents are quiet. It answers whether they are.
-fn advance<'t, R: Threads + Sync, J: Journal + Drop + Send>(
+fn advance<'t, R: Threads + Sync, J: Journal + Drop + Send, B: Reopen<J>>(
     resources: &Resources<'_, R>,
     nodes: &mut Vec<Node<'t, J>>,
+    shelf: &mut B,
     events: &mut Vec<Event>,
     room: u64,
-) -> Result<bool, RoundFault>
+) -> Result<bool, RunFault>
     requires net { AreNet nodes.old.items }
     requires bounded { IsBounded (seats nodes.old.items) }
     requires one { AreOfOne nodes.old.items }
@@ -282,25 +410,40 @@ fn advance<'t, R: Threads + Sync, J: Journal + Drop + Send>(
     requires printable { All IsPrintableEvent events.old.items }
     requires within { length events.old.items ≤ room }
     requires few { HaveRoom (room - length events.old.items) nodes.old.items }
-    ensures ok { AtHomes nodes.old.items (λ homes tells. IfOk result (λ quiet. (own : List EventOf)
-        × (events.new.items ≡ events.old.items ++ own)
-        × IsSettledBy homes (seats_by tells nodes.old.items) own (seats_by tells nodes.new.items)
+    requires listed { AreListed (B.listed shelf.old) nodes.old.items }
+    ensures ok { AtHomes nodes.old.items (λ homes tells. IfOk result (λ quiet.
+        (own : List EventOf) × (events.new.items ≡ events.old.items ++ own)
+        × AreSettled homes tells
+        (NoneStopped nodes.old.items nodes.new.items events.old.items events.new.items)
+        (more_stops nodes.old.items nodes.new.items) (seats_by tells nodes.old.items) own (seats_by tells nodes.new.items)
         × (quiet ≡ true → all_quiet homes (seats_by tells nodes.new.items) ≡ true))) }
     ensures leaves { OnOk result (LeavesNet 0 nodes.old.items nodes.new.items
         events.old.items events.new.items) }
     ensures more { IfOk result (λ quiet.
         quiet ≡ false → length events.old.items < length events.new.items) }
     ensures within { OnOk result (length events.new.items ≤ room) }
-    ensures long { AtHomes nodes.old.items (λ homes tells. IsErrOf result RoundFault.Long →
-        OverrunsBy homes (seats_by tells nodes.old.items) (length events.old.items) room) }
-    ensures cause { IfErr result (λ e. HasCause e nodes.new.items) }
-    ensures agents { EachIs IsSameAgent nodes.old.items nodes.new.items }
+    ensures long { AtHomes nodes.old.items (λ homes tells. IsErrOf result RunFault.Long →
+        Overrun homes tells (stops_among nodes.new.items ≡ stops_among nodes.old.items)
+        (more_stops nodes.old.items nodes.new.items)
+        (seats_by tells nodes.old.items) (length events.old.items) room) }
+    ensures rises { IsErrOf result RunFault.Long →
+        stops_among nodes.old.items ≤ stops_among nodes.new.items }
+    ensures agents { AreLeft nodes.old.items nodes.new.items
+        (counted (B.faults shelf.old) (B.stops shelf.old))
+        (counted (B.faults shelf.new) (B.stops shelf.new)) }
+    ensures shelf { KeepsShelf (counted (B.faults shelf.old) (B.stops shelf.old))
+        (counted (B.faults shelf.new) (B.stops shelf.new)) result }
+    ensures stays { (n : List ℕ) → B.listed shelf.old n ≡ true → B.listed shelf.new n ≡ true }
+    ensures cause { IfErr result (HasSettleCause [] nodes.old.items nodes.new.items
+        (counted (B.faults shelf.old) (B.stops shelf.old))
+        (counted (B.faults shelf.new) (B.stops shelf.new))) }
+    ensures mild { IsErrOf result RunFault.WriteFault → ⊥ }
 {
     routes_exist();
     left_falls();
     while !settled(nodes) {
         let before = events.len();
-        step(resources, nodes, events, room)?;
+        step(resources, nodes, shelf, events, room)?;
         if events.len() > before {
             return Ok(false);
         }
@@ -308,13 +451,14 @@ fn advance<'t, R: Threads + Sync, J: Journal + Drop + Send>(
     Ok(true)
 }
 
-/// Rounds until all agents are quiet.
-pub fn settle<'t, R: Threads + Sync, J: Journal + Drop + Send>(
+/// Rounds until all agents are quiet. Those whose disks stop in one go on behind it.
+pub fn settle<'t, R: Threads + Sync, J: Journal + Drop + Send, B: Reopen<J>>(
     resources: &Resources<'_, R>,
     nodes: &mut Vec<Node<'t, J>>,
+    shelf: &mut B,
     events: &mut Vec<Event>,
     room: u64,
-) -> Result<(), RoundFault>
+) -> Result<(), RunFault>
     requires net { AreNet nodes.old.items }
     requires bounded { IsBounded (seats nodes.old.items) }
     requires one { AreOfOne nodes.old.items }
@@ -322,21 +466,36 @@ pub fn settle<'t, R: Threads + Sync, J: Journal + Drop + Send>(
     requires printable { All IsPrintableEvent events.old.items }
     requires within { length events.old.items ≤ room }
     requires few { HaveRoom (room - length events.old.items) nodes.old.items }
-    ensures ok { AtHomes nodes.old.items (λ homes tells. OnOk result ((own : List EventOf)
-        × (events.new.items ≡ events.old.items ++ own)
-        × IsSettledBy homes (seats_by tells nodes.old.items) own (seats_by tells nodes.new.items)
+    requires listed { AreListed (B.listed shelf.old) nodes.old.items }
+    ensures ok { AtHomes nodes.old.items (λ homes tells. OnOk result
+        ((own : List EventOf) × (events.new.items ≡ events.old.items ++ own)
+        × AreSettled homes tells
+        (NoneStopped nodes.old.items nodes.new.items events.old.items events.new.items)
+        (more_stops nodes.old.items nodes.new.items) (seats_by tells nodes.old.items) own (seats_by tells nodes.new.items)
         × (all_quiet homes (seats_by tells nodes.new.items) ≡ true))) }
     ensures leaves { OnOk result (LeavesNet 0 nodes.old.items nodes.new.items
         events.old.items events.new.items) }
     ensures within { OnOk result (length events.new.items ≤ room) }
-    ensures long { AtHomes nodes.old.items (λ homes tells. IsErrOf result RoundFault.Long →
-        OverrunsBy homes (seats_by tells nodes.old.items) (length events.old.items) room) }
-    ensures cause { IfErr result (λ e. HasCause e nodes.new.items) }
-    ensures agents { EachIs IsSameAgent nodes.old.items nodes.new.items }
+    ensures long { AtHomes nodes.old.items (λ homes tells. IsErrOf result RunFault.Long →
+        Overrun homes tells (stops_among nodes.new.items ≡ stops_among nodes.old.items)
+        (more_stops nodes.old.items nodes.new.items)
+        (seats_by tells nodes.old.items) (length events.old.items) room) }
+    ensures rises { IsErrOf result RunFault.Long →
+        stops_among nodes.old.items ≤ stops_among nodes.new.items }
+    ensures agents { AreLeft nodes.old.items nodes.new.items
+        (counted (B.faults shelf.old) (B.stops shelf.old))
+        (counted (B.faults shelf.new) (B.stops shelf.new)) }
+    ensures shelf { KeepsShelf (counted (B.faults shelf.old) (B.stops shelf.old))
+        (counted (B.faults shelf.new) (B.stops shelf.new)) result }
+    ensures stays { (n : List ℕ) → B.listed shelf.old n ≡ true → B.listed shelf.new n ≡ true }
+    ensures cause { IfErr result (HasSettleCause [] nodes.old.items nodes.new.items
+        (counted (B.faults shelf.old) (B.stops shelf.old))
+        (counted (B.faults shelf.new) (B.stops shelf.new))) }
+    ensures mild { IsErrOf result RunFault.WriteFault → ⊥ }
 {
     let mut quiet = false;
     while !quiet {
-        quiet = advance(resources, nodes, events, room)?;
+        quiet = advance(resources, nodes, shelf, events, room)?;
     }
     Ok(())
 }

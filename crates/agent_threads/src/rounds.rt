@@ -1,13 +1,16 @@
 //! Rounds of all agents.
 
-ghost use Rattle.std.specs.Prelude.{◌≡◌, ◌<◌, ◌+◌, ℕ, [], ◌∷◌, length, slice_index_or, Option, Some, None, IsErrOf, OnOk, OnErr};
+ghost use Rattle.std.specs.Prelude.{◌≡◌, ◌<◌, ◌≤◌, ◌+◌, ℕ, [], ◌∷◌, length, slice_index_or, Option, Some, None, true, IsErrOf, IfErr, OnOk, OnErr};
 ghost use Rattle.std.specs.List.{All, list_all};
 ghost use Rattle.agent_node.specs.Made.{IsTurn};
 ghost use Rattle.nsi_play.specs.Rounds.{round, events_of, all_quiet};
 ghost use Rattle.agent_node.specs.Kept.{Kept, IsSameAgent};
-ghost use Rattle.agent_threads.specs.Nets.{seats_by, EachIs, AtHomes, AreSame, IsUsable, AreUsable, AreNet};
+ghost use Rattle.agent_threads.specs.Nets.{seats, seats_by, EachIs, AtHomes, AreSame, IsUsable, AreUsable, AreNet};
 ghost use Rattle.agent_threads.specs.Leaving.{StayOwned};
 ghost use Rattle.agent_threads.specs.Bounds.{MovesOn};
+ghost use Rattle.stopped_play.specs.Tapes.{Cuts};
+ghost use Rattle.stopped_play.specs.Rounds.{round_by};
+ghost use Rattle.agent_threads.specs.Stopping.{stopped_in, stops_among, IsStop, AreHalted, AgreesWith, seats_before, WereOwned, AtOwned};
 ghost use Rattle.agent_threads.specs.Made.{HasRoom, HaveRoom, failure_at, stop_at, first_failure, first_stop, fault_of, answer, HasRisen};
 
 use crate::fault::RoundFault;
@@ -112,14 +115,9 @@ fn first_stop<'t, J: Journal + Drop>(nodes: &[Node<'t, J>]) -> Option<RoundFault
     None
 }
 
-fn fault_in<'t, J: Journal + Drop>(nodes: &[Node<'t, J>]) -> Option<RoundFault>
-    ensures { result ≡ fault_of nodes.now }
-{
-    first_failure(nodes).or(first_stop(nodes))
-}
-
 /// A round, by so many workers at most: every agent has its turn, as if all at once, and then each learns what was let through to
 /// it. Every turn has the whole room. Where one fails, all are made; the agents are then only good for giving their disks back.
+/// Where disks have only stopped, all learn what was let through, and those that stopped may be restarted.
 pub fn round<'t, R: Threads + Sync, J: Journal + Drop + Send>(
     resources: &Resources<'_, R>,
     nodes: &mut Vec<Node<'t, J>>,
@@ -139,6 +137,26 @@ pub fn round<'t, R: Threads + Sync, J: Journal + Drop + Send>(
     ensures stopped { (a : ℕ) → IsErrOf result (RoundFault.Stopped a) →
         HasRisen a nodes.old.items nodes.new.items }
 
+    // Where disks have stopped and no call has failed, it is made as far as the disks go, for whichever cuts are of
+    // those that stopped.
+    ensures halts { AtOwned nodes.old.items (λ homes. IfErr result (λ e. IsStop e →
+        (cuts : Cuts) → AgreesWith cuts nodes.new.items →
+        seats_before nodes.new.items ≡ round_by cuts homes (seats_by true nodes.old.items))) }
+    ensures halted { IfErr result (λ e. IsStop e → AreHalted nodes.new.items) }
+    ensures still { IfErr result (λ e. IsStop e → AreSame nodes.old.items nodes.new.items) }
+    ensures were { AtOwned nodes.old.items (λ homes.
+        IfErr result (λ e. IsStop e → WereOwned homes nodes.new.items)) }
+    ensures moved { AtHomes nodes.old.items (λ homes tells.
+        IfErr result (λ e. IsStop e → EachIs (MovesOn 0) nodes.old.items nodes.new.items)) }
+
+    ensures plain { AtHomes nodes.old.items (λ homes tells. IfErr result (λ e. IsStop e →
+        (cuts : Cuts) → AgreesWith cuts nodes.new.items →
+        seats nodes.new.items ≡ round_by cuts homes (seats nodes.old.items))) }
+
+    // No stop is hidden, however it ends.
+    ensures counts { stops_among nodes.old.items + stopped_in nodes.new.items
+        ≤ stops_among nodes.new.items }
+
     // Of several faults it is the first agent's that isn't a stop.
     ensures first { OnErr result (result ≡ answer (fault_of nodes.new.items)) }
     ensures agents { EachIs IsSameAgent nodes.old.items nodes.new.items }
@@ -147,11 +165,14 @@ pub fn round<'t, R: Threads + Sync, J: Journal + Drop + Send>(
         OnOk result (EachIs (MovesOn 0) nodes.old.items nodes.new.items)) }
 {
     turn_all(resources, nodes, room);
-    if let Some(fault) = fault_in(nodes) {
+    if let Some(fault) = first_failure(nodes) {
         return Err(fault);
     }
     meet_all(nodes);
-    Ok(())
+    match first_stop(nodes) {
+        Some(stop) => Err(stop),
+        None => Ok(()),
+    }
 }
 
 /// Whether all agents are quiet: nothing is unsynced, no work waits, nothing is to be pushed and nothing came.

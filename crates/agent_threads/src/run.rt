@@ -12,15 +12,15 @@ ghost use Rattle.nsi_script.specs.Scripts.{acts_of, asks_of, seconds_of};
 ghost use Rattle.nsi_play.specs.Rounds.{events_of, all_quiet};
 ghost use Rattle.nsi_play.specs.Play.{asks_among};
 ghost use Rattle.quiet_rounds.specs.Bounded.{IsBounded};
-ghost use Rattle.agent_threads.specs.Nets.{seats, seats_by, AreOf, AreSame, AreCalm, AreUsable, AreNet, AreListed, AreAmong};
-ghost use Rattle.agent_threads.specs.Made.{run_fault, HaveRoom, counted, KeepsShelf, HasRunCause, IsOfWriting, IsOfAgent};
+ghost use Rattle.agent_threads.specs.Nets.{seats, seats_by, AreOf, AreSame, AreCalm, AreUsable, AreNet, AreListed};
+ghost use Rattle.agent_threads.specs.Made.{HaveRoom, counted, KeepsShelf, HasSettleCause, IsOfWriting, IsOfAgent, AreLeft};
 ghost use Rattle.agent_threads.specs.Bounds.{AreUpTo, AreUnder, AreNumbered, AreReady};
 ghost use Rattle.agent_threads.specs.Leaving.{LeavesNet, StayOwned};
 ghost use Rattle.agent_threads.specs.Reports.{written};
-ghost use Rattle.agent_threads.specs.Coming.{IsGroupOver, GroupPasses};
-ghost use Rattle.agent_threads.specs.Promise.{CanDo, CanBePlayed, AtShown, HavePlayed, WritesPlay, WritesTooLong, WritesGroups, WritesSomeOfPlay};
+ghost use Rattle.agent_threads.specs.Stopping.{stops_among, more_stops, NoneStopped, IsOver, Passes};
+ghost use Rattle.agent_threads.specs.Promise.{CanDo, CanBePlayed, AtShown, WritesPlay, WritesTooLong, WritesGroups, WritesSomeOfPlay};
 
-use crate::fault::{RoundFault, RunFault};
+use crate::fault::RunFault;
 use crate::group::{GroupStart, begin, settle};
 use crate::report::{RunOptions, written};
 use crate::resources::Resources;
@@ -55,39 +55,33 @@ fn make_group<'t, R: Threads + Sync, J: Journal + Drop + Send, B: Reopen<J>>(
     requires bounded { IsBounded (seats nodes.old.items) }
     requires listed { AreListed (B.listed shelf.old) nodes.old.items }
     ensures ok { AtShown nodes.old.items group.now.acts (λ homes tells. OnOk result
-        (IsGroupOver homes group.now start.number (seats_by tells nodes.old.items)
+        (IsOver homes tells (NoneStopped nodes.old.items nodes.new.items [] events.new.items)
+        (more_stops nodes.old.items nodes.new.items) group.now start.number (seats_by tells nodes.old.items)
         events.new.items (seats_by tells nodes.new.items))) }
     ensures leaves { OnOk result (LeavesNet group.now.at nodes.old.items nodes.new.items
         events.old.items events.new.items) }
     ensures next { IfOk result (λ n. n ≡ start.number + asks_among group.now.acts) }
     ensures within { OnOk result (length events.new.items ≤ start.room) }
     ensures long { AtShown nodes.old.items group.now.acts (λ homes tells.
-        IsErrOf result RunFault.Long → GroupPasses start.room 0 homes group.now start.number
-        (seats_by tells nodes.old.items)) }
-    ensures agents { AreAmong nodes.old.items nodes.new.items }
+        IsErrOf result RunFault.Long →
+        Passes homes tells (stops_among nodes.new.items ≡ stops_among nodes.old.items)
+        (more_stops nodes.old.items nodes.new.items) start.room 0 group.now start.number (seats_by tells nodes.old.items)) }
+    ensures rises { IsErrOf result RunFault.Long →
+        stops_among nodes.old.items ≤ stops_among nodes.new.items }
+    ensures agents { AreLeft nodes.old.items nodes.new.items
+        (counted (B.faults shelf.old) (B.stops shelf.old))
+        (counted (B.faults shelf.new) (B.stops shelf.new)) }
     ensures shelf { KeepsShelf (counted (B.faults shelf.old) (B.stops shelf.old))
         (counted (B.faults shelf.new) (B.stops shelf.new)) result }
     ensures stays { (n : List ℕ) → B.listed shelf.old n ≡ true → B.listed shelf.new n ≡ true }
-    ensures cause { IfErr result (HasRunCause group.now.acts nodes.old.items nodes.new.items
+    ensures cause { IfErr result (HasSettleCause group.now.acts nodes.old.items nodes.new.items
         (counted (B.faults shelf.old) (B.stops shelf.old))
         (counted (B.faults shelf.new) (B.stops shelf.new))) }
     ensures mild { IsErrOf result RunFault.WriteFault → ⊥ }
 {
     let next = begin(resources.alloc, nodes, shelf, group, start, events)?;
-    match settle(resources, nodes, events, start.room) {
-        Ok(()) => Ok(next),
-        Err(fault) => Err(run_fault(fault)),
-    }
-}
-
-fn run_fault(fault: RoundFault) -> RunFault
-    ensures { result ≡ run_fault fault }
-{
-    match fault {
-        RoundFault::Long => RunFault::Long,
-        RoundFault::DiskFault(agent) | RoundFault::Stopped(agent) => RunFault::DiskFault(agent),
-        RoundFault::NoMemory => RunFault::NoMemory,
-    }
+    settle(resources, nodes, shelf, events, start.room)?;
+    Ok(next)
 }
 
 /// How far a run has come.
@@ -130,7 +124,8 @@ fn play_group<'t, R: Threads + Sync, J: Journal + Drop + Send, B: Reopen<J>>(
     ensures ok { IfOk result (λ r. (own : List EventOf)
         × (r.1.totals ≡ plus before.totals (totals_of play.now.topology.now own))
         × AtShown nodes.old.items group.now.acts (λ homes tells.
-        IsGroupOver homes group.now before.asks (seats_by tells nodes.old.items) own
+        IsOver homes tells (NoneStopped nodes.old.items nodes.new.items [] own)
+        (more_stops nodes.old.items nodes.new.items) group.now before.asks (seats_by tells nodes.old.items) own
         (seats_by tells nodes.new.items))
         × (r.0.items ≡ written play.now.options.report play.now.topology.now own)) }
     ensures counted { IfOk result (λ r. AreWithin r.1.totals) }
@@ -141,13 +136,19 @@ fn play_group<'t, R: Threads + Sync, J: Journal + Drop + Send, B: Reopen<J>>(
     ensures bounded { OnOk result (IsBounded (seats nodes.new.items)) }
     ensures owned { OnOk result (StayOwned nodes.old.items nodes.new.items) }
     ensures long { AtShown nodes.old.items group.now.acts (λ homes tells.
-        IsErrOf result RunFault.Long → GroupPasses play.now.options.limit before.totals.events
-        homes group.now before.asks (seats_by tells nodes.old.items)) }
-    ensures agents { AreAmong nodes.old.items nodes.new.items }
+        IsErrOf result RunFault.Long →
+        Passes homes tells (stops_among nodes.new.items ≡ stops_among nodes.old.items)
+        (more_stops nodes.old.items nodes.new.items) play.now.options.limit before.totals.events group.now before.asks
+        (seats_by tells nodes.old.items)) }
+    ensures rises { IsErrOf result RunFault.Long →
+        stops_among nodes.old.items ≤ stops_among nodes.new.items }
+    ensures agents { AreLeft nodes.old.items nodes.new.items
+        (counted (B.faults shelf.old) (B.stops shelf.old))
+        (counted (B.faults shelf.new) (B.stops shelf.new)) }
     ensures shelf { KeepsShelf (counted (B.faults shelf.old) (B.stops shelf.old))
         (counted (B.faults shelf.new) (B.stops shelf.new)) result }
     ensures stays { (n : List ℕ) → B.listed shelf.old n ≡ true → B.listed shelf.new n ≡ true }
-    ensures cause { IfErr result (HasRunCause group.now.acts nodes.old.items nodes.new.items
+    ensures cause { IfErr result (HasSettleCause group.now.acts nodes.old.items nodes.new.items
         (counted (B.faults shelf.old) (B.stops shelf.old))
         (counted (B.faults shelf.new) (B.stops shelf.new))) }
     ensures mild { IsErrOf result RunFault.WriteFault → ⊥ }
@@ -200,25 +201,30 @@ pub fn play_all<'t, R: Threads + Sync, J: Journal + Drop + Send, B: Reopen<J>, K
     requires limit { play.now.options.limit ≤ 2000000 }
     requires listed { AreListed (B.listed shelf.old) nodes.old.items }
 
-    // What is wanted of the play is written.
+    // What is wanted of the play is written, and the agents have played the whole.
     ensures done { IfOk result (λ n. WritesPlay play.now.topology.now play.now.options
-        play.now.groups.now nodes.old.items (K.content out.old) (K.content out.new) n) }
+        play.now.groups.now nodes.old.items nodes.new.items
+        (K.content out.old) (K.content out.new) n) }
 
     // It is too long only where the play passes the limit, and then the groups that fit were written.
     ensures long { IsErrOf result RunFault.Long → WritesTooLong play.now.topology.now
-        play.now.options play.now.groups.now nodes.old.items
+        play.now.options play.now.groups.now nodes.old.items nodes.new.items
         (K.content out.old) (K.content out.new) }
 
     // Another fault comes only from outside, and leaves a front of it.
     ensures front { OnErr result (WritesSomeOfPlay play.now.topology.now play.now.options
-        play.now.groups.now nodes.old.items (K.content out.old) (K.content out.new)) }
+        play.now.groups.now nodes.old.items nodes.new.items
+        (counted (B.faults shelf.old) (B.stops shelf.old))
+        (counted (B.faults shelf.new) (B.stops shelf.new))
+        (K.content out.old) (K.content out.new)) }
 
     // Where a disk has failed or a journal has no reading, whole groups were written.
     ensures whole { IfErr result (λ e. IsOfAgent e → WritesGroups play.now.topology.now
-        play.now.options play.now.groups.now nodes.old.items
+        play.now.options play.now.groups.now nodes.old.items nodes.new.items
+        (counted (B.faults shelf.old) (B.stops shelf.old))
+        (counted (B.faults shelf.new) (B.stops shelf.new))
         (K.content out.old) (K.content out.new)) }
-    ensures cause { IfErr result (HasRunCause (acts_of play.now.groups.now) nodes.old.items
-        nodes.new.items
+    ensures cause { IfErr result (HasSettleCause (acts_of play.now.groups.now) nodes.old.items nodes.new.items
         (counted (B.faults shelf.old) (B.stops shelf.old))
         (counted (B.faults shelf.new) (B.stops shelf.new))) }
     ensures write { IsErrOf result RunFault.WriteFault → K.faults out.old < K.faults out.new }
@@ -230,13 +236,13 @@ pub fn play_all<'t, R: Threads + Sync, J: Journal + Drop + Send, B: Reopen<J>, K
     ensures calm { OnOk result (AreCalm nodes.old.items nodes.new.items) }
     ensures shelf { KeepsShelf (counted (B.faults shelf.old) (B.stops shelf.old))
         (counted (B.faults shelf.new) (B.stops shelf.new)) result }
-    ensures agents { AreAmong nodes.old.items nodes.new.items }
+    ensures agents { AreLeft nodes.old.items nodes.new.items
+        (counted (B.faults shelf.old) (B.stops shelf.old))
+        (counted (B.faults shelf.new) (B.stops shelf.new)) }
     ensures stays { (n : List ℕ) → B.listed shelf.old n ≡ true → B.listed shelf.new n ≡ true }
     ensures usable { OnOk result (AreUsable nodes.new.items) }
 
-    // The agents have played the whole, and their journals tell it where they did before.
-    ensures played { OnOk result
-        (HavePlayed play.now.groups.now nodes.old.items nodes.new.items) }
+    // The agents' journals tell what made them where they did before.
     ensures owned { OnOk result (StayOwned nodes.old.items nodes.new.items) }
 {
     routes_exist();

@@ -5,7 +5,8 @@ use Rattle.nsi_script.specs.declared.script.Act.{Act}
 use Rattle.agent_threads.specs.declared.fault.RunFault.{RunFault}
 use Rattle.agent_threads.specs.Nets.{EachIs}
 use Rattle.agent_threads.specs.Made.{DoesAct, counted, HasRunCause, IsOfRestart}
-use Rattle.agent_threads.proofs.Causes.{among_same, if_err, shelf_still}
+use Rattle.agent_threads.proofs.Causes.{if_err, shelf_still}
+use Rattle.agent_threads.proofs.Left.{left_unstopped}
 use Rattle.agent_threads.proofs.Restarting.{acts_plainly}
 use Rattle.agent_threads.proofs.act.act_all.Goals as goal
 
@@ -19,7 +20,7 @@ returns g c =
     let news = c.act_each.new.nodes.items in
     record {
       done = acts_plainly c.args.act.now c.args.number olds news c.in_default.not-Restart c.in_ok-act_each.ensures.done;
-      agents = among_same olds news c.in_ok-act_each.ensures.agents;
+      agents = left_unstopped olds news (counted (g.B.Reopen.faults c.args.shelf.now) (g.B.Reopen.stops c.args.shelf.now)) (counted (g.B.Reopen.faults c.args.shelf.now) (g.B.Reopen.stops c.args.shelf.now)) c.in_ok-act_each.ensures.agents refl;
       shelf = shelf_still _ _ _ refl refl;
       stays = λ n h. h;
       cause = tt;
@@ -36,7 +37,7 @@ returns-in_err-act_each g c =
     let p = err_from_is_err_and r c.from_residual.ensures.1 in
     record {
       done = subst (λ (x : Result (Unit {0}) RunFault). OnOk x (EachIs (DoesAct c.args.act.now c.args.number) olds news)) (sym p.1) tt;
-      agents = among_same olds news c.in_err-act_each.ensures.agents;
+      agents = left_unstopped olds news (counted (g.B.Reopen.faults c.args.shelf.now) (g.B.Reopen.stops c.args.shelf.now)) (counted (g.B.Reopen.faults c.args.shelf.now) (g.B.Reopen.stops c.args.shelf.now)) c.in_err-act_each.ensures.agents refl;
       shelf = shelf_still _ _ _ refl refl;
       stays = λ n h. h;
       cause = if_err r (HasRunCause acts olds news counts counts) p.0 p.1 (subst (λ (e : RunFault). HasRunCause acts olds news counts counts e) (sym p.2) tt);

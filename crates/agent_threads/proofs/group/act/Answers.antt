@@ -1,33 +1,35 @@
+use Rattle.std.proofs.Common.{refl}
 use Rattle.nsi_agent.specs.Homes.{home_in}
 use Rattle.nsi_play.specs.Play.{acted}
 use Rattle.quiet_rounds.specs.Bounded.{IsBounded}
 use Rattle.agent_threads.specs.Nets.{seats, seats_by, EachIs}
 use Rattle.agent_threads.specs.Bounds.{AreOfOne, MovesOn}
 use Rattle.agent_threads.proofs.Draining.{is_told, act_seen}
+use Rattle.agent_threads.proofs.Emptying.{emptied_drained}
 use Rattle.agent_threads.proofs.Owning.{act_owned}
 use Rattle.agent_threads.proofs.Bounding.{act_bounded}
 use Rattle.agent_threads.proofs.Restarting.{act_usable, act_net, act_same, act_moves}
 use Rattle.agent_threads.proofs.Going.{anyhow}
-use Rattle.agent_threads.proofs.Causes.{among_same, among_twice}
+use Rattle.agent_threads.specs.Made.{counted}
+use Rattle.agent_threads.proofs.Left.{left_unstopped, left_twice}
 use Rattle.agent_threads.proofs.Leaves.{leaves_drained}
 use Rattle.agent_threads.proofs.group.act.Goals as goal
-
-pub drain-requires-clause-usable : goal.drain-requires-clause-usable
-drain-requires-clause-usable g c = act_usable c.args.act.now c.args.number c.args.nodes.now.items c.act_all.new.nodes.items c.in_ok-act_all.ensures.done
 
 pub returns-clause-ok : goal.returns-clause-ok
 returns-clause-ok g c = λ t o routes r b w shows.
     is_told b (acted c.args.act.now c.args.number (home_in t routes) (seats_by b c.args.nodes.now.items)) c.act_all.new.nodes.items c.drain.new.nodes.items c.args.events.now.items c.drain.new.events.items
     (act_seen c.args.act.now c.args.number b c.args.nodes.now.items c.act_all.new.nodes.items c.in_ok-act_all.ensures.done t o routes r w shows)
-    c.in_ok-drain.ensures.made c.in_ok-drain.ensures.events
+    (emptied_drained c.act_all.new.nodes.items c.drain.new.nodes.items c.in_ok-drain.ensures.made (act_usable c.args.act.now c.args.number c.args.nodes.now.items c.act_all.new.nodes.items c.in_ok-act_all.ensures.done)) c.in_ok-drain.ensures.events
 
 pub returns-in_err-drain-clause-agents : goal.returns-in_err-drain-clause-agents
 returns-in_err-drain-clause-agents g c =
-    among_twice c.args.nodes.now.items c.act_all.new.nodes.items c.drain.new.nodes.items c.in_ok-act_all.ensures.agents (among_same c.act_all.new.nodes.items c.drain.new.nodes.items c.in_err-drain.ensures.agents)
+    let after = counted (g.B.Reopen.faults c.act_all.new.shelf) (g.B.Reopen.stops c.act_all.new.shelf) in
+    left_twice c.args.nodes.now.items c.act_all.new.nodes.items c.drain.new.nodes.items _ after after c.in_ok-act_all.ensures.agents (left_unstopped c.act_all.new.nodes.items c.drain.new.nodes.items after after c.in_err-drain.ensures.agents refl)
 
 pub returns-clause-agents : goal.returns-clause-agents
 returns-clause-agents g c =
-    among_twice c.args.nodes.now.items c.act_all.new.nodes.items c.drain.new.nodes.items c.in_ok-act_all.ensures.agents (among_same c.act_all.new.nodes.items c.drain.new.nodes.items c.in_ok-drain.ensures.agents)
+    let after = counted (g.B.Reopen.faults c.act_all.new.shelf) (g.B.Reopen.stops c.act_all.new.shelf) in
+    left_twice c.args.nodes.now.items c.act_all.new.nodes.items c.drain.new.nodes.items _ after after c.in_ok-act_all.ensures.agents (left_unstopped c.act_all.new.nodes.items c.drain.new.nodes.items after after c.in_ok-drain.ensures.agents refl)
 
 pub returns-clause-leaves : goal.returns-clause-leaves
 returns-clause-leaves g c =
@@ -43,4 +45,4 @@ returns-clause-leaves g c =
     (anyhow exist olds (EachIs (MovesOn 0) olds mids) one (act_moves act n olds mids done))
     (anyhow exist olds (IsBounded (seats olds) → IsBounded (seats mids)) one (λ t o routes r b w. act_bounded c.nets_are_bounded.ensures.steps act n olds mids done t o routes r))
     (act_owned act n olds mids done) c.nets_are_bounded.ensures.steps (home_in can.network (exist can.network).0)
-    c.in_ok-drain.ensures.made c.requires.told c.in_ok-drain.ensures.events c.in_ok-drain.ensures.printable
+    (emptied_drained mids c.drain.new.nodes.items c.in_ok-drain.ensures.made (act_usable act n olds mids done)) c.requires.told c.in_ok-drain.ensures.events c.in_ok-drain.ensures.printable

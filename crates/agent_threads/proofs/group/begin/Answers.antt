@@ -6,9 +6,10 @@ use Rattle.nsi_play.specs.Play.{behind, acts, asks_in, acted, ticked_in}
 use Rattle.agent_threads.specs.Nets.{seats_by}
 use Rattle.agent_threads.specs.Coming.{IsTold}
 use Rattle.agent_threads.specs.Promise.{CanBeDone, Shows}
-use Rattle.agent_threads.proofs.Same.{still_of, same_agents}
+use Rattle.agent_threads.proofs.Same.{still_of, stops_up}
 use Rattle.agent_threads.proofs.Owning.{still_seen}
-use Rattle.agent_threads.proofs.Causes.{same_error, if_err, among_same, among_twice, cause_before, restart_fits, restart_writes, shelf_failed, shelf_still, listed_same, listed_stays}
+use Rattle.agent_threads.proofs.Causes.{same_error, if_err, cause_before, restart_fits, restart_writes, shelf_failed, shelf_still, listed_same, listed_stays}
+use Rattle.agent_threads.proofs.Left.{left_same, left_unstopped, left_twice}
 use Rattle.std.proofs.lemmas.Result.{err_from_is_err_and}
 use Rattle.agent_threads.specs.declared.fault.RunFault.{RunFault}
 use Rattle.agent_threads.specs.Made.{counted, HasRunCause}
@@ -110,20 +111,22 @@ returns-clause-next g c =
     omega (arith, l.invariant.asks, asks_end c.args.group.now.acts l.action-index (omega (arith, c.loop-action-test.false, ap length c.items-action-items.ensures)))
 
 pub returns-in_err-tick-clause-agents : goal.returns-in_err-tick-clause-agents
-returns-in_err-tick-clause-agents g c = among_same c.args.nodes.now.items c.tick.new.nodes.items c.in_err-tick.ensures.agents
+returns-in_err-tick-clause-agents g c = left_unstopped c.args.nodes.now.items c.tick.new.nodes.items (counted (g.B.Reopen.faults c.args.shelf.now) (g.B.Reopen.stops c.args.shelf.now)) (counted (g.B.Reopen.faults c.args.shelf.now) (g.B.Reopen.stops c.args.shelf.now)) c.in_err-tick.ensures.agents refl
 
 pub returns-then-len-start-clause-agents : goal.returns-then-len-start-clause-agents
-returns-then-len-start-clause-agents g c = among_same c.args.nodes.now.items c.loop-action.nodes.items (same_agents c.args.nodes.now.items c.loop-action.nodes.items c.loop-action.invariant.leaves.same)
+returns-then-len-start-clause-agents g c = left_same c.args.nodes.now.items c.loop-action.nodes.items _ _ c.loop-action.invariant.leaves.same c.loop-action.invariant.stops
 
 pub returns-then-len-start-2-clause-agents : goal.returns-then-len-start-2-clause-agents
-returns-then-len-start-2-clause-agents g c = among_same c.args.nodes.now.items c.loop-action.nodes.items (same_agents c.args.nodes.now.items c.loop-action.nodes.items c.loop-action.invariant.leaves.same)
+returns-then-len-start-2-clause-agents g c = left_same c.args.nodes.now.items c.loop-action.nodes.items _ _ c.loop-action.invariant.leaves.same c.loop-action.invariant.stops
 
 pub returns-clause-agents : goal.returns-clause-agents
-returns-clause-agents g c = among_same c.args.nodes.now.items c.loop-action.nodes.items (same_agents c.args.nodes.now.items c.loop-action.nodes.items c.loop-action.invariant.leaves.same)
+returns-clause-agents g c = left_same c.args.nodes.now.items c.loop-action.nodes.items _ _ c.loop-action.invariant.leaves.same c.loop-action.invariant.stops
 
 pub returns-in_err-act-clause-agents : goal.returns-in_err-act-clause-agents
 returns-in_err-act-clause-agents g c =
-    among_twice c.args.nodes.now.items c.loop-action.nodes.items c.act.new.nodes.items (among_same c.args.nodes.now.items c.loop-action.nodes.items (same_agents c.args.nodes.now.items c.loop-action.nodes.items c.loop-action.invariant.leaves.same)) c.in_err-act.ensures.agents
+    let l = c.loop-action in
+    left_twice c.args.nodes.now.items l.nodes.items c.act.new.nodes.items _ _ _ (left_same c.args.nodes.now.items l.nodes.items (counted (g.B.Reopen.faults c.args.shelf.now) (g.B.Reopen.stops c.args.shelf.now)) (counted (g.B.Reopen.faults l.shelf) (g.B.Reopen.stops l.shelf)) l.invariant.leaves.same l.invariant.stops)
+    c.in_err-act.ensures.agents
 
 ---- Where an act has failed
 
@@ -164,7 +167,18 @@ returns-in_err-act-clause-mild g c = λ h.
     let p = err_from_is_err_and c.from_residual-in_err-act.result c.from_residual-in_err-act.ensures.1 in
     restart_writes c.in_err-act.field-0.0 c.in_err-act.ensures.mild (same_error c.from_residual-in_err-act.result p.0 c.in_err-act.field-0.0 _ p.1 p.2 h)
 
+pub returns-in_err-act-clause-rises : goal.returns-in_err-act-clause-rises
+returns-in_err-act-clause-rises g c = λ h.
+    let p = err_from_is_err_and c.from_residual-in_err-act.result c.from_residual-in_err-act.ensures.1 in
+    absurd (restart_fits c.in_err-act.field-0.0 c.in_err-act.ensures.mild (same_error c.from_residual-in_err-act.result p.0 c.in_err-act.field-0.0 _ p.1 p.2 h))
+
 ---- Too many events
+
+pub returns-then-len-start-clause-rises : goal.returns-then-len-start-clause-rises
+returns-then-len-start-clause-rises g c = λ h. stops_up c.args.nodes.now.items c.loop-action.nodes.items c.loop-action.invariant.leaves.same
+
+pub returns-then-len-start-2-clause-rises : goal.returns-then-len-start-2-clause-rises
+returns-then-len-start-2-clause-rises g c = λ h. stops_up c.args.nodes.now.items c.loop-action.nodes.items c.loop-action.invariant.leaves.same
 
 pub returns-then-len-start-clause-long : goal.returns-then-len-start-clause-long
 returns-then-len-start-clause-long g c = λ t o routes r b v shows h.

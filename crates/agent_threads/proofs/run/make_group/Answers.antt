@@ -1,19 +1,22 @@
-use Rattle.std.proofs.Common.{◌≡◌, ◌+◌, ◌-◌, ◌++◌, ◌∙◌, sym, ap, subst, arith, length, List, Err, refl}
+use Rattle.std.proofs.Common.{ℕ, ◌≡◌, ◌+◌, ◌-◌, ◌++◌, ◌∙◌, sym, ap, subst, arith, length, List, [], Err, refl}
 use Rattle.std.proofs.lemmas.Result.{err_from_is_err_and}
 use Rattle.nsi_primitive.specs.declared.entry.Event.{Event}
 use Rattle.nsi_agent.specs.Homes.{home_in}
 use Rattle.nsi_play.specs.Rounds.{Net}
 use Rattle.nsi_play.specs.Play.{begins}
-use Rattle.agent_threads.specs.declared.fault.RoundFault.{RoundFault}
 use Rattle.agent_threads.specs.declared.fault.RunFault.{RunFault}
-use Rattle.agent_threads.specs.Nets.{seats_by}
-use Rattle.agent_threads.specs.Coming.{IsSettledBy, IsGroupOver}
+use Rattle.agent_threads.specs.Nets.{seats_by, numbers}
 use Rattle.agent_threads.specs.Bounds.{AreOfOne}
-use Rattle.agent_threads.proofs.Same.{still_of}
+use Rattle.agent_threads.specs.Made.{counted, HasSettleCause}
+use Rattle.agent_threads.specs.Stopping.{stops_among, more_stops, NoneStopped, AreSettled, Overrun, IsOver}
+use Rattle.agent_threads.proofs.Same.{still_of, stops_up}
 use Rattle.agent_threads.proofs.Owning.{still_seen}
-use Rattle.agent_threads.proofs.Coming.{group_over, group_passes, begins_passes}
-use Rattle.agent_threads.proofs.Causes.{same_error, if_err, shelf_failed, was_long, round_cause, round_writes, among_same, among_twice, shelf_still}
-use Rattle.agent_threads.specs.Made.{counted, HasRunCause}
+use Rattle.agent_threads.proofs.Stepping.{none_before, numbers_by}
+use Rattle.agent_threads.proofs.Playing.{are_over, group_overruns, begun_passes, same_split, rises_behind}
+use Rattle.agent_threads.proofs.Causes.{same_error, if_err, shelf_failed, run_settle, settle_before, shelf_still, listed_same, listed_stays}
+use Rattle.agent_threads.proofs.Left.{left_twice, none_later}
+use Rattle.agent_threads.specs.Promise.{Shows}
+use Rattle.std.proofs.lemmas.List.Elements.{All-nil}
 use Rattle.agent_threads.proofs.Leaves.{leaves_then}
 use Rattle.agent_threads.proofs.Going.{still_one, room_after, go_count}
 use Rattle.agent_threads.proofs.run.make_group.Goals as goal
@@ -21,8 +24,13 @@ use Rattle.agent_threads.proofs.run.make_group.Goals as goal
 pub returns-in_err-next-clause-long : goal.returns-in_err-next-clause-long
 returns-in_err-next-clause-long g c = λ t o routes r b v shows h.
     let p = err_from_is_err_and c.from_residual.result c.from_residual.ensures.1 in
-    let long = c.in_err-next.ensures.long t o routes r b v shows (ap (λ e. Err e) (same_error c.from_residual.result p.0 c.in_err-next.field-0.0 _ p.1 p.2 h)) in
-    begins_passes (home_in t routes) c.args.group.now c.args.start.number (seats_by b c.args.nodes.now.items) c.args.start.room 0 (omega (arith, long))
+    begun_passes (home_in t routes) b _ _ c.args.group.now c.args.start.number (seats_by b c.args.nodes.now.items) c.args.start.room
+    (c.in_err-next.ensures.long t o routes r b v shows (ap (λ e. Err e) (same_error c.from_residual.result p.0 c.in_err-next.field-0.0 _ p.1 p.2 h)))
+
+pub returns-in_err-next-clause-rises : goal.returns-in_err-next-clause-rises
+returns-in_err-next-clause-rises g c = λ h.
+    let p = err_from_is_err_and c.from_residual.result c.from_residual.ensures.1 in
+    c.in_err-next.ensures.rises (ap (λ e. Err e) (same_error c.from_residual.result p.0 c.in_err-next.field-0.0 _ p.1 p.2 h))
 
 pub settle-requires-clause-one : goal.settle-requires-clause-one
 settle-requires-clause-one g c κs within =
@@ -41,58 +49,113 @@ settle-requires-clause-few g c κs within =
 pub settle-requires-clause-bounded : goal.settle-requires-clause-bounded
 settle-requires-clause-bounded g c κs within = c.in_ok-next.ensures.leaves.bounded c.requires.bounded
 
-pub returns-in-Ok-clause-ok : goal.returns-in-Ok-clause-ok
-returns-in-Ok-clause-ok g c = λ t o routes r b v shows.
-    let x = seats_by b c.args.nodes.now.items in
-    let y = seats_by b c.settle.new.nodes.items in
+pub settle-requires-clause-listed : goal.settle-requires-clause-listed
+settle-requires-clause-listed g c κs within =
+    listed_stays (g.B.Reopen.listed c.args.shelf.now) (g.B.Reopen.listed c.begin.new.shelf) c.in_ok-next.ensures.stays c.begin.new.nodes.items
+    (listed_same (g.B.Reopen.listed c.args.shelf.now) c.args.nodes.now.items c.begin.new.nodes.items c.in_ok-next.ensures.leaves.same c.requires.listed)
+
+---- A group that is over
+
+pub returns-clause-ok : goal.returns-clause-ok
+returns-clause-ok g c = λ t o routes r b v shows.
+    let olds = c.args.nodes.now.items in
+    let mids = c.begin.new.nodes.items in
+    let news = c.settle.new.nodes.items in
+    let x = seats_by b olds in
+    let y = seats_by b news in
+    let homes = home_in t routes in
     let begun = c.in_ok-next.ensures.ok t o routes r b v shows in
-    let now = still_of t c.args.nodes.now.items c.begin.new.nodes.items c.in_ok-next.ensures.leaves.same o in
-    let u = still_seen t c.args.nodes.now.items c.begin.new.nodes.items c.in_ok-next.ensures.leaves.owned o routes r b v in
-    let s = c.in-Ok.ensures.ok t now routes r b u in
-    let settled : IsSettledBy (home_in t routes) (begins c.args.group.now c.args.start.number (home_in t routes) x).net s.0 y = subst (λ (z : Net). IsSettledBy (home_in t routes) z s.0 y) begun.rest s.2 in
-    subst (λ (es : List Event). IsGroupOver (home_in t routes) c.args.group.now c.args.start.number x es y) (sym (s.1 ∙ ap (λ es. es ++ s.0) begun.told)) (group_over (home_in t routes) c.args.group.now c.args.start.number x s.0 y settled s.3)
+    let now = still_of t olds mids c.in_ok-next.ensures.leaves.same o in
+    let u = still_seen t olds mids c.in_ok-next.ensures.leaves.owned o routes r b v in
+    let s = c.in_ok-settle.ensures.ok t now routes r b u in
+    let Calm : Type 0 = NoneStopped mids news c.begin.new.events.items c.settle.new.events.items in
+    let Later : Type 0 = NoneStopped olds news [] c.settle.new.events.items in
+    let same = c.in_ok-next.ensures.leaves.same in
+    let up = stops_up olds mids same in
+    let settled : AreSettled homes b Calm (more_stops mids news) (begins c.args.group.now c.args.start.number homes x).net s.0 y = subst (λ (z : Net). AreSettled homes b Calm (more_stops mids news) z s.0 y) begun.rest s.2 in
+    let later : Later → Calm = λ none. (none_before c.args.group.now.at olds mids news c.args.events.now.items c.begin.new.events.items c.settle.new.events.items c.in_ok-next.ensures.leaves c.in_ok-settle.ensures.leaves
+    (subst (λ (es : List Event). NoneStopped olds news es c.settle.new.events.items) (sym c.requires.none) none)).1 in
+    subst (λ (es : List Event). IsOver homes b Later (more_stops olds news) c.args.group.now c.args.start.number x es y) (sym (s.1 ∙ ap (λ es. es ++ s.0) begun.told))
+    (are_over homes b Calm Later (more_stops mids news) (more_stops olds news) later (omega (arith, up)) c.args.group.now c.args.start.number x s.0 y (ap numbers (sym begun.rest) ∙ numbers_by b olds mids same) settled s.3)
 
-pub returns-in-Ok-clause-leaves : goal.returns-in-Ok-clause-leaves
-returns-in-Ok-clause-leaves g c =
-    leaves_then c.args.group.now.at c.args.nodes.now.items c.begin.new.nodes.items c.settle.new.nodes.items c.args.events.now.items c.begin.new.events.items c.settle.new.events.items c.in_ok-next.ensures.leaves c.in-Ok.ensures.leaves
+pub returns-clause-leaves : goal.returns-clause-leaves
+returns-clause-leaves g c =
+    leaves_then c.args.group.now.at c.args.nodes.now.items c.begin.new.nodes.items c.settle.new.nodes.items c.args.events.now.items c.begin.new.events.items c.settle.new.events.items c.in_ok-next.ensures.leaves c.in_ok-settle.ensures.leaves
 
-pub returns-in-Ok-clause-agents : goal.returns-in-Ok-clause-agents
-returns-in-Ok-clause-agents g c =
-    among_twice c.args.nodes.now.items c.begin.new.nodes.items c.settle.new.nodes.items c.in_ok-next.ensures.agents (among_same c.begin.new.nodes.items c.settle.new.nodes.items c.in-Ok.ensures.agents)
+pub returns-clause-agents : goal.returns-clause-agents
+returns-clause-agents g c =
+    left_twice c.args.nodes.now.items c.begin.new.nodes.items c.settle.new.nodes.items _ _ _ c.in_ok-next.ensures.agents c.in_ok-settle.ensures.agents
 
-pub returns-in-Ok-clause-shelf : goal.returns-in-Ok-clause-shelf
-returns-in-Ok-clause-shelf g c = shelf_still _ _ _ c.in_ok-next.ensures.shelf.quiet c.in_ok-next.ensures.shelf.calm
+pub returns-clause-shelf : goal.returns-clause-shelf
+returns-clause-shelf g c = shelf_still _ _ _ (c.in_ok-settle.ensures.shelf.quiet ∙ c.in_ok-next.ensures.shelf.quiet) (c.in_ok-settle.ensures.shelf.calm ∙ c.in_ok-next.ensures.shelf.calm)
 
-pub returns-in-Err-clause-agents : goal.returns-in-Err-clause-agents
-returns-in-Err-clause-agents g c =
-    among_twice c.args.nodes.now.items c.begin.new.nodes.items c.settle.new.nodes.items c.in_ok-next.ensures.agents (among_same c.begin.new.nodes.items c.settle.new.nodes.items c.in-Err.ensures.agents)
+pub returns-clause-stays : goal.returns-clause-stays
+returns-clause-stays g c = λ n h. c.in_ok-settle.ensures.stays n (c.in_ok-next.ensures.stays n h)
 
-pub returns-in-Err-clause-shelf : goal.returns-in-Err-clause-shelf
-returns-in-Err-clause-shelf g c = shelf_still _ _ _ c.in_ok-next.ensures.shelf.quiet c.in_ok-next.ensures.shelf.calm
+---- Where rounds have failed
 
-pub returns-in-Err-clause-cause : goal.returns-in-Err-clause-cause
-returns-in-Err-clause-cause g c =
+pub returns-in_err-settle-clause-agents : goal.returns-in_err-settle-clause-agents
+returns-in_err-settle-clause-agents g c =
+    left_twice c.args.nodes.now.items c.begin.new.nodes.items c.settle.new.nodes.items _ _ _ c.in_ok-next.ensures.agents c.in_err-settle.ensures.agents
+
+pub returns-in_err-settle-clause-shelf : goal.returns-in_err-settle-clause-shelf
+returns-in_err-settle-clause-shelf g c =
+    let p = err_from_is_err_and c.from_residual-in_err-settle.result c.from_residual-in_err-settle.ensures.1 in
+    shelf_failed _ _ _ _ _ p.0 p.1 c.in_ok-next.ensures.shelf.quiet c.in_ok-next.ensures.shelf.calm c.in_err-settle.ensures.shelf
+
+pub returns-in_err-settle-clause-stays : goal.returns-in_err-settle-clause-stays
+returns-in_err-settle-clause-stays g c = λ n h. c.in_err-settle.ensures.stays n (c.in_ok-next.ensures.stays n h)
+
+pub returns-in_err-settle-clause-cause : goal.returns-in_err-settle-clause-cause
+returns-in_err-settle-clause-cause g c =
     let olds = c.args.nodes.now.items in
     let news = c.settle.new.nodes.items in
     let before = counted (g.B.Reopen.faults c.args.shelf.now) (g.B.Reopen.stops c.args.shelf.now) in
-    let after = counted (g.B.Reopen.faults c.begin.new.shelf) (g.B.Reopen.stops c.begin.new.shelf) in
-    subst (λ (e : RunFault). HasRunCause c.args.group.now.acts olds news before after e) (sym c.run_fault.ensures) (round_cause c.in-Err.fault c.args.group.now.acts olds news before after c.in-Err.ensures.cause)
+    let mid = counted (g.B.Reopen.faults c.begin.new.shelf) (g.B.Reopen.stops c.begin.new.shelf) in
+    let after = counted (g.B.Reopen.faults c.settle.new.shelf) (g.B.Reopen.stops c.settle.new.shelf) in
+    let p = err_from_is_err_and c.from_residual-in_err-settle.result c.from_residual-in_err-settle.ensures.1 in
+    let acts = c.args.group.now.acts in
+    let mids = c.begin.new.nodes.items in
+    let same = c.in_ok-next.ensures.leaves.same in
+    let calm = c.in_ok-next.ensures.shelf.calm in
+    if_err c.from_residual-in_err-settle.result (HasSettleCause acts olds news before after) p.0 p.1
+    (subst (λ (e : RunFault). HasSettleCause acts olds news before after e) (sym p.2)
+    (settle_before acts [] olds mids news before mid after c.in_err-settle.field-0.0 same c.in_ok-next.ensures.leaves.owned (λ b shows. All-nil (Shows b)) (none_later olds mids news before mid after same calm) c.in_ok-next.ensures.shelf.quiet calm
+    c.in_err-settle.ensures.cause))
 
-pub returns-in-Err-clause-mild : goal.returns-in-Err-clause-mild
-returns-in-Err-clause-mild g c = λ h.
-    let e : c.run_fault.result ≡ RunFault.WriteFault = cc in
-    round_writes c.in-Err.fault (sym c.run_fault.ensures ∙ e)
+pub returns-in_err-settle-clause-mild : goal.returns-in_err-settle-clause-mild
+returns-in_err-settle-clause-mild g c = λ h.
+    let p = err_from_is_err_and c.from_residual-in_err-settle.result c.from_residual-in_err-settle.ensures.1 in
+    c.in_err-settle.ensures.mild (ap (λ e. Err e) (same_error c.from_residual-in_err-settle.result p.0 c.in_err-settle.field-0.0 _ p.1 p.2 h))
 
-pub returns-in-Err-clause-long : goal.returns-in-Err-clause-long
-returns-in-Err-clause-long g c = λ t o routes r b v shows h.
-    let x = seats_by b c.args.nodes.now.items in
+pub returns-in_err-settle-clause-rises : goal.returns-in_err-settle-clause-rises
+returns-in_err-settle-clause-rises g c = λ h.
+    let p = err_from_is_err_and c.from_residual-in_err-settle.result c.from_residual-in_err-settle.ensures.1 in
+    rises_behind c.args.nodes.now.items c.begin.new.nodes.items c.settle.new.nodes.items c.in_ok-next.ensures.leaves.same
+    (c.in_err-settle.ensures.rises (ap (λ e. Err e) (same_error c.from_residual-in_err-settle.result p.0 c.in_err-settle.field-0.0 _ p.1 p.2 h)))
+
+pub returns-in_err-settle-clause-long : goal.returns-in_err-settle-clause-long
+returns-in_err-settle-clause-long g c = λ t o routes r b v shows h.
+    let olds = c.args.nodes.now.items in
+    let mids = c.begin.new.nodes.items in
+    let news = c.settle.new.nodes.items in
+    let x = seats_by b olds in
+    let homes = home_in t routes in
     let begun = c.in_ok-next.ensures.ok t o routes r b v shows in
-    let now = still_of t c.args.nodes.now.items c.begin.new.nodes.items c.in_ok-next.ensures.leaves.same o in
-    let u = still_seen t c.args.nodes.now.items c.begin.new.nodes.items c.in_ok-next.ensures.leaves.owned o routes r b v in
-    let e : c.run_fault.result ≡ RunFault.Long = cc in
-    let long = c.in-Err.ensures.long t now routes r b u (ap (λ (f : RoundFault). Err f) (was_long c.in-Err.fault (sym c.run_fault.ensures ∙ e))) in
-    let settled : IsSettledBy (home_in t routes) (begins c.args.group.now c.args.start.number (home_in t routes) x).net long.0 long.1 = subst (λ (z : Net). IsSettledBy (home_in t routes) z long.0 long.1) begun.rest long.2 in
-    group_passes (home_in t routes) c.args.group.now c.args.start.number x long.0 long.1 c.args.start.room 0 settled long.3 (omega (arith, long.4, ap length begun.told))
+    let now = still_of t olds mids c.in_ok-next.ensures.leaves.same o in
+    let u = still_seen t olds mids c.in_ok-next.ensures.leaves.owned o routes r b v in
+    let p = err_from_is_err_and c.from_residual-in_err-settle.result c.from_residual-in_err-settle.ensures.1 in
+    let is_long = ap (λ e. Err e) (same_error c.from_residual-in_err-settle.result p.0 c.in_err-settle.field-0.0 _ p.1 p.2 h) in
+    let long = c.in_err-settle.ensures.long t now routes r b u is_long in
+    let up = c.in_err-settle.ensures.rises is_long in
+    let made = begins c.args.group.now c.args.start.number homes x in
+    let Calm : Type 0 = stops_among news ≡ stops_among mids in
+    let same = c.in_ok-next.ensures.leaves.same in
+    let before = stops_up olds mids same in
+    let passed : Overrun homes b Calm (more_stops mids news) made.net (length made.events) c.args.start.room =
+    subst (λ (z : Net). Overrun homes b Calm (more_stops mids news) z (length made.events) c.args.start.room) begun.rest
+    (subst (λ (n : ℕ). Overrun homes b Calm (more_stops mids news) (seats_by b mids) n c.args.start.room) (ap length begun.told) long) in
+    group_overruns homes b Calm (stops_among news ≡ stops_among olds) (more_stops mids news) (more_stops olds news) (λ e. (same_split olds mids news same up e).1) (omega (arith, before)) c.args.group.now c.args.start.number x c.args.start.room (ap numbers (sym begun.rest) ∙ numbers_by b olds mids same) passed
 
 ---- Where acts have failed
 
@@ -108,8 +171,9 @@ returns-in_err-next-clause-cause g c =
     let before = counted (g.B.Reopen.faults c.args.shelf.now) (g.B.Reopen.stops c.args.shelf.now) in
     let after = counted (g.B.Reopen.faults c.begin.new.shelf) (g.B.Reopen.stops c.begin.new.shelf) in
     let p = err_from_is_err_and c.from_residual.result c.from_residual.ensures.1 in
-    if_err c.from_residual.result (HasRunCause c.args.group.now.acts olds news before after) p.0 p.1
-    (subst (λ (e : RunFault). HasRunCause c.args.group.now.acts olds news before after e) (sym p.2) c.in_err-next.ensures.cause)
+    let acts = c.args.group.now.acts in
+    if_err c.from_residual.result (HasSettleCause acts olds news before after) p.0 p.1
+    (subst (λ (e : RunFault). HasSettleCause acts olds news before after e) (sym p.2) (run_settle acts olds news before after c.in_err-next.field-0.0 c.in_err-next.ensures.cause))
 
 pub returns-in_err-next-clause-mild : goal.returns-in_err-next-clause-mild
 returns-in_err-next-clause-mild g c = λ h.

@@ -8,7 +8,7 @@ use Rattle.run_totals.specs.Totals.{AreWithin, totals_of}
 use Rattle.agent_threads.specs.Reports.{written}
 use Rattle.agent_threads.specs.Nets.{seats, seats_by, AreNet, AreSame}
 use Rattle.nsi_play.specs.Rounds.{events_of}
-use Rattle.agent_threads.specs.Coming.{IsPlayedBy}
+use Rattle.agent_threads.specs.Stopping.{more_stops, NoneStopped, ArePlayed}
 use Rattle.agent_threads.specs.Leaving.{StayOwned}
 use Rattle.agent_threads.specs.Promise.{AtShown}
 use Rattle.quiet_rounds.specs.Bounded.{IsBounded}
@@ -16,7 +16,7 @@ use Rattle.agent_threads.proofs.run.play_all.Given as goal
 
 abbrev pub invariant-loop-group : goal.invariant-loop-group
 invariant-loop-group g l = record {
-  way : (events : List Event) × AtShown l.fn.nodes.items (acts_of l.play.groups.now) (λ homes tells. IsPlayedBy homes (take l.group-index l.play.groups.now) (seats_by tells l.fn.nodes.items) events l.progress.asks (seats_by tells l.nodes.items))
+  way : (events : List Event) × AtShown l.fn.nodes.items (acts_of l.play.groups.now) (λ homes tells. ArePlayed homes tells (NoneStopped l.fn.nodes.items l.nodes.items [] events) (more_stops l.fn.nodes.items l.nodes.items) (take l.group-index l.play.groups.now) (seats_by tells l.fn.nodes.items) events l.progress.asks (seats_by tells l.nodes.items))
       × (l.progress.totals ≡ totals_of l.play.topology.now events) × WritesAll (g.K.Sink.content l.fn.out) (g.K.Sink.content l.out) (written l.play.options.report l.play.topology.now events);
   net : AreNet l.nodes.items;
   same : AreSame l.fn.nodes.items l.nodes.items;

@@ -1,13 +1,17 @@
-use Rattle.std.proofs.Common.{refl, List, Err, sym, ap, subst, arith, length}
+use Rattle.std.proofs.Common.{◌-◌, ◌∙◌, refl, List, Err, sym, ap, subst, arith, length}
 use Rattle.std.specs.List.{All}
 use Rattle.nsi_primitive.specs.declared.entry.Event.{Event}
 use Rattle.trace_text.specs.Lines.{HasLine}
 use Rattle.agent_threads.specs.declared.fault.RunFault.{RunFault}
 use Rattle.std.proofs.lemmas.Result.{err_from_is_err_and}
-use Rattle.agent_threads.specs.Made.{counted, HasRunCause}
+use Rattle.agent_threads.specs.Made.{counted, HasSettleCause}
 use Rattle.agent_threads.proofs.Causes.{same_error, if_err, shelf_failed, shelf_still}
+use Rattle.nsi_agent.specs.Homes.{home_in}
+use Rattle.agent_threads.specs.Nets.{seats_by}
 use Rattle.agent_threads.proofs.Told.{how_many}
-use Rattle.run_totals.specs.Totals.{IsOf}
+use Rattle.agent_threads.proofs.Playing.{passes_behind}
+use Rattle.run_totals.specs.Totals.{IsOf, plus, totals_of}
+use Rattle.agent_threads.specs.Reports.{written as spelled}
 use Rattle.agent_threads.proofs.Going.{go_first, have_lines, are_of, under_room, under_after, up_to_after}
 use Rattle.agent_threads.proofs.run.play_group.Goals as goal
 
@@ -25,6 +29,15 @@ and_more-totals-requires-clause-agents g c =
     let all = go_first c.args.group.now.at c.args.nodes.now.items c.make_group.new.nodes.items c.new-events.result.items c.make_group.new.events.items c.new-events.ensures.items c.in_ok-asks.ensures.leaves.further in
     subst (λ (es : List Event). All (IsOf c.args.play.now.topology.now) es) (sym c.deref-2.ensures.value)
     (are_of c.args.play.now.topology.now c.args.nodes.now.items c.make_group.new.events.items c.requires.numbers all.0)
+
+pub returns-clause-ok : goal.returns-clause-ok
+returns-clause-ok g c =
+    let t = c.args.play.now.topology.now in (
+      c.make_group.new.events.items,
+      c.and_more-totals.ensures.totals ∙ ap (λ (es : List Event). plus c.args.before.totals (totals_of t es)) c.deref-2.ensures.value,
+      c.in_ok-asks.ensures.ok,
+      c.in_ok-text.ensures ∙ ap (λ (es : List Event). spelled c.args.play.now.options.report t es) c.deref.ensures.value,
+    )
 
 pub returns-clause-bounded : goal.returns-clause-bounded
 returns-clause-bounded g c = c.in_ok-asks.ensures.leaves.bounded c.requires.bounded
@@ -47,8 +60,13 @@ returns-clause-clocks g c =
 pub returns-in_err-asks-clause-long : goal.returns-in_err-asks-clause-long
 returns-in_err-asks-clause-long g c = λ t o routes r b v shows h.
     let e = err_from_is_err_and c.from_residual.result c.from_residual.ensures.1 in
-    let p = c.in_err-asks.ensures.long t o routes r b v shows (ap (λ f. Err f) (same_error c.from_residual.result e.0 c.in_err-asks.field-0.0 _ e.1 e.2 h)) in
-    (p.0, λ more. let q = p.1 more in omega (arith, q, c.requires.within))
+    passes_behind (home_in t routes) b _ _ (c.args.play.now.options.limit - c.args.before.totals.events) c.args.play.now.options.limit c.args.before.totals.events c.args.group.now c.args.before.asks (seats_by b c.args.nodes.now.items)
+    (omega (arith, c.requires.within)) (c.in_err-asks.ensures.long t o routes r b v shows (ap (λ f. Err f) (same_error c.from_residual.result e.0 c.in_err-asks.field-0.0 _ e.1 e.2 h)))
+
+pub returns-in_err-asks-clause-rises : goal.returns-in_err-asks-clause-rises
+returns-in_err-asks-clause-rises g c = λ h.
+    let e = err_from_is_err_and c.from_residual.result c.from_residual.ensures.1 in
+    c.in_err-asks.ensures.rises (ap (λ f. Err f) (same_error c.from_residual.result e.0 c.in_err-asks.field-0.0 _ e.1 e.2 h))
 
 pub returns-in_err-asks-clause-shelf : goal.returns-in_err-asks-clause-shelf
 returns-in_err-asks-clause-shelf g c =
@@ -62,8 +80,9 @@ returns-in_err-asks-clause-cause g c =
     let before = counted (g.B.Reopen.faults c.args.shelf.now) (g.B.Reopen.stops c.args.shelf.now) in
     let after = counted (g.B.Reopen.faults c.make_group.new.shelf) (g.B.Reopen.stops c.make_group.new.shelf) in
     let e = err_from_is_err_and c.from_residual.result c.from_residual.ensures.1 in
-    if_err c.from_residual.result (HasRunCause c.args.group.now.acts olds news before after) e.0 e.1
-    (subst (λ (f : RunFault). HasRunCause c.args.group.now.acts olds news before after f) (sym e.2) c.in_err-asks.ensures.cause)
+    let acts = c.args.group.now.acts in
+    if_err c.from_residual.result (HasSettleCause acts olds news before after) e.0 e.1
+    (subst (λ (f : RunFault). HasSettleCause acts olds news before after f) (sym e.2) c.in_err-asks.ensures.cause)
 
 pub returns-in_err-asks-clause-mild : goal.returns-in_err-asks-clause-mild
 returns-in_err-asks-clause-mild g c = λ h.

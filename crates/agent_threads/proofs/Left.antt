@@ -1,0 +1,125 @@
+-- Who is left, and that no stop which was counted is lost.
+use Rattle.std.proofs.Common.{ℕ, ◌≡◌, ◌≤◌, ◌+◌, ◌++◌, inl, inr, List, [], ◌∷◌, sym, ap, ap₂, subst, arith}
+use Rattle.std.specs.Prelude.{Result, Ok, Err, OnOk, OnErr}
+use Rattle.nsi_disk.specs.ShelfCounts.{Raised}
+use Rattle.agent_node.specs.Kept.{Kept, IsSameAgent}
+use Rattle.agent_threads.specs.declared.fault.RunFault.{RunFault}
+use Rattle.agent_threads.specs.Nets.{seats, numbers, EachIs, IsOneOf, IsUnstopped, AreSame}
+use Rattle.agent_threads.specs.Made.{IsRestarted, PutsBack, LosesOne, ShelfCounts, AreLeft}
+use Rattle.agent_threads.specs.Stopping.{GoesOnAgain, stops_among, NoneCounted}
+use Rattle.agent_threads.proofs.Places.{each_map}
+use Rattle.agent_threads.proofs.Same.{same_agents, stops_up}
+use Rattle.agent_threads.proofs.Causes.{among_same, among_twice}
+use Rattle.agent_threads.proofs.Restarting.{one_front, among_put, among_more}
+
+---- Counts
+
+pub raised_none : (a : ℕ) → Raised a 0 a
+raised_none a = inl (omega arith)
+
+pub raised_twice : (a x b y c : ℕ) → Raised a x b → Raised b y c → Raised a (x + y) c
+raised_twice a x b y c (inl p) (inl q) = inl (omega (arith, p, q))
+raised_twice a x b y c (inl p) (inr q) = inr (omega (arith, p, q.0), omega (arith, p, q.1))
+raised_twice a x b y c (inr p) (inl q) = inr (omega (arith, p.0), omega (arith, p.1, q))
+raised_twice a x b y c (inr p) (inr q) = inr (omega (arith, p.0), omega (arith, p.1, q.1))
+
+raised_still : (a b : ℕ) → b ≡ a → Raised a 0 b
+raised_still a b e = inl (omega (arith, e))
+
+stops_behind : (ks : List Kept) (k : Kept) → stops_among (ks ++ k ∷ []) ≡ stops_among ks + k.meter.stops
+stops_behind [] k = omega arith
+stops_behind (x ∷ xs) k = let rest = stops_behind xs k in omega (arith, rest)
+
+unstopped_stops : (xs ys : List Kept) → EachIs IsUnstopped xs ys → stops_among ys ≡ stops_among xs
+unstopped_stops [] [] e = omega arith
+unstopped_stops [] (y ∷ ys) e = absurd e
+unstopped_stops (x ∷ xs) [] e = absurd e
+unstopped_stops (x ∷ xs) (y ∷ ys) e = ap₂ ◌+◌ e.0.stops (unstopped_stops xs ys e.1)
+
+---- Calls
+
+-- the same agents, with no fewer stops
+pub left_agents : (xs ys : List Kept) (b c : ShelfCounts) → EachIs IsSameAgent xs ys → stops_among xs ≤ stops_among ys → c.stops ≡ b.stops → AreLeft xs ys b c
+left_agents xs ys b c p up e = record { among = among_same xs ys p; by = 0; raised = raised_still b.stops c.stops e; stops = omega (arith, up) }
+
+pub left_same : (xs ys : List Kept) (b c : ShelfCounts) → AreSame xs ys → c.stops ≡ b.stops → AreLeft xs ys b c
+left_same xs ys b c p e = left_agents xs ys b c (same_agents xs ys p) (stops_up xs ys p) e
+
+unstopped_agent : (a b : Kept) → IsUnstopped a b → IsSameAgent a b
+unstopped_agent a b s = s.same
+
+pub left_unstopped : (xs ys : List Kept) (b c : ShelfCounts) → EachIs IsUnstopped xs ys → c.stops ≡ b.stops → AreLeft xs ys b c
+left_unstopped xs ys b c p e = left_agents xs ys b c (each_map IsUnstopped IsSameAgent xs ys unstopped_agent p) (omega (arith, unstopped_stops xs ys p)) e
+
+-- nobody stands there
+pub left_none : (xs ys : List Kept) (b c : ShelfCounts) → xs ≡ [] → ys ≡ [] → c.stops ≡ b.stops → AreLeft xs ys b c
+left_none xs ys b c p q e = subst (λ (ks : List Kept). AreLeft ks ys b c) (sym p) (subst (λ (ks : List Kept). AreLeft [] ks b c) (sym q) (left_agents [] [] b c tt (omega arith) e))
+
+pub left_twice : (xs ys zs : List Kept) (b c d : ShelfCounts) → AreLeft xs ys b c → AreLeft ys zs c d → AreLeft xs zs b d
+left_twice xs ys zs b c d p q = record {
+  among = among_twice xs ys zs p.among q.among;
+  by = p.by + q.by;
+  raised = raised_twice b.stops p.by c.stops q.by d.stops p.raised q.raised;
+  stops = let m = p.stops in let n = q.stops in omega (arith, m, n);
+}
+
+---- Restarts
+
+-- one more stands behind them
+pub left_more : (ks ms : List Kept) (k : Kept) (olds news : List Kept) (b c : ShelfCounts) → olds ≡ ks ++ k ∷ [] → news ≡ ms ++ k ∷ [] → AreLeft ks ms b c → AreLeft olds news b c
+left_more ks ms k olds news b c e f p = record {
+  among = among_more ks ms k olds news e f p.among;
+  by = p.by;
+  raised = p.raised;
+  stops = let m = p.stops in omega (arith, m, ap stops_among e, ap stops_among f, stops_behind ks k, stops_behind ms k);
+}
+
+-- it was put back with the stops that it had
+left_put : (R : Kept → Kept → Type 0) (ks : List Kept) (k : Kept) (olds news : List Kept) (b c : ShelfCounts) → olds ≡ ks ++ k ∷ [] → ((n : Kept) → R k n → n.seat.number ≡ k.seat.number) → ((n : Kept) → R k n → n.meter.stops ≡ k.meter.stops)
+    → PutsBack R k ks news → c.stops ≡ b.stops → AreLeft olds news b c
+left_put R ks k olds news b c e number stops p same = record {
+  among = among_put R ks k olds news e number p;
+  by = 0;
+  raised = raised_still b.stops c.stops same;
+  stops = let m = stops p.0 p.2 in omega (arith, m, ap stops_among e, ap stops_among p.1, stops_behind ks k, stops_behind ks p.0);
+}
+
+left_lost : (ks : List Kept) (k : Kept) (olds news : List Kept) (b c : ShelfCounts) → olds ≡ ks ++ k ∷ [] → LosesOne k ks news b c → AreLeft olds news b c
+left_lost ks k olds news b c e (inr p) = left_put IsUnstopped ks k olds news b c e (λ n s. s.same.number) (λ n s. s.stops) p.0 p.1
+left_lost ks k olds news b c e (inl p) = record {
+  among = λ a h. subst (λ (xs : List Kept). IsOneOf a (numbers (seats xs))) (sym e) (one_front a ks k (subst (λ (ys : List Kept). IsOneOf a (numbers (seats ys))) p.0 h));
+  by = p.1.0;
+  raised = p.1.2;
+  stops = let least = p.1.1 in omega (arith, least, ap stops_among e, ap stops_among p.0, stops_behind ks k);
+}
+
+-- whether it was restarted or not
+pub left_restarted : {T : Type 0} (r : Result T RunFault) (ks : List Kept) (k : Kept) (olds news : List Kept) (b c : ShelfCounts) → olds ≡ ks ++ k ∷ [] → OnOk r (c.stops ≡ b.stops) → OnOk r (PutsBack IsRestarted k ks news) → OnErr r (LosesOne k ks news b c) → AreLeft olds news b c
+left_restarted (Ok x) ks k olds news b c e same p q = left_put IsRestarted ks k olds news b c e (λ n s. s.moves.number) (λ n s. s.reread.counts.stops) p same
+left_restarted (Err x) ks k olds news b c e same p q = left_lost ks k olds news b c e q
+
+-- or goes on behind a stop or not
+pub left_again : {T : Type 0} (r : Result T RunFault) (ks : List Kept) (k : Kept) (olds news : List Kept) (b c : ShelfCounts) → olds ≡ ks ++ k ∷ [] → OnOk r (c.stops ≡ b.stops) → OnOk r (PutsBack GoesOnAgain k ks news) → OnErr r (LosesOne k ks news b c) → AreLeft olds news b c
+left_again (Ok x) ks k olds news b c e same p q = left_put GoesOnAgain ks k olds news b c e (λ n s. s.moves.number) (λ n s. s.reopened.counts.stops) p same
+left_again (Err x) ks k olds news b c e same p q = left_lost ks k olds news b c e q
+
+---- Where none was counted
+
+-- none was before what failed
+pub none_counted : (olds mids news : List Kept) (b c d : ShelfCounts) → AreSame olds mids → c.stops ≡ b.stops → AreLeft mids news c d → NoneCounted olds news b d → stops_among mids ≡ stops_among olds
+none_counted olds mids news b c d same e left none =
+    let up = stops_up olds mids same in
+    let more = left.stops in
+    let all = none left.by (subst (λ (n : ℕ). Raised n left.by d.stops) e left.raised) in
+    omega (arith, up, more, all)
+
+-- nor in what failed
+pub none_later : (olds mids news : List Kept) (b c d : ShelfCounts) → AreSame olds mids → c.stops ≡ b.stops → NoneCounted olds news b d → NoneCounted mids news c d
+none_later olds mids news b c d same e none by raised =
+    let up = stops_up olds mids same in
+    let all = none by (subst (λ (n : ℕ). Raised n by d.stops) e raised) in
+    omega (arith, up, all)
+
+-- nor behind what was done
+pub none_still : (olds news : List Kept) (b d : ShelfCounts) → AreSame olds news → d.stops ≡ b.stops → NoneCounted olds news b d → stops_among news ≡ stops_among olds
+none_still olds news b d same e none = let up = stops_up olds news same in let all = none 0 (raised_still b.stops d.stops e) in omega (arith, up, all)
