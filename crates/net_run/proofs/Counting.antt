@@ -8,15 +8,6 @@ use Rattle.agent_threads.specs.declared.fault.RunFault.{RunFault}
 use Rattle.net_run.specs.Begun.{faults_among, stops_among}
 use Rattle.net_run.specs.Shelves.{HasRisen, HasBroken, IsStartFault}
 
-pub raised_none : (a : ℕ) → Raised a 0 a
-raised_none a = inl (omega arith)
-
-pub raised_twice : (a x b y c : ℕ) → Raised a x b → Raised b y c → Raised a (x + y) c
-raised_twice a x b y c (inl p) (inl q) = inl (omega (arith, p, q))
-raised_twice a x b y c (inl p) (inr q) = inr (omega (arith, p, q.0), omega (arith, p, q.1))
-raised_twice a x b y c (inr p) (inl q) = inr (omega (arith, p.0), omega (arith, p.1, q))
-raised_twice a x b y c (inr p) (inr q) = inr (omega (arith, p.0), omega (arith, p.1, q.1))
-
 pub raised_up : (a x b : ℕ) → Raised a x b → a ≤ b
 raised_up a x b (inl p) = omega (arith, p)
 raised_up a x b (inr p) = p.1
@@ -37,23 +28,29 @@ pub start_fault : (most f g h s r q : ℕ) (e : RunFault) → IsStartFault most 
 start_fault most f g h s r q RunFault.Long i x y = i
 start_fault most f g h s r q RunFault.WriteFault i x y = i
 start_fault most f g h s r q (RunFault.NotAJournal a place) i x y = i
-start_fault most f g h s r q (RunFault.DiskFault a) (l, inl b) x y = (l, inl (risen_then f g h b x))
-start_fault most f g h s r q (RunFault.DiskFault a) (l, inr b) x y = (l, inr (risen_then s r q b y))
+start_fault most f g h s r q (RunFault.DiskFault a) (l, inl b, up) x y = (l, inl (risen_then f g h b x), omega (arith, up, y))
+start_fault most f g h s r q (RunFault.DiskFault a) (l, inr b, up) x y = (l, inr (risen_then s r q b y), omega (arith, up, y))
 start_fault most f g h s r q RunFault.NoMemory i x y = (omega (arith, i.0, x), omega (arith, i.1, y))
+
+-- the count of stops doesn't fall
+pub start_rises : (most f g s r : ℕ) (e : RunFault) → IsStartFault most f g s r e → s ≤ r
+start_rises most f g s r RunFault.Long i = absurd i
+start_rises most f g s r RunFault.WriteFault i = absurd i
+start_rises most f g s r (RunFault.NotAJournal a place) i = absurd i
+start_rises most f g s r (RunFault.DiskFault a) i = i.2
+start_rises most f g s r RunFault.NoMemory i = i.1
 
 ---- Agents
 
+-- no call has failed
 pub calm_faults : (xs ys : List Kept) → AreCalm xs ys → faults_among ys ≡ faults_among xs
 calm_faults [] [] c = refl
 calm_faults [] (y ∷ ys) c = absurd c
 calm_faults (x ∷ xs) [] c = absurd c
-calm_faults (x ∷ xs) (y ∷ ys) c = omega (arith, c.0.faults, calm_faults xs ys c.1)
-
-pub calm_stops : (xs ys : List Kept) → AreCalm xs ys → stops_among ys ≡ stops_among xs
-calm_stops [] [] c = refl
-calm_stops [] (y ∷ ys) c = absurd c
-calm_stops (x ∷ xs) [] c = absurd c
-calm_stops (x ∷ xs) (y ∷ ys) c = omega (arith, c.0.stops, calm_stops xs ys c.1)
+calm_faults (x ∷ xs) (y ∷ ys) c =
+    let here = c.0.faults in
+    let there = calm_faults xs ys c.1 in
+    omega (arith, here, there)
 
 pub some_failed : (a : ℕ) (ks : List Kept) → HasFailed a ks → 0 < faults_among ks + stops_among ks
 some_failed a [] h = absurd h

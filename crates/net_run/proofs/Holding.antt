@@ -21,24 +21,25 @@ use Rattle.nsi_agent.specs.Homes.{Home, home_in}
 use Rattle.agent_node.specs.Openings.{Plans, seat_of}
 use Rattle.agent_node.specs.Kept.{Kept, IsSameAgent}
 use Rattle.nsi_play.specs.Rounds.{Net}
-use Rattle.nsi_play.specs.Play.{IsPlayFrom, untold_net}
+use Rattle.nsi_play.specs.Play.{untold_net}
 use Rattle.nsi_play.specs.Openings.{opening}
-use Rattle.nsi_play.specs.Laws.{OnePlay}
 use Rattle.least_routes.specs.Laws.{RoutesExist}
 use Rattle.nsi_world.specs.Worlds.{World, empty, synced_part}
 use Rattle.nsi_world.specs.Runs.{world_after}
 use Rattle.nsi_world.specs.Seats.{Stands}
 use Rattle.nsi_world.specs.Rest.{IsAtRest}
-use Rattle.nsi_world.specs.Laws.{PlayStands, PlayRests}
+use Rattle.stopped_play.specs.Laws.{StoppedPlayStands, StoppedPlayRests}
+use Rattle.stopped_play.specs.Tapes.{Stops}
 use Rattle.run_totals.specs.declared.totals.Totals.{Totals}
 use Rattle.agent_threads.specs.declared.fault.RunFault.{RunFault}
 use Rattle.agent_threads.specs.Nets.{seats, seats_by, seen, synced_in, numbers, EachIs, AreUsable, IsAbsent, AreApart, AreOwned, AreSame}
 use Rattle.agent_threads.specs.Leaving.{StayOwned}
-use Rattle.agent_threads.specs.Promise.{HavePlayed}
+use Rattle.agent_threads.specs.Promise.{PlaysTo}
+use Rattle.agent_threads.specs.Stopping.{more_stops, on_tapes, NoneStopped, IsPlayByTapes}
 use Rattle.agent_threads.proofs.Same.{same_agents}
 use Rattle.net_run.specs.Begun.{AreListed}
 use Rattle.net_run.specs.Journals.{AllTell, IsUnnamed, AreNamedApart, AreToReturn, AreRead}
-use Rattle.net_run.specs.Held.{HoldsJournals}
+use Rattle.net_run.specs.Worlds.{KeepsJournals}
 use Rattle.net_run.proofs.Beginning.{listed_same}
 use Rattle.net_run.proofs.Running.{AreFresh, all_told}
 
@@ -132,11 +133,10 @@ same_numbers (x ∷ xs) (y ∷ ys) s = ap₂ ◌∷◌ s.0.number (same_numbers 
 
 ---- A run
 
--- what laws say of plays
+-- what laws say of plays in which disks stop
 pub record PlayLaws : Type 0 where
-  pub one : OnePlay
-  pub stands : PlayStands
-  pub rests : PlayRests
+  pub stands : StoppedPlayStands
+  pub rests : StoppedPlayRests
   pub exist : RoutesExist
 
 -- a script that fits
@@ -147,18 +147,17 @@ pub record IsFit (t : Network) (script : List Group) : Type 0 where
 
 module _ (laws : PlayLaws) (t : Network) (plans : Plans) (old new : List ℕ → Option (List ℕ)) (listed : List ℕ → Bool) (script : List Group) (olds news : List Kept) (fit : IsFit t script) (fresh : AreFresh t plans old olds) (named : AreListed listed t olds)
     (usable : AreUsable news) (same : EachIs IsSameAgent olds news) (returned : AreToReturn t news → AreRead t new news) where
-  holds_journals : HavePlayed script olds news → StayOwned olds news → HoldsJournals t plans script old new
-  holds_journals p stay = λ events play told a h.
+  pub keeps_journals : StayOwned olds news → (events : List Event) → PlaysTo (NoneStopped olds news [] events) (more_stops olds news) olds script events news → KeepsJournals t old new events
+  keeps_journals stay events p = λ told a h.
       let r = laws.exist t in
       let homes = home_in t r.0 in
       let own : AreOwned homes olds = fresh.owned told r.0 in
       let last : Net = seats_by true news in
-      let made : IsPlayFrom script homes (opening t plans) p.0 last = subst (λ (net : Net). IsPlayFrom script homes net p.0 last) (fresh.seats told) (p.1 t fresh.opened.of r.0 r.1 true (λ e. own) (all_told (acts_of script))) in
-      let given = play r.0 r.1 in
-      let is : p.0 ≡ events = (laws.one script homes (opening t plans) p.0 events last given.0 made given.1).0 in
-      let played : IsPlayFrom script homes (opening t plans) events last = subst (λ (es : List Event). IsPlayFrom script homes (opening t plans) es last) is made in
-      let stands = laws.stands t r.0 plans script events last fit.formed fit.rising fit.acts played in
-      let rests = laws.rests t r.0 plans script events last fit.formed fit.rising fit.acts played in
+      let most : ℕ = more_stops olds news in
+      let made : IsPlayByTapes most script homes (opening t plans) events last = subst (λ (net : Net). IsPlayByTapes most script homes net events last) (fresh.seats told) ((p t fresh.opened.of r.0 r.1 true (λ e. own) (all_told (acts_of script))).told refl) in
+      let stops : Stops = on_tapes made.0 in
+      let stands = laws.stands t r.0 plans stops script events last fit.formed fit.rising fit.acts made.2 in
+      let rests = laws.rests t r.0 plans stops script events last fit.formed fit.rising fit.acts made.2 in
       let now : AreOwned homes news = stay t fresh.opened.of r.0 r.1 own in
       let names : AreListed listed t news = listed_same listed t olds news same named in
       let read : AreRead t new news = returned (record { usable = usable; tell = owned_tell homes news now; apart = named_apart t fit.formed listed olds news named same fresh.opened.net.apart }) in
@@ -166,8 +165,8 @@ module _ (laws : PlayLaws) (t : Network) (plans : Plans) (old new : List ℕ →
       let w : World = world_after empty events in
       held_at t new w (length t.agents) 0 a (subst (AllHeld t new w) are (all_held t new listed homes stands.clock w news names now stands.stand.stand rests read)) (omega arith) (omega (arith, h))
 
-pub run_holds : PlayLaws → (t : Network) (plans : Plans) (old new : List ℕ → Option (List ℕ)) (listed : List ℕ → Bool) (gs hs : List Group) (olds news : List Kept) (r : Result Totals RunFault) → hs ≡ gs → IsFit t gs → AreFresh t plans old olds → AreListed listed t olds
-    → (AreToReturn t news → AreRead t new news) → OnOk r (AreSame olds news) → OnOk r (AreUsable news) → OnOk r (HavePlayed hs olds news) → OnOk r (StayOwned olds news) → OnOk r (HoldsJournals t plans gs old new)
-run_holds laws t plans old new listed gs hs olds news (Ok n) e fit fresh named returned same usable p own =
-    holds_journals laws t plans old new listed gs olds news fit fresh named usable (same_agents olds news same) returned (subst (λ (xs : List Group). HavePlayed xs olds news) e p) own
-run_holds laws t plans old new listed gs hs olds news (Err f) e fit fresh named returned same usable p own = tt
+pub run_keeps : PlayLaws → (t : Network) (plans : Plans) (old new : List ℕ → Option (List ℕ)) (listed : List ℕ → Bool) (script : List Group) (olds news : List Kept) (r : Result Totals RunFault) → IsFit t script → AreFresh t plans old olds → AreListed listed t olds
+    → (AreToReturn t news → AreRead t new news) → OnOk r (AreSame olds news) → OnOk r (AreUsable news) → OnOk r (StayOwned olds news)
+    → OnOk r ((events : List Event) → PlaysTo (NoneStopped olds news [] events) (more_stops olds news) olds script events news → KeepsJournals t old new events)
+run_keeps laws t plans old new listed script olds news (Ok n) fit fresh named returned same usable own = keeps_journals laws t plans old new listed script olds news fit fresh named usable (same_agents olds news same) returned own
+run_keeps laws t plans old new listed script olds news (Err f) fit fresh named returned same usable own = tt

@@ -1,14 +1,17 @@
 -- Agents that were begun on the disks of a shelf.
 use Rattle.std.specs.List.{All}
-use Rattle.std.specs.Prelude.{ℕ, suc, ◌≡◌, ◌<◌, ◌+◌, true, Bool, List, [], ◌∷◌, length, None}
+use Rattle.std.specs.Prelude.{ℕ, suc, ◌≡◌, ◌==◌, ◌<◌, ◌+◌, true, Bool, List, [], ◌∷◌, length, map, filter, None}
 use Rattle.stp_topology.specs.declared.network.Network.{Network}
 use Rattle.stp_topology.specs.Network.{name_of}
 use Rattle.agent_link.specs.Link.{OutHalf}
 use Rattle.agent_node.specs.Openings.{Plans, others_of, seat_of}
 use Rattle.disk_journal.specs.declared.opening.StartCause.{StartCause}
 use Rattle.agent_node.specs.Kept.{Kept, Plug, ArePlanned, plug}
+use Rattle.nsi_disk.specs.declared.plan.Stop.{Stop}
+use Rattle.nsi_script.specs.declared.script.StopLine.{StopLine}
 use Rattle.nsi_play.specs.Openings.{opening}
 use Rattle.agent_threads.specs.Nets.{seats, AreOf, AreNet, IsAbsent}
+pub use Rattle.agent_threads.specs.Stopping.{stops_among}
 use Rattle.agent_threads.specs.declared.fault.RunFault.{RunFault}
 use Rattle.net_run.specs.declared.joints.Joint.{Joint}
 use Rattle.net_run.specs.Joints.{IsPlannedJoint, wires}
@@ -41,11 +44,6 @@ abbrev pub faults_among : List Kept → ℕ
 faults_among [] = 0
 faults_among (k ∷ ks) = k.meter.faults + faults_among ks
 
--- how often calls stopped their disks
-abbrev pub stops_among : List Kept → ℕ
-stops_among [] = 0
-stops_among (k ∷ ks) = k.meter.stops + stops_among ks
-
 -- all agents of a topology before anything has happened, where this is planned for their links
 pub record AreOpened (t : Network) (plans : Plans) (ks : List Kept) : Type 0 where
   pub seats : seats ks ≡ untold_net (opening t plans)
@@ -62,6 +60,17 @@ pub record IsFresh (t : Network) (a : ℕ) (outs : List OutHalf) (made : List Pl
   pub fault : k.fault ≡ None
   pub faults : k.meter.faults ≡ 0
   pub stops : k.meter.stops ≡ 0
+
+-- the line is of the disk of this agent
+abbrev pub is_of : ℕ → StopLine → Bool
+is_of a line = line.agent == a
+
+abbrev pub stop_in : StopLine → Stop
+stop_in line = line.stop
+
+-- where the lines of a script stop an agent's disk
+abbrev pub stops_of : List StopLine → ℕ → List Stop
+stops_of lines a = map stop_in (filter (is_of a) lines)
 
 -- the fault of a run that didn't begin
 abbrev pub fault_of : ℕ → StartCause → RunFault

@@ -6,8 +6,7 @@ use Rattle.journal_entry.specs.Payloads.{batch_of}
 use Rattle.stp_topology.specs.declared.network.Network.{Network}
 use Rattle.stp_topology.specs.Network.{name_of}
 use Rattle.nsi_script.specs.declared.script.Group.{Group}
-use Rattle.nsi_play.specs.Openings.{Plans}
-use Rattle.nsi_play.specs.Play.{IsPlay, RestartNobody}
+use Rattle.nsi_play.specs.Play.{RestartNobody}
 use Rattle.nsi_world.specs.Worlds.{empty}
 use Rattle.nsi_world.specs.Runs.{world_after}
 
@@ -23,7 +22,3 @@ IsShown t script holds = AreTold t holds ⊎ RestartNobody script
 abbrev pub HoldsOf : Network → (List ℕ → Option (List ℕ)) → List Event → Type 0
 HoldsOf t holds events =
     (a : ℕ) → a < length t.agents → (file : List ℕ) × (holds (name_of t a) ≡ Some file) × (recovers batch_of file ≡ Ok ((world_after empty events).journal a))
-
--- Where the shelf told what it held, it holds each agent's journal of the play of the script.
-abbrev pub HoldsJournals : Network → Plans → List Group → (old new : List ℕ → Option (List ℕ)) → Type 0
-HoldsJournals t plans script old new = (events : List Event) → IsPlay t plans script events → AreTold t old → HoldsOf t new events

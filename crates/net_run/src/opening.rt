@@ -7,7 +7,7 @@ ghost use Rattle.agent_node.specs.Openings.{others_of};
 ghost use Rattle.agent_node.specs.Kept.{AreEnds, plugs_of};
 ghost use Rattle.nsi_play.specs.Openings.{plans_of};
 ghost use Rattle.net_run.specs.Joints.{IsShutJoint, ArePlannable, AreJoined};
-ghost use Rattle.net_run.specs.Begun.{IsFresh, AreBegun, AreListed, AreOpened, fault_of};
+ghost use Rattle.net_run.specs.Begun.{IsFresh, AreBegun, AreListed, AreOpened, fault_of, stops_of};
 ghost use Rattle.net_run.specs.Journals.{no_entries, AreEmpty};
 ghost use Rattle.net_run.specs.Shelves.{IsStartFault};
 
@@ -18,9 +18,9 @@ use agent_node::Node;
 use agent_threads::RunFault;
 use disk_journal::{DiskJournal, StartCause};
 use nsi_base::{AgentNo, List};
-use nsi_disk::{Shelf, ShelfError};
-use nsi_script::PlanLine;
-use std::alloc::Global;
+use nsi_disk::{Shelf, ShelfError, Stop};
+use nsi_script::{Script, StopLine};
+use std::alloc::{AllocError, Global};
 use stp_topology::Topology;
 
 fn fault_of(agent: AgentNo, cause: StartCause) -> RunFault
@@ -32,21 +32,34 @@ fn fault_of(agent: AgentNo, cause: StartCause) -> RunFault
     }
 }
 
+/// At which calls the disk of an agent is to stop.
+fn stops_of(alloc: Global, lines: &[StopLine], agent: AgentNo) -> Result<Vec<Stop>, AllocError>
+    ensures { IfOk result (λ stops. stops.items ≡ stops_of lines.now agent) }
+{
+    let mut stops = Vec::new(alloc);
+    for line in lines {
+        if line.agent == agent {
+            stops.push(line.stop)?;
+        }
+    }
+    Ok(stops)
+}
+
 /// Begins an agent on its disk.
 fn begin_one<'t, H: Shelf>(
     alloc: Global,
     topology: &'t Topology,
     agent: AgentNo,
-    outgoing: List<Outgoing>,
-    incoming: List<Incoming>,
+    ends: (List<Outgoing>, List<Incoming>),
+    planned: &[Stop],
     shelf: &mut H,
 ) -> Result<Node<'t, DiskJournal<H::Disk>>, RunFault>
 where
     H::Disk: Drop,
     requires within { agent < length topology.now.agents }
-    requires ends { AreEnds (others_of topology.now agent) outgoing incoming }
-    ensures fresh { IfOk result (λ n. IsFresh topology.now agent outgoing
-        (plugs_of (others_of topology.now agent) outgoing incoming) n) }
+    requires ends { AreEnds (others_of topology.now agent) ends.0 ends.1 }
+    ensures fresh { IfOk result (λ n. IsFresh topology.now agent ends.0
+        (plugs_of (others_of topology.now agent) ends.0 ends.1) n) }
     ensures empty { IfOk result (λ n. IfSome (H.holds shelf.old (name_of topology.now agent))
         (λ bytes. n.kept ≡ Some no_entries)) }
     ensures holds { OnOk result ((n : List ℕ) → H.holds shelf.new n ≡ H.holds shelf.old n) }
@@ -58,7 +71,8 @@ where
         (H.faults shelf.old) (H.faults shelf.new) (H.stops shelf.old) (H.stops shelf.new)) }
 {
     let name = topology.name(agent);
-    match shelf.fetch(alloc, name, &[]) {
+    let (outgoing, incoming) = ends;
+    match shelf.fetch(alloc, name, planned) {
         Ok(disk) => match Node::fresh(alloc, topology, agent, disk, outgoing, incoming) {
             Ok(node) => Ok(node),
             Err(fault) => {
@@ -78,6 +92,7 @@ fn begin_all<'t, H: Shelf>(
     topology: &'t Topology,
     joints: Vec<Joint>,
     nodes: &mut Vec<Node<'t, DiskJournal<H::Disk>>>,
+    stops: &[StopLine],
     shelf: &mut H,
 ) -> Result<(), RunFault>
 where
@@ -106,25 +121,34 @@ where
             incoming,
             rest,
         } = own;
-        let node = begin_one(alloc, topology, agent, outgoing, incoming, shelf)?;
+        let planned = stops_of(alloc, stops, agent)?;
+        let node = begin_one(
+            alloc,
+            topology,
+            agent,
+            (outgoing, incoming),
+            &planned,
+            shelf,
+        )?;
         nodes.push_reserved(node);
         left = rest;
     }
     Ok(())
 }
 
-/// Begins the agents of a topology, each on the disk of its name, which is emptied, and joins them by links, for which
-/// the lines plan what is lost and what comes twice. On a fault each disk that was fetched is given back.
+/// Begins the agents of a topology, each on the disk of its name, which is emptied, and joins them by links. The
+/// script plans what of these is lost and what comes twice, and where the disks stop. On a fault each disk that was
+/// fetched is given back.
 pub fn open_net<'t, H: Shelf>(
     alloc: Global,
     topology: &'t Topology,
-    lines: &[PlanLine],
+    script: &Script,
     shelf: &mut H,
 ) -> Result<Vec<Node<'t, DiskJournal<H::Disk>>>, RunFault>
 where
     H::Disk: Drop,
     ensures opened { IfOk result
-        (λ nodes. AreOpened topology.now (plans_of lines.now) nodes.items) }
+        (λ nodes. AreOpened topology.now (plans_of script.now.lose) nodes.items) }
     ensures empty { IfOk result (λ nodes. AreEmpty topology.now (H.holds shelf.old) nodes.items) }
     ensures listed { IfOk result
         (λ nodes. AreListed (H.listed shelf.new) topology.now nodes.items) }
@@ -133,9 +157,16 @@ where
     ensures cause { IfErr result (IsStartFault (length topology.now.agents)
         (H.faults shelf.old) (H.faults shelf.new) (H.stops shelf.old) (H.stops shelf.new)) }
 {
-    let joints = join_all(alloc, topology, lines)?;
+    let joints = join_all(alloc, topology, script.lose.items())?;
     let mut nodes = Vec::new(alloc);
-    match begin_all(alloc, topology, joints, &mut nodes, shelf) {
+    match begin_all(
+        alloc,
+        topology,
+        joints,
+        &mut nodes,
+        script.stops.items(),
+        shelf,
+    ) {
         Ok(()) => Ok(nodes),
         Err(fault) => {
             close_net(nodes, topology, shelf);

@@ -4,7 +4,7 @@ use Rattle.nsi_disk.specs.ShelfCounts.{Raised}
 use Rattle.agent_node.specs.Kept.{Kept}
 use Rattle.net_run.specs.Begun.{AreListed, faults_among, stops_among}
 use Rattle.net_run.proofs.Beginning.{listed_still}
-use Rattle.net_run.proofs.Counting.{raised_none, raised_twice}
+use Rattle.agent_threads.proofs.Left.{raised_none, raised_twice}
 use Rattle.stp_topology.specs.Network.{name_of}
 use Rattle.net_run.proofs.Ends.{none_left}
 use Rattle.net_run.proofs.Returning.{Returns, IsReturned, returns_none, returns_all, is_returned, returns_more}

@@ -1,16 +1,21 @@
-use Rattle.std.proofs.Common.{length}
+use Rattle.std.proofs.Common.{List, length, subst}
+use Rattle.std.specs.List.{All}
+use Rattle.nsi_script.specs.declared.script.PlanLine.{PlanLine}
 use Rattle.nsi_play.specs.Openings.{plans_of}
+use Rattle.net_run.specs.Joints.{IsPlannedJoint}
 use Rattle.net_run.specs.Begun.{faults_among, stops_among}
 use Rattle.net_run.proofs.Beginning.{opened_are}
 use Rattle.net_run.proofs.Counting.{raised_up, start_fault}
 use Rattle.net_run.proofs.opening.open_net.Goals as goal
 
 pub begin_all-requires-clause-planned : goal.begin_all-requires-clause-planned
-begin_all-requires-clause-planned g c = (plans_of c.args.lines.now, c.in_ok-joints.ensures.planned)
+begin_all-requires-clause-planned g c = (plans_of c.items.result.now, c.in_ok-joints.ensures.planned)
 
 pub returns-in-Ok-clause-opened : goal.returns-in-Ok-clause-opened
 returns-in-Ok-clause-opened g c =
-    opened_are c.args.topology.now (plans_of c.args.lines.now) c.in_ok-joints.joints.items c.begin_all.new.nodes.items c.in_ok-joints.ensures.paired c.in_ok-joints.ensures.planned c.begin_all.ensures.begun c.in-Ok.ensures.all
+    let joints = c.in_ok-joints.joints.items in
+    let planned = subst (λ (lines : List PlanLine). All (IsPlannedJoint (plans_of lines)) joints) c.items.ensures c.in_ok-joints.ensures.planned in
+    opened_are c.args.topology.now (plans_of c.args.script.now.lose) joints c.begin_all.new.nodes.items c.in_ok-joints.ensures.paired planned c.begin_all.ensures.begun c.in-Ok.ensures.all
 
 pub returns-in-Err-clause-cause : goal.returns-in-Err-clause-cause
 returns-in-Err-clause-cause g c =
