@@ -1,5 +1,5 @@
-//! `run` over a disk that fails or stops. To begin a journal takes four calls, and each turn that keeps something takes four: the
-//! provider has three of them, and the requester two.
+//! `run` over a disk that fails, or stops while its journal is made. To begin a journal takes four calls, and each turn that keeps
+//! something takes four: the provider has three of them, and the requester two.
 
 use crate::calling::{Broken, Call, called};
 use crate::texts::{ASK, ASKED, TICKED, TOPOLOGY};
@@ -68,7 +68,7 @@ const ROWS: [Row; 7] = [
         Broken::StopBefore,
         "p1",
         1,
-        16,
+        4,
         7,
         &["fault disk p1\n"],
     ),

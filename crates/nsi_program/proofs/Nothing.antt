@@ -19,7 +19,7 @@ use Rattle.nsi_program.specs.VerifiesTo.{BeginsVerify}
 use Rattle.provide_command.proofs.Written.{nothing_some}
 use Rattle.nsi_script.specs.Load.{load_of}
 use Rattle.run_command.specs.Ends.{WritesSomeFront}
-use Rattle.run_command.specs.Runs.{Begins}
+use Rattle.run_command.specs.Runs.{Disks, Begins}
 use Rattle.stp_topology.specs.Network.{nothing}
 use Rattle.provide_command.proofs.Answered.{stopped, up_to_start}
 use Rattle.provide_command.proofs.Backing.{unshelved_silent}
@@ -46,21 +46,21 @@ nothing_stopped read most content left few =
 
 -- nothing is a front of what each run writes
 abbrev pub BeginWithNothing : Type 0
-BeginWithNothing = (options : RunOptions) (holds : Holds) (left old : Option (List ℕ)) → IfSome left (λ bytes. WritesSomeFront (Begins options holds bytes) old old)
+BeginWithNothing = (options : RunOptions) (d : Disks) → d.before ≤ d.after → (left old : Option (List ℕ)) → IfSome left (λ bytes. WritesSomeFront (Begins options d bytes) old old)
 
 no_verdict : (most : ℕ) (left old : Option (List ℕ)) → IfSome left (λ bytes. WritesSomeFront (BeginsVerify most bytes) old old)
 no_verdict most None old = tt
 no_verdict most (Some bytes) old = nothing_some (BeginsVerify most bytes) old old [] (inl refl) refl
 
 -- whatever the words are
-pub nothing_cut_short : BeginWithNothing → (words : List (List ℕ)) (holds : Holds) (content left : Option (List ℕ)) (counts : Counts) → IsCutShort (command_of words) holds content left left counts counts content
-nothing_cut_short none words holds content left counts = go (command_of words) refl
+pub nothing_cut_short : BeginWithNothing → (words : List (List ℕ)) (d : Disks) → d.before ≤ d.after → (content left : Option (List ℕ)) (counts : Counts) → IsCutShort (command_of words) d content left left counts counts content
+nothing_cut_short none words d up content left counts = go (command_of words) refl
   where
-    go : (command : Option Command) → command_of words ≡ command → IsCutShort command holds content left left counts counts content
+    go : (command : Option Command) → command_of words ≡ command → IsCutShort command d content left left counts counts content
     go None e = inl (refl, nothing_front content content (as_line (codes "fault usage")) refl)
     go (Some (Command.Provide most)) e =
-        inl (refl, any_reading holds left (λ read. IsStopped read most content left content) (λ read. nothing_stopped read most content left (limit_few words most e)))
-    go (Some (Command.Run play)) e = inl (refl, none (options_of play) holds left content)
+        inl (refl, any_reading d.held left (λ read. IsStopped read most content left content) (λ read. nothing_stopped read most content left (limit_few words most e)))
+    go (Some (Command.Run play)) e = inl (refl, none (options_of play) d up left content)
     go (Some Command.Check) e = inl (refl, nothing_begun left content content refl)
     go (Some (Command.Verify most)) e = inl (refl, no_verdict most left content)
     go (Some (Command.Generate load)) e = inl (refl, nothing_front content content (load_of load.from load.size) refl)

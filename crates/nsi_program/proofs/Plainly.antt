@@ -15,7 +15,7 @@ use Rattle.provide_command.specs.Promise.{is_told, promise_of, IsKept, IsComplet
 use Rattle.provide_command.specs.Provided.{HasProvided, CountsEnd}
 use Rattle.provide_command.specs.Writes.{WritesSome, WritesSomeFront}
 use Rattle.provide_command.proofs.Declared.{is_complete, is_safe, names_fault}
-use Rattle.run_command.specs.Ends.{IsCutShort as RunIsCutShort}
+use Rattle.run_command.specs.Ends.{IsCutShort as RunIsCutShort, IsQuiet}
 use Rattle.run_command.specs.Runs.{Breaks, KeepsRun}
 use Rattle.nsi_base.specs.Lines.{lines_of}
 use Rattle.nsi_base.specs.Range.{greatest_input}
@@ -28,7 +28,7 @@ use Rattle.nsi_program.specs.Check.{Checks, ChecksIf, ChecksRead, Begins}
 use Rattle.nsi_program.specs.Ends.{HasTopology, IsChecked, IsCutShort}
 use Rattle.nsi_program.proofs.Nothing.{BeginWithNothing, nothing_backs, nothing_cut_short}
 use Rattle.command_words.specs.Words.{command_of}
-use Rattle.nsi_program.specs.Plain.{Outside, EndsPlainly}
+use Rattle.nsi_program.specs.Plain.{Outside, disks_of, EndsPlainly}
 use Rattle.nsi_program.specs.RunsTo.{RunsTo, options_of, HidesDisks}
 use Rattle.nsi_program.specs.VerifiesTo.{VerifiesTo, BeginsVerify}
 use Rattle.nsi_program.proofs.Ended.{provide_ended, with_reading, check_ended, usage_ended, check_cut_short, usage_cut_short, generate_ended, generate_cut_short, generated_is, run_ended, run_names_fault, verify_ended, verify_names_fault}
@@ -41,7 +41,7 @@ pub provide_plain : (most : ℕ) (old new : Outside) (status : Status) → most 
     → HasProvided old.holds most old.content old.left new.left old.counts new.counts status new.content → CountsEnd old.counts new.counts old.writes new.writes status
     → Backs old.holds new.holds old.content old.left new.content → EndsPlainly (Some (Command.Provide most)) old new status
 provide_plain most old new status few p q b = record {
-  ends = λ told. provide_ended _ most old.holds old.content old.left new.content status refl (p.ends told);
+  ends = λ told. provide_ended _ most (disks_of old new) old.content old.left new.content status refl (p.ends told);
   complete = λ m e told. with_reading old.holds old.left (λ read. IsKept (promise_of read most old.content old.left) status new.content) (λ read. IsComplete read m old.content old.left status)
       (λ read kept. subst (λ k. IsComplete read k old.content old.left status) (same most m e) (is_complete read most old.content old.left new.content status few kept)) (p.ends told);
   safe = λ m e told. with_reading old.holds old.left (λ read. IsKept (promise_of read most old.content old.left) status new.content) (λ read. IsSafe read old.content old.left status new.content)
@@ -135,7 +135,7 @@ pub record HasChecked (old : Outside) (content left : Option (List ℕ)) (reads 
 pub check_plain : (old : Outside) (content left : Option (List ℕ)) (reads writes : ℕ) (status : Status) → HasChecked old content left reads writes status
     → EndsPlainly (Some Command.Check) old (after old content left reads writes) status
 check_plain old content left reads writes status p = record {
-  ends = λ told. check_ended _ old.holds old.content old.left content status refl (p.ends told);
+  ends = λ told. check_ended _ (disks_of old (after old content left reads writes)) old.content old.left content status refl (p.ends told);
   complete = λ m e. absurd (no_provide m e);
   safe = λ m e. absurd (no_provide m e);
   checked = λ e told. check_done old.content old.left content status (p.ends told);
@@ -145,7 +145,7 @@ check_plain old content left reads writes status p = record {
   cut = p.alone;
   alone = λ e. p.alone;
   write_fault = p.write_fault;
-  unfinished = λ short. check_cut_short _ old.holds old.content old.left left old.counts (record old.counts { reads = reads }) content refl (p.unfinished short);
+  unfinished = λ short. check_cut_short _ (disks_of old (after old content left reads writes)) old.content old.left left old.counts (record old.counts { reads = reads }) content refl (p.unfinished short);
   disk_fault = λ e. absurd (p.not_disk e);
   broken = λ e. absurd (p.not_disk e);
   backed = λ m e. absurd (no_provide m e);
@@ -179,7 +179,7 @@ pub record HasWritten (text : List ℕ) (said : Status) (old : Outside) (content
 pub generate_plain : (load : Load) (old : Outside) (content : Option (List ℕ)) (writes : ℕ) (status : Status) → HasWritten (load_of load.from load.size) Status.Done old content writes status
     → EndsPlainly (Some (Command.Generate load)) old (after old content old.left old.counts.reads writes) status
 generate_plain load old content writes status p = record {
-  ends = λ told. generate_ended _ load old.holds old.content old.left content status refl (p.told told);
+  ends = λ told. generate_ended _ load (disks_of old (after old content old.left old.counts.reads writes)) old.content old.left content status refl (p.told told);
   complete = λ m e. absurd (no_provide m e);
   safe = λ m e. absurd (no_provide m e);
   checked = λ e. absurd (no_check e);
@@ -189,7 +189,7 @@ generate_plain load old content writes status p = record {
   cut = λ e. absurd (p.not_read e);
   alone = λ e. absurd (no_check e);
   write_fault = p.write;
-  unfinished = λ short. generate_cut_short _ load old.holds old.content old.left old.left old.counts content status refl p.front short;
+  unfinished = λ short. generate_cut_short _ load (disks_of old (after old content old.left old.counts.reads writes)) old.content old.left old.left old.counts content status refl p.front short;
   disk_fault = λ e. absurd (p.not_disk e);
   broken = λ e. absurd (p.not_disk e);
   backed = λ m e. absurd (no_provide m e);
@@ -213,7 +213,7 @@ generate_plain load old content writes status p = record {
 pub usage_plain : (old : Outside) (content : Option (List ℕ)) (writes : ℕ) (status : Status) → HasWritten (as_line (codes "fault usage")) Status.Usage old content writes status
     → EndsPlainly None old (after old content old.left old.counts.reads writes) status
 usage_plain old content writes status p = record {
-  ends = λ told. usage_ended _ old.holds old.content old.left content status refl (p.told told);
+  ends = λ told. usage_ended _ (disks_of old (after old content old.left old.counts.reads writes)) old.content old.left content status refl (p.told told);
   complete = λ m e. absurd (no_command (Command.Provide m) e);
   safe = λ m e. absurd (no_command (Command.Provide m) e);
   checked = λ e. absurd (no_command Command.Check e);
@@ -223,7 +223,7 @@ usage_plain old content writes status p = record {
   cut = λ e. absurd (p.not_read e);
   alone = λ e. absurd (no_command Command.Check e);
   write_fault = p.write;
-  unfinished = λ short. usage_cut_short _ old.holds old.content old.left old.left old.counts content status refl p.front short;
+  unfinished = λ short. usage_cut_short _ (disks_of old (after old content old.left old.counts.reads writes)) old.content old.left old.left old.counts content status refl p.front short;
   disk_fault = λ e. absurd (p.not_disk e);
   broken = λ e. absurd (p.not_disk e);
   backed = λ m e. absurd (no_command (Command.Provide m) e);
@@ -252,7 +252,7 @@ nothing_plain none words old = record {
   cut = λ e. absurd (no_read e);
   alone = λ named e. absurd (no_read e);
   write_fault = λ e. absurd (no_write e);
-  unfinished = λ _. nothing_cut_short none words old.holds old.content old.left old.counts;
+  unfinished = λ _. nothing_cut_short none words (disks_of old old) (omega arith) old.content old.left old.counts;
   disk_fault = λ e. absurd (no_disk e);
   broken = λ e. absurd (no_disk e);
   backed = λ m e. nothing_backs old.holds old.content old.left;
@@ -283,28 +283,28 @@ nothing_plain none words old = record {
 
 -- what `run` promises
 pub record HasRun (play : Play) (old new : Outside) (status : Status) : Type 0 where
-  pub ends : is_told status ≡ true → IfSome old.left (λ bytes. WritesSome (RunsTo (options_of play) old.holds bytes status) old.content new.content)
+  pub ends : is_told status ≡ true → IfSome old.left (λ bytes. WritesSome (RunsTo (options_of play) (disks_of old new) bytes status) old.content new.content)
   pub read_fault : status ≡ Status.ReadFault → old.counts.reads < new.counts.reads
   pub alone : status ≡ Status.ReadFault → Writes old.content new.content read_fault_line
   pub write_fault : status ≡ Status.WriteFault → old.writes < new.writes
   pub disk_fault : status ≡ Status.DiskFault → HasDiskFault old.counts new.counts
-  pub broken : status ≡ Status.DiskFault → IfSome old.left (λ bytes. WritesSome (Breaks (options_of play) old.holds bytes) old.content new.content)
-  pub unfinished : (status ≡ Status.WriteFault) ⊎ (status ≡ Status.NoMemory) → RunIsCutShort (options_of play) old.holds old.content old.left old.counts new.counts new.content
+  pub broken : status ≡ Status.DiskFault → IfSome old.left (λ bytes. WritesSome (Breaks (options_of play) (disks_of old new) bytes) old.content new.content)
+  pub unfinished : (status ≡ Status.WriteFault) ⊎ (status ≡ Status.NoMemory) → RunIsCutShort (options_of play) (disks_of old new) old.content old.left old.counts new.counts new.content
   pub quiet_in : is_told status ≡ true → new.counts.reads ≡ old.counts.reads
   pub quiet_out : is_told status ≡ true → new.writes ≡ old.writes
-  pub quiet_disk : is_told status ≡ true → (HidesDisks status → ⊥) → Raised old.counts.faults 0 new.counts.faults × Raised old.counts.stops 0 new.counts.stops
+  pub quiet_disk : is_told status ≡ true → (HidesDisks status → ⊥) → IsQuiet old.counts new.counts
   pub reading : status ≡ Status.ReadFault → new.writes ≡ old.writes
   pub memory : status ≡ Status.NoMemory → new.writes ≡ old.writes
-  pub journals : status ≡ Status.Done → IfSome old.left (λ bytes. KeepsRun bytes old.holds new.holds)
+  pub journals : status ≡ Status.Done → IfSome old.left (λ bytes. KeepsRun bytes (disks_of old new))
 
 pub run_plain : (play : Play) (old new : Outside) (status : Status) → HasRun play old new status → EndsPlainly (Some (Command.Run play)) old new status
 run_plain play old new status p = record {
-  ends = λ told. run_ended _ play old.holds old.content old.left new.content status refl (p.ends told);
+  ends = λ told. run_ended _ play (disks_of old new) old.content old.left new.content status refl (p.ends told);
   complete = λ m e. absurd (no_provide m e);
   safe = λ m e. absurd (no_provide m e);
   checked = λ e. absurd (no_check e);
   generated = λ load e. absurd (no_load load e);
-  bad_topology = λ _ told. run_names_fault (options_of play) old.holds old.content old.left new.content status (p.ends told);
+  bad_topology = λ _ told. run_names_fault (options_of play) (disks_of old new) old.content old.left new.content status (p.ends told);
   read_fault = p.read_fault;
   cut = p.alone;
   alone = λ e. absurd (no_check e);
@@ -350,7 +350,7 @@ pub record HasVerified (most : ℕ) (old : Outside) (content left : Option (List
 pub verify_plain : (most : ℕ) (old : Outside) (content left : Option (List ℕ)) (reads writes : ℕ) (status : Status) → HasVerified most old content left reads writes status
     → EndsPlainly (Some (Command.Verify most)) old (after old content left reads writes) status
 verify_plain most old content left reads writes status p = record {
-  ends = λ told. verify_ended most old.holds old.content old.left content status (p.ends told);
+  ends = λ told. verify_ended most (disks_of old (after old content left reads writes)) old.content old.left content status (p.ends told);
   complete = λ m e. absurd (no_provide m e);
   safe = λ m e. absurd (no_provide m e);
   checked = λ e. absurd (no_check e);
@@ -385,6 +385,6 @@ verify_plain most old content left reads writes status p = record {
     no_play play e = cc
 
     by_fault : ((reads ≡ old.counts.reads) × IfSome old.left (λ bytes. WritesSomeFront (BeginsVerify most bytes) old.content content)) ⊎ ((old.counts.reads < reads) × WritesFront old.content content read_fault_line)
-        → IsCutShort (Some (Command.Verify most)) old.holds old.content old.left left old.counts (record old.counts { reads = reads }) content
+        → IsCutShort (Some (Command.Verify most)) (disks_of old (after old content left reads writes)) old.content old.left left old.counts (record old.counts { reads = reads }) content
     by_fault (inl w) = inl w
     by_fault (inr w) = inr (inl w)

@@ -15,7 +15,9 @@ use Rattle.provide_command.specs.Cut.{IsCutByFault, IsFrontOfCut, IsStopped}
 use Rattle.provide_command.specs.Ends.{WithReading, IsBroken as IsProvideBroken, IsCutInDisk as IsProvideCutInDisk}
 use Rattle.provide_command.specs.Promise.{behind_content, promise_of, Writes, WritesFront, IsKept}
 use Rattle.provide_command.specs.Writes.{WritesSome, WritesSomeFront}
-use Rattle.run_command.specs.Runs.{Begins as RunBegins, Breaks}
+use Rattle.nsi_disk.specs.ShelfCounts.{Raised}
+use Rattle.run_command.specs.Ends.{IsQuiet}
+use Rattle.run_command.specs.Runs.{Disks, Begins as RunBegins, Breaks}
 use Rattle.nsi_program.specs.Check.{Checks, Begins}
 use Rattle.nsi_program.specs.RunsTo.{RunsTo, options_of, HidesDisks}
 use Rattle.nsi_program.specs.VerifiesTo.{VerifiesTo, BeginsVerify}
@@ -37,17 +39,17 @@ Promises ends (Some c) (Some bytes) promise = (end : Status × List ℕ) × ends
 ---- Ends
 
 -- what the command, its input and its journal promise of how it ends
-abbrev pub MayEnd : Option Command → (List ℕ → Option (List ℕ)) → Option (List ℕ) → Option (List ℕ) → Option (Status × List ℕ) → Type 0
-MayEnd None holds content left promise = promise ≡ usage_promise content
-MayEnd (Some (Command.Provide most)) holds content left promise = WithReading holds left (λ read. promise ≡ promise_of read most content left)
-MayEnd (Some (Command.Run play)) holds content left promise = Promises (λ bytes end. RunsTo (options_of play) holds bytes end.0 end.1) content left promise
-MayEnd (Some Command.Check) holds content left promise = Promises (λ bytes end. Checks bytes end.0 end.1) content left promise
-MayEnd (Some (Command.Verify most)) holds content left promise = Promises (λ bytes end. VerifiesTo most bytes end.0 end.1) content left promise
-MayEnd (Some (Command.Generate load)) holds content left promise = promise ≡ load_promise load content
+abbrev pub MayEnd : Option Command → Disks → Option (List ℕ) → Option (List ℕ) → Option (Status × List ℕ) → Type 0
+MayEnd None d content left promise = promise ≡ usage_promise content
+MayEnd (Some (Command.Provide most)) d content left promise = WithReading d.held left (λ read. promise ≡ promise_of read most content left)
+MayEnd (Some (Command.Run play)) d content left promise = Promises (λ bytes end. RunsTo (options_of play) d bytes end.0 end.1) content left promise
+MayEnd (Some Command.Check) d content left promise = Promises (λ bytes end. Checks bytes end.0 end.1) content left promise
+MayEnd (Some (Command.Verify most)) d content left promise = Promises (λ bytes end. VerifiesTo most bytes end.0 end.1) content left promise
+MayEnd (Some (Command.Generate load)) d content left promise = promise ≡ load_promise load content
 
 -- the command has ended as it may
-abbrev pub HasEnded : Option Command → (List ℕ → Option (List ℕ)) → Option (List ℕ) → Option (List ℕ) → Status → Option (List ℕ) → Type 0
-HasEnded command holds content left status new = (promise : Option (Status × List ℕ)) × MayEnd command holds content left promise × IsKept promise status new
+abbrev pub HasEnded : Option Command → Disks → Option (List ℕ) → Option (List ℕ) → Status → Option (List ℕ) → Type 0
+HasEnded command d content left status new = (promise : Option (Status × List ℕ)) × MayEnd command d content left promise × IsKept promise status new
 
 -- Reading failed. `provide` has answered all lines that ended within what was read, `check`, `run` and `verify` none; `generate` and words of no form read nothing.
 abbrev pub IsCut : Option Command → (List ℕ → Option (List ℕ)) → (content left rest new : Option (List ℕ)) → Type 0
@@ -60,19 +62,19 @@ IsCut (Some (Command.Generate load)) holds content left rest new = ⊥
 
 -- A disk failed or stopped. `provide` has answered some first lines, `run` has written some first groups, and behind them stands whose disk it was; no
 -- other command has a disk.
-abbrev pub IsBroken : Option Command → (List ℕ → Option (List ℕ)) → (content left new : Option (List ℕ)) → Type 0
-IsBroken (Some (Command.Provide most)) holds content left new = IsProvideBroken most holds content left new
-IsBroken (Some (Command.Run play)) holds content left new = IfSome left (λ bytes. WritesSome (Breaks (options_of play) holds bytes) content new)
-IsBroken _ holds content left new = ⊥
+abbrev pub IsBroken : Option Command → Disks → (content left new : Option (List ℕ)) → Type 0
+IsBroken (Some (Command.Provide most)) d content left new = IsProvideBroken most d.held content left new
+IsBroken (Some (Command.Run play)) d content left new = IfSome left (λ bytes. WritesSome (Breaks (options_of play) d bytes) content new)
+IsBroken _ d content left new = ⊥
 
 -- Writing was cut short, and no read has failed.
-abbrev pub IsCutInAnswers : Option Command → (List ℕ → Option (List ℕ)) → (content left new : Option (List ℕ)) → Type 0
-IsCutInAnswers None holds content left new = WritesFront content new (as_line (codes "fault usage"))
-IsCutInAnswers (Some (Command.Provide most)) holds content left new = WithReading holds left (λ read. IsStopped read most content left new)
-IsCutInAnswers (Some (Command.Run play)) holds content left new = IfSome left (λ bytes. WritesSomeFront (RunBegins (options_of play) holds bytes) content new)
-IsCutInAnswers (Some Command.Check) holds content left new = IfSome left (λ bytes. WritesSomeFront (Begins bytes) content new)
-IsCutInAnswers (Some (Command.Verify most)) holds content left new = IfSome left (λ bytes. WritesSomeFront (BeginsVerify most bytes) content new)
-IsCutInAnswers (Some (Command.Generate load)) holds content left new = WritesFront content new (load_of load.from load.size)
+abbrev pub IsCutInAnswers : Option Command → Disks → (content left new : Option (List ℕ)) → Type 0
+IsCutInAnswers None d content left new = WritesFront content new (as_line (codes "fault usage"))
+IsCutInAnswers (Some (Command.Provide most)) d content left new = WithReading d.held left (λ read. IsStopped read most content left new)
+IsCutInAnswers (Some (Command.Run play)) d content left new = IfSome left (λ bytes. WritesSomeFront (RunBegins (options_of play) d bytes) content new)
+IsCutInAnswers (Some Command.Check) d content left new = IfSome left (λ bytes. WritesSomeFront (Begins bytes) content new)
+IsCutInAnswers (Some (Command.Verify most)) d content left new = IfSome left (λ bytes. WritesSomeFront (BeginsVerify most bytes) content new)
+IsCutInAnswers (Some (Command.Generate load)) d content left new = WritesFront content new (load_of load.from load.size)
 
 -- Writing was cut short within the line of a fault of reading.
 abbrev pub IsCutInFault : Option Command → (List ℕ → Option (List ℕ)) → (content left rest new : Option (List ℕ)) → Type 0
@@ -84,16 +86,16 @@ IsCutInFault (Some (Command.Verify most)) holds content left rest new = WritesFr
 IsCutInFault (Some (Command.Generate load)) holds content left rest new = ⊥
 
 -- Writing was cut short within the line of a disk's fault.
-abbrev pub IsCutInDisk : Option Command → (List ℕ → Option (List ℕ)) → (content left new : Option (List ℕ)) → Type 0
-IsCutInDisk (Some (Command.Provide most)) holds content left new = IsProvideCutInDisk most holds content left new
-IsCutInDisk (Some (Command.Run play)) holds content left new = IfSome left (λ bytes. WritesSomeFront (Breaks (options_of play) holds bytes) content new)
-IsCutInDisk _ holds content left new = ⊥
+abbrev pub IsCutInDisk : Option Command → Disks → (content left new : Option (List ℕ)) → Type 0
+IsCutInDisk (Some (Command.Provide most)) d content left new = IsProvideCutInDisk most d.held content left new
+IsCutInDisk (Some (Command.Run play)) d content left new = IfSome left (λ bytes. WritesSomeFront (Breaks (options_of play) d bytes) content new)
+IsCutInDisk _ d content left new = ⊥
 
 -- Writing was cut short: in the answers, or behind a fault of reading or of the disk, whose counts then rose.
-abbrev pub IsCutShort : Option Command → (List ℕ → Option (List ℕ)) → (content left rest : Option (List ℕ)) → (before after : Counts) → Option (List ℕ) → Type 0
-IsCutShort command holds content left rest before after new =
-    ((after.reads ≡ before.reads) × IsCutInAnswers command holds content left new) ⊎ ((before.reads < after.reads) × IsCutInFault command holds content left rest new)
-    ⊎ (HasDiskFault before after × IsCutInDisk command holds content left new)
+abbrev pub IsCutShort : Option Command → Disks → (content left rest : Option (List ℕ)) → (before after : Counts) → Option (List ℕ) → Type 0
+IsCutShort command d content left rest before after new =
+    ((after.reads ≡ before.reads) × IsCutInAnswers command d content left new) ⊎ ((before.reads < after.reads) × IsCutInFault command d.held content left rest new)
+    ⊎ (HasDiskFault before after × IsCutInDisk command d content left new)
 
 -- The lines begin with a topology.
 abbrev pub HasTopology : List (List ℕ) → Type 0
@@ -111,6 +113,11 @@ ReadsTopology (Some (Command.Run play)) = ⊤
 ReadsTopology (Some Command.Check) = ⊤
 ReadsTopology (Some (Command.Verify most)) = ⊤
 ReadsTopology (Some (Command.Generate load)) = ⊥
+
+-- No call of a disk has failed, and but in `run`, whose agents go on from what a stop leaves, none has stopped a disk.
+abbrev pub AreQuiet : Option Command → Counts → Counts → Type 0
+AreQuiet (Some (Command.Run play)) before after = IsQuiet before after
+AreQuiet _ before after = Raised before.faults 0 after.faults × Raised before.stops 0 after.stops
 
 -- A fault of a disk is told: but where `run` has too many events, or a journal without a reading.
 abbrev pub TellsDisks : Option Command → Status → Type 0

@@ -1,9 +1,8 @@
 -- How the command `run` ends, as the program tells it.
 use Rattle.std.specs.Prelude.{◌≡◌, ℕ, List}
 use Rattle.agent_threads.specs.declared.report.RunOptions.{RunOptions}
-use Rattle.net_run.specs.Worlds.{Holds}
 use Rattle.run_command.specs.declared.command.RunEnd.{RunEnd}
-use Rattle.run_command.specs.Runs.{Runs}
+use Rattle.run_command.specs.Runs.{Disks, Runs}
 use Rattle.provide_command.specs.declared.status.Status.{Status}
 use Rattle.command_words.specs.declared.command.Play.{Play}
 
@@ -22,9 +21,9 @@ status_of_run RunEnd.NotAJournal = Status.NotAJournal
 abbrev pub options_of : Play → RunOptions
 options_of play = record { limit = play.most; report = play.report }
 
--- `run` ends on these bytes over such a shelf with this status, and that is all that it writes
-abbrev pub RunsTo : RunOptions → Holds → List ℕ → Status → List ℕ → Type 0
-RunsTo options holds bytes status text = (end : RunEnd) × (status ≡ status_of_run end) × Runs options holds bytes end text
+-- `run` ends on these bytes over such disks with this status, and that is all that it writes
+abbrev pub RunsTo : RunOptions → Disks → List ℕ → Status → List ℕ → Type 0
+RunsTo options d bytes status text = (end : RunEnd) × (status ≡ status_of_run end) × Runs options d bytes end text
 
 -- behind a run that ends so the counts of disks may have risen: in the round that has too many events, and where a journal has no reading
 abbrev pub HidesDisks : Status → Type 0

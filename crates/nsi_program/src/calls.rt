@@ -1,7 +1,6 @@
 //! The top calls.
 
 ghost use Rattle.std.specs.Prelude.{◌≡◌, ℕ, ◌<◌, ◌↔◌, ◌⊎◌, codes, map, string_bytes, true, false, None, Some, IfSome};
-ghost use Rattle.nsi_disk.specs.ShelfCounts.{Raised};
 ghost use Rattle.provide_command.specs.Backed.{Backs};
 ghost use Rattle.fault_lines.specs.Lines.{as_line};
 ghost use Rattle.provide_command.specs.Promise.{is_told, read_fault_line, Writes, WritesFront, IsComplete, IsSafe, NamesFault};
@@ -10,10 +9,10 @@ ghost use Rattle.command_words.specs.declared.command.Command.TheVariants.{Provi
 ghost use Rattle.command_words.specs.declared.command.Load.{Load};
 ghost use Rattle.command_words.specs.declared.command.Play.{Play};
 ghost use Rattle.nsi_script.specs.Load.{load_of};
-ghost use Rattle.run_command.specs.Runs.{KeepsRun};
+ghost use Rattle.run_command.specs.Runs.{disks, KeepsRun};
 ghost use Rattle.fault_lines.specs.Counts.{counted, HasDiskFault};
 ghost use Rattle.provide_command.specs.Ends.{WithReading};
-ghost use Rattle.nsi_program.specs.Ends.{HasEnded, IsChecked, IsCut, IsBroken, IsCutShort, ReadsTopology, TellsDisks};
+ghost use Rattle.nsi_program.specs.Ends.{HasEnded, IsChecked, IsCut, IsBroken, IsCutShort, ReadsTopology, TellsDisks, AreQuiet};
 ghost use Rattle.nsi_program.specs.Plain.{EndsPlainly, outside};
 
 use crate::check::check;
@@ -43,11 +42,12 @@ pub fn top_plain<R: Threads + Sync, S: Source, K: Sink, H: Shelf>(
 ) -> Status
 where
     H::Disk: Drop + Send,
-    // The words, the bytes and the journal say how it ends and all that is written; of `run` where the shelf tells what
-    // it holds or the script restarts nobody.
+    // The words, the bytes and the journal say how it ends and all that is written; of `run` but for the disks that
+    // stop, where the shelf tells what it holds, or the script restarts nobody and no disk has stopped.
     ensures ends { is_told result ≡ true →
-        HasEnded (command_of (map string_bytes words.now)) (H.holds shelf.old) (K.content out.old)
-        (S.left input.old) result (K.content out.new) }
+        HasEnded (command_of (map string_bytes words.now))
+        (disks (H.holds shelf.old) (H.holds shelf.new) (H.stops shelf.old) (H.stops shelf.new))
+        (K.content out.old) (S.left input.old) result (K.content out.new) }
     ensures usage { is_told result ≡ true →
         ((result ≡ Status.Usage) ↔ (command_of (map string_bytes words.now) ≡ None)) }
 
@@ -79,7 +79,8 @@ where
         result ≡ Status.ReadFault → Writes (K.content out.old) (K.content out.new) read_fault_line }
     ensures write_fault { result ≡ Status.WriteFault → K.faults out.old < K.faults out.new }
     ensures unfinished { (result ≡ Status.WriteFault) ⊎ (result ≡ Status.NoMemory)
-        → IsCutShort (command_of (map string_bytes words.now)) (H.holds shelf.old)
+        → IsCutShort (command_of (map string_bytes words.now))
+        (disks (H.holds shelf.old) (H.holds shelf.new) (H.stops shelf.old) (H.stops shelf.new))
         (K.content out.old) (S.left input.old) (S.left input.new)
         (counted (S.faults input.old) (H.faults shelf.old) (H.stops shelf.old))
         (counted (S.faults input.new) (H.faults shelf.new) (H.stops shelf.new))
@@ -89,8 +90,9 @@ where
         (counted (S.faults input.old) (H.faults shelf.old) (H.stops shelf.old))
         (counted (S.faults input.new) (H.faults shelf.new) (H.stops shelf.new)) }
     ensures broken { result ≡ Status.DiskFault →
-        IsBroken (command_of (map string_bytes words.now)) (H.holds shelf.old) (K.content out.old)
-        (S.left input.old) (K.content out.new) }
+        IsBroken (command_of (map string_bytes words.now))
+        (disks (H.holds shelf.old) (H.holds shelf.new) (H.stops shelf.old) (H.stops shelf.new))
+        (K.content out.old) (S.left input.old) (K.content out.new) }
 
     // With every status, each whole line of a message is caused by entries that the disk given back recovers to.
     ensures backed { (most : ℕ) →
@@ -98,20 +100,23 @@ where
         Backs (H.holds shelf.old) (H.holds shelf.new) (K.content out.old) (S.left input.old)
         (K.content out.new) }
 
-    // With Done the disk of each agent of `run` reads as its journal of the play, where the shelf told what it held.
+    // With Done the disk of each agent of `run` reads as its journal of such a play, where the shelf told what it held.
     ensures journals { (play : Play)
         → command_of (map string_bytes words.now) ≡ Some (RunValue play)
         → result ≡ Status.Done → IfSome (S.left input.old)
-        (λ bytes. KeepsRun bytes (H.holds shelf.old) (H.holds shelf.new)) }
+        (λ bytes. KeepsRun bytes
+        (disks (H.holds shelf.old) (H.holds shelf.new) (H.stops shelf.old) (H.stops shelf.new))) }
 
     // No fault is swallowed, and none is told as want of memory; but a failed read is, or a failed disk, where there is
     // no memory for its line. In the round of `run` that has too many events another agent's disk may have failed too,
-    // and so may one whose journal has no reading.
+    // and so may one whose journal has no reading; a disk that has stopped in a round is no fault.
     ensures quiet_in { is_told result ≡ true → S.faults input.new ≡ S.faults input.old }
     ensures quiet_out { is_told result ≡ true → K.faults out.new ≡ K.faults out.old }
     ensures quiet_disk { is_told result ≡ true →
-        TellsDisks (command_of (map string_bytes words.now)) result → Raised (H.faults shelf.old) 0 (H.faults shelf.new)
-        × Raised (H.stops shelf.old) 0 (H.stops shelf.new) }
+        TellsDisks (command_of (map string_bytes words.now)) result →
+        AreQuiet (command_of (map string_bytes words.now))
+        (counted (S.faults input.old) (H.faults shelf.old) (H.stops shelf.old))
+        (counted (S.faults input.new) (H.faults shelf.new) (H.stops shelf.new)) }
     ensures reading { result ≡ Status.ReadFault → K.faults out.new ≡ K.faults out.old }
     ensures memory { result ≡ Status.NoMemory → K.faults out.new ≡ K.faults out.old }
 {

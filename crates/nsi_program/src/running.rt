@@ -1,9 +1,8 @@
 //! The command `run`, as the program tells how it ends.
 
 ghost use Rattle.std.specs.Prelude.{◌≡◌, ◌<◌, ◌⊎◌, true, IfSome};
-ghost use Rattle.run_command.specs.Ends.{IsCutShort as IsRunCutShort, is_told as is_told_end, HidesDisks as HidesEnd};
-ghost use Rattle.run_command.specs.Runs.{KeepsRun, Breaks as BreaksRun};
-ghost use Rattle.nsi_disk.specs.ShelfCounts.{Raised};
+ghost use Rattle.run_command.specs.Ends.{IsCutShort as IsRunCutShort, IsQuiet, is_told as is_told_end, HidesDisks as HidesEnd};
+ghost use Rattle.run_command.specs.Runs.{disks, KeepsRun, Breaks as BreaksRun};
 ghost use Rattle.fault_lines.specs.Counts.{counted, HasDiskFault};
 ghost use Rattle.provide_command.specs.Promise.{is_told, read_fault_line, Writes};
 ghost use Rattle.nsi_program.specs.RunsTo.{RunsTo, options_of, status_of_run, HidesDisks};
@@ -51,8 +50,9 @@ pub(crate) fn run<R: Threads + Sync, S: Source, K: Sink, H: Shelf>(
 where
     H::Disk: Drop + Send,
     ensures ends { is_told result ≡ true → IfSome (S.left input.old)
-        (λ bytes. WritesSome (RunsTo (options_of play) (H.holds shelf.old) bytes result)
-        (K.content out.old) (K.content out.new)) }
+        (λ bytes. WritesSome (RunsTo (options_of play)
+        (disks (H.holds shelf.old) (H.holds shelf.new) (H.stops shelf.old) (H.stops shelf.new))
+        bytes result) (K.content out.old) (K.content out.new)) }
     ensures not_usage { result ≡ Status.Usage → ⊥ }
     ensures read_fault { result ≡ Status.ReadFault → S.faults input.old < S.faults input.new }
     ensures alone { result ≡ Status.ReadFault →
@@ -63,23 +63,27 @@ where
         (counted (S.faults input.old) (H.faults shelf.old) (H.stops shelf.old))
         (counted (S.faults input.new) (H.faults shelf.new) (H.stops shelf.new)) }
     ensures broken { result ≡ Status.DiskFault → IfSome (S.left input.old)
-        (λ bytes. WritesSome (BreaksRun (options_of play) (H.holds shelf.old) bytes)
-        (K.content out.old) (K.content out.new)) }
+        (λ bytes. WritesSome (BreaksRun (options_of play)
+        (disks (H.holds shelf.old) (H.holds shelf.new) (H.stops shelf.old) (H.stops shelf.new))
+        bytes) (K.content out.old) (K.content out.new)) }
     ensures unfinished { (result ≡ Status.WriteFault) ⊎ (result ≡ Status.NoMemory) →
-        IsRunCutShort (options_of play) (H.holds shelf.old) (K.content out.old)
-        (S.left input.old)
+        IsRunCutShort (options_of play)
+        (disks (H.holds shelf.old) (H.holds shelf.new) (H.stops shelf.old) (H.stops shelf.new))
+        (K.content out.old) (S.left input.old)
         (counted (S.faults input.old) (H.faults shelf.old) (H.stops shelf.old))
         (counted (S.faults input.new) (H.faults shelf.new) (H.stops shelf.new))
         (K.content out.new) }
     ensures quiet_in { is_told result ≡ true → S.faults input.new ≡ S.faults input.old }
     ensures quiet_out { is_told result ≡ true → K.faults out.new ≡ K.faults out.old }
     ensures quiet_disk { is_told result ≡ true → (HidesDisks result → ⊥) →
-        Raised (H.faults shelf.old) 0 (H.faults shelf.new)
-        × Raised (H.stops shelf.old) 0 (H.stops shelf.new) }
+        IsQuiet
+        (counted (S.faults input.old) (H.faults shelf.old) (H.stops shelf.old))
+        (counted (S.faults input.new) (H.faults shelf.new) (H.stops shelf.new)) }
     ensures reading { result ≡ Status.ReadFault → K.faults out.new ≡ K.faults out.old }
     ensures memory { result ≡ Status.NoMemory → K.faults out.new ≡ K.faults out.old }
     ensures journals { result ≡ Status.Done → IfSome (S.left input.old)
-        (λ bytes. KeepsRun bytes (H.holds shelf.old) (H.holds shelf.new)) }
+        (λ bytes. KeepsRun bytes
+        (disks (H.holds shelf.old) (H.holds shelf.new) (H.stops shelf.old) (H.stops shelf.new))) }
 {
     let resources = Resources {
         alloc,

@@ -10,13 +10,13 @@ use Rattle.agent_threads.specs.declared.fault.RunFault.{RunFault}
 use Rattle.agent_threads.specs.Reports.{written}
 use Rattle.agent_threads.specs.declared.report.RunOptions.{RunOptions}
 use Rattle.agent_threads.specs.Made.{IsOfAgent}
-use Rattle.net_run.specs.Held.{IsShown}
-use Rattle.net_run.specs.Shelves.{HasBroken, HasFaultOf}
-use Rattle.net_run.specs.Worlds.{Holds, WritesPlay, WritesTooLong, WritesGroups, WritesSomeOfPlay}
+use Rattle.net_run.specs.Held.{AreTold, IsShown}
+use Rattle.net_run.specs.Shelves.{HasBroken, HasFaultOf, IsUnread}
+use Rattle.net_run.specs.Worlds.{WritesPlay, WritesTooLong, WritesGroups, WritesSomeOfPlay}
 use Rattle.nsi_play.specs.Openings.{plans_of}
 use Rattle.run_command.specs.declared.command.RunEnd.{RunEnd}
-use Rattle.run_command.specs.Runs.{Plays, BeginsPlay, BreaksPlay, no_text, closing_line}
-use Rattle.run_command.proofs.Wholes.{PlaysRun, FrontsRun}
+use Rattle.run_command.specs.Runs.{Disks, Plays, BeginsPlay, BreaksPlay, KeepsPlay, no_text, closing_line}
+use Rattle.run_command.proofs.Wholes.{CanRun, whole_run, front_run}
 use Rattle.run_command.specs.Ends.{HidesDisks, IsOfAgent as IsFaultOf, is_told, WritesSome, WritesSomeFront, Counts, HasDiskFault, Closes, IsQuiet, FailsAs, HasRun, HasPlayed}
 use Rattle.run_command.proofs.Closing.{behind_all, behind_front}
 
@@ -131,61 +131,81 @@ run_along T U F G B D old new before after b a end f g h k =
 
 ---- Plays
 
-module _ (t : Network) (options : RunOptions) (holds : Holds) (script : Script) (old mid new : Option (List ℕ)) (before after : Counts) (b m a : ℕ) (same : m ≡ b) (end : RunEnd) where
+-- what the call of a play promises, where it is over
+abbrev pub PlayOver : Network → RunOptions → Disks → Script → (old new : Option (List ℕ)) → Totals → Type 0
+PlayOver t options d script old new n = WritesPlay t options (plans_of script.lose) d.held d.holds d.before d.after script.groups old new n
+
+-- and where it passes the limit
+abbrev pub PlayTooLong : Network → RunOptions → Disks → Script → (old new : Option (List ℕ)) → Type 0
+PlayTooLong t options d script old new = WritesTooLong t options (plans_of script.lose) d.held d.before d.after script.groups old new
+
+-- and where a disk has failed, or a journal has no reading
+abbrev pub PlayBroken : Network → RunOptions → Disks → Script → (old new : Option (List ℕ)) → Type 0
+PlayBroken t options d script old new = WritesGroups t options (plans_of script.lose) d.held d.before d.after script.groups old new
+
+-- and on each other fault
+abbrev pub PlayCut : Network → RunOptions → Disks → Script → (old new : Option (List ℕ)) → Type 0
+PlayCut t options d script old new = WritesSomeOfPlay t options (plans_of script.lose) d.held d.before d.after script.groups old new
+
+-- the journals that it leaves
+pub kept_play : (t : Network) (options : RunOptions) (d : Disks) (script : Script) (old new : Option (List ℕ)) (n : Totals) → PlayOver t options d script old new n → KeepsPlay d t script
+kept_play t options d script old new n w = (w.0, w.1, w.2)
+
+module _ (t : Network) (options : RunOptions) (d : Disks) (script : Script) (old mid new : Option (List ℕ)) (before after : Counts) (b m a : ℕ) (same : m ≡ b) (end : RunEnd) where
   closes_from : (line : List ℕ) (own : RunEnd) → Closes line own end mid new m a → Closes line own end mid new b a
   closes_from line own k = let P : ℕ → Type 0 = λ x. Closes line own end mid new x a in subst P same k
 
-  pub settled_run : PlaysRun options.limit t script → (n : Totals) → WritesPlay t options (plans_of script.lose) holds script.groups old mid n → Closes (closing_line options.report n) RunEnd.Done end mid new m a → IsQuiet before after → HasPlayed options holds t script old new before after b a end
-  settled_run runs n w k q =
+  pub settled_run : CanRun options.limit t script → (n : Totals) → PlayOver t options d script old mid n → Closes (closing_line options.report n) RunEnd.Done end mid new m a → IsQuiet before after → HasPlayed options d t script old new before after b a end
+  settled_run can n w k q =
       let events = w.0 in
       let base = written options.report t events in
       let line = closing_line options.report n in
-      let is : Plays options holds t script RunEnd.Done (base ++ line) =
-      record { events = events; play = w.1; run = λ shown. runs events (w.1 shown) w.3; within = w.3; spelled = ap (λ (x : Totals). base ++ closing_line options.report x) w.2 } in
-      told_run (Plays options holds t script) (BeginsPlay options holds t script) (BreaksPlay options holds t script) old mid new before after b a base line end w.4
+      let is : Plays options d t script RunEnd.Done (base ++ line) =
+      record { events = events; play = w.1; run = whole_run options.limit t script d.held d.before d.after events can w.1 w.4; journals = w.2; within = w.4; spelled = ap (λ (x : Totals). base ++ closing_line options.report x) w.3 } in
+      told_run (Plays options d t script) (BeginsPlay options d t script) (BreaksPlay options d t script) old mid new before after b a base line end w.5
       RunEnd.Done (closes_from line RunEnd.Done k) refl is (inl (RunEnd.Done, is)) (λ _. q)
 
-  pub too_long_run : FrontsRun options.limit t script → WritesTooLong t options (plans_of script.lose) holds script.groups old mid → Closes long_line RunEnd.Long end mid new m a → HasPlayed options holds t script old new before after b a end
-  too_long_run fronts w k =
+  pub too_long_run : CanRun options.limit t script → PlayTooLong t options d script old mid → Closes long_line RunEnd.Long end mid new m a → HasPlayed options d t script old new before after b a end
+  too_long_run can w k =
       let text = written options.report t w.1 ++ long_line in
-      let is : Plays options holds t script RunEnd.Long text = record { groups = w.0; events = w.1; first = record { play = w.2; run = λ shown. fronts w.0 w.1 (w.2 shown) w.3; within = w.3 }; passes = w.4; spelled = refl } in
-      told_run (Plays options holds t script) (BeginsPlay options holds t script) (BreaksPlay options holds t script) old mid new before after b a (written options.report t w.1) long_line end w.5
+      let is : Plays options d t script RunEnd.Long text = record { groups = w.0; events = w.1; first = record { play = w.2; run = front_run options.limit t script d.held d.before d.after w.0 w.1 can w.2 w.3; within = w.3 }; passes = w.4; spelled = refl } in
+      told_run (Plays options d t script) (BeginsPlay options d t script) (BreaksPlay options d t script) old mid new before after b a (written options.report t w.1) long_line end w.5
       RunEnd.Long (closes_from long_line RunEnd.Long k) refl is (inl (RunEnd.Long, is)) (λ n. absurd (n tt))
 
-  pub failed_run : FrontsRun options.limit t script → (agent : ℕ) → WritesGroups t options (plans_of script.lose) holds script.groups old mid → Closes (disk_fault_line (name_of t agent)) RunEnd.DiskFault end mid new m a → HasDiskFault before after → HasPlayed options holds t script old new before after b a end
-  failed_run fronts agent w k d =
+  pub failed_run : CanRun options.limit t script → (agent : ℕ) → PlayBroken t options d script old mid → Closes (disk_fault_line (name_of t agent)) RunEnd.DiskFault end mid new m a → HasDiskFault before after → HasPlayed options d t script old new before after b a end
+  failed_run can agent w k h =
       let line = disk_fault_line (name_of t agent) in
-      let is : BreaksPlay options holds t script (written options.report t w.1 ++ line) = (agent, record { groups = w.0; events = w.1; first = record { play = w.2; run = λ shown. fronts w.0 w.1 (w.2 shown) w.3; within = w.3 }; spelled = refl }) in
-      broken_run (Plays options holds t script) (BeginsPlay options holds t script) (BreaksPlay options holds t script) old mid new before after b a (written options.report t w.1) line end w.4
-      (closes_from line RunEnd.DiskFault k) is d
+      let is : BreaksPlay options d t script (written options.report t w.1 ++ line) = (agent, record { groups = w.0; events = w.1; first = record { play = w.2; run = front_run options.limit t script d.held d.before d.after w.0 w.1 can w.2 w.3; within = w.3 }; spelled = refl }) in
+      broken_run (Plays options d t script) (BeginsPlay options d t script) (BreaksPlay options d t script) old mid new before after b a (written options.report t w.1) line end w.4
+      (closes_from line RunEnd.DiskFault k) is h
 
-  pub unread_run : FrontsRun options.limit t script → (agent place : ℕ) → (IsShown t script.groups holds → ⊥) → WritesGroups t options (plans_of script.lose) holds script.groups old mid → Closes (journal_fault (name_of t agent) place) RunEnd.NotAJournal end mid new m a
-      → HasPlayed options holds t script old new before after b a end
-  unread_run fronts agent place unshown w k =
+  pub unread_run : CanRun options.limit t script → (agent place : ℕ) → IsUnread (AreTold t d.held) (IsShown t script.groups d.held) d.before d.after → PlayBroken t options d script old mid → Closes (journal_fault (name_of t agent) place) RunEnd.NotAJournal end mid new m a
+      → HasPlayed options d t script old new before after b a end
+  unread_run can agent place untold w k =
       let line = journal_fault (name_of t agent) place in
-      let is : Plays options holds t script RunEnd.NotAJournal (written options.report t w.1 ++ line) =
-      (agent, place, unshown, record { groups = w.0; events = w.1; first = record { play = w.2; run = λ shown. fronts w.0 w.1 (w.2 shown) w.3; within = w.3 }; spelled = refl }) in
-      told_run (Plays options holds t script) (BeginsPlay options holds t script) (BreaksPlay options holds t script) old mid new before after b a (written options.report t w.1) line end w.4
+      let is : Plays options d t script RunEnd.NotAJournal (written options.report t w.1 ++ line) =
+      (agent, place, untold, record { groups = w.0; events = w.1; first = record { play = w.2; run = front_run options.limit t script d.held d.before d.after w.0 w.1 can w.2 w.3; within = w.3 }; spelled = refl }) in
+      told_run (Plays options d t script) (BeginsPlay options d t script) (BreaksPlay options d t script) old mid new before after b a (written options.report t w.1) line end w.4
       RunEnd.NotAJournal (closes_from line RunEnd.NotAJournal k) refl is (inl (RunEnd.NotAJournal, is)) (λ n. absurd (n tt))
 
 ---- Plays that have failed
 
 -- a front of some groups stands, and nothing more is written
-module _ (t : Network) (options : RunOptions) (holds : Holds) (script : Script) (old new : Option (List ℕ)) (before after : Counts) (b a : ℕ) where
-  begun_front : FrontsRun options.limit t script → WritesSomeOfPlay t options (plans_of script.lose) holds script.groups old new → WritesSomeFront (BeginsPlay options holds t script) old new
-  begun_front fronts w =
+module _ (t : Network) (options : RunOptions) (d : Disks) (script : Script) (old new : Option (List ℕ)) (before after : Counts) (b a : ℕ) where
+  begun_front : CanRun options.limit t script → PlayCut t options d script old new → WritesSomeFront (BeginsPlay options d t script) old new
+  begun_front can w =
       let text = written options.report t w.1 ++ no_text t in
-      let is : BeginsPlay options holds t script text = inr (record { groups = w.0; events = w.1; first = record { play = w.2; run = λ shown. fronts w.0 w.1 (w.2 shown) w.3; within = w.3 }; spelled = refl }) in
-      some_front (BeginsPlay options holds t script) old new text is (subst (WritesFront old new) (sym (append-nil (written options.report t w.1))) w.4)
+      let is : BeginsPlay options d t script text = inr (record { groups = w.0; events = w.1; first = record { play = w.2; run = front_run options.limit t script d.held d.before d.after w.0 w.1 can w.2 w.3; within = w.3 }; spelled = refl }) in
+      some_front (BeginsPlay options d t script) old new text is (subst (WritesFront old new) (sym (append-nil (written options.report t w.1))) w.4)
 
-  silent_run : FrontsRun options.limit t script → (end : RunEnd) → (end ≡ RunEnd.WriteFault → b < a) → ((end ≡ RunEnd.WriteFault → ⊥) → a ≡ b) → (end ≡ RunEnd.WriteFault) ⊎ (end ≡ RunEnd.NoMemory) → WritesSomeOfPlay t options (plans_of script.lose) holds script.groups old new
-      → HasPlayed options holds t script old new before after b a end
-  silent_run fronts end w q k f =
+  silent_run : CanRun options.limit t script → (end : RunEnd) → (end ≡ RunEnd.WriteFault → b < a) → ((end ≡ RunEnd.WriteFault → ⊥) → a ≡ b) → (end ≡ RunEnd.WriteFault) ⊎ (end ≡ RunEnd.NoMemory) → PlayCut t options d script old new
+      → HasPlayed options d t script old new before after b a end
+  silent_run can end w q k f =
       record {
         ends = λ o. absurd (not_told k o);
         broken = λ e. absurd (not_disk k e);
         disk = λ e. absurd (not_disk k e);
-        unfinished = λ _. inl (begun_front fronts f);
+        unfinished = λ _. inl (begun_front can f);
         write = w;
         quiet = q;
         quiet_disk = λ o n. absurd (not_told k o);
@@ -205,28 +225,28 @@ module _ (t : Network) (options : RunOptions) (holds : Holds) (script : Script) 
       not_reading (inr e) o = cc
 
 -- what the call of a play promises of its fault
-pub record Failing (t : Network) (options : RunOptions) (holds : Holds) (script : Script) (old mid : Option (List ℕ)) (before after : Counts) (b m : ℕ) (fault : RunFault) : Type 0 where
-  pub long : fault ≡ RunFault.Long → WritesTooLong t options (plans_of script.lose) holds script.groups old mid
-  pub broken : IsOfAgent fault → WritesGroups t options (plans_of script.lose) holds script.groups old mid
-  pub unread : (agent place : ℕ) → fault ≡ RunFault.NotAJournal agent place → IsShown t script.groups holds → ⊥
+pub record Failing (t : Network) (options : RunOptions) (d : Disks) (script : Script) (old mid : Option (List ℕ)) (before after : Counts) (b m : ℕ) (fault : RunFault) : Type 0 where
+  pub long : fault ≡ RunFault.Long → PlayTooLong t options d script old mid
+  pub broken : IsOfAgent fault → PlayBroken t options d script old mid
+  pub unread : (agent place : ℕ) → fault ≡ RunFault.NotAJournal agent place → IsUnread (AreTold t d.held) (IsShown t script.groups d.held) d.before d.after
   pub disk : (agent : ℕ) → fault ≡ RunFault.DiskFault agent → HasDiskFault before after
-  pub front : WritesSomeOfPlay t options (plans_of script.lose) holds script.groups old mid
+  pub front : PlayCut t options d script old mid
   pub write : fault ≡ RunFault.WriteFault → b < m
   pub quiet : (fault ≡ RunFault.WriteFault → ⊥) → m ≡ b
 
-module _ (t : Network) (options : RunOptions) (holds : Holds) (script : Script) (old mid new : Option (List ℕ)) (before after : Counts) (b m a : ℕ) (end : RunEnd) where
-  pub failing_run : FrontsRun options.limit t script → (fault : RunFault) → Failing t options holds script old mid before after b m fault → FailsAs t fault end mid new m a → HasPlayed options holds t script old new before after b a end
-  failing_run fronts RunFault.Long f k = too_long_run t options holds script old mid new before after b m a (f.quiet (λ e. cc)) end fronts (f.long refl) k
-  failing_run fronts (RunFault.DiskFault agent) f k = failed_run t options holds script old mid new before after b m a (f.quiet (λ e. cc)) end fronts agent (f.broken tt) k (f.disk agent refl)
-  failing_run fronts (RunFault.NotAJournal agent place) f k = unread_run t options holds script old mid new before after b m a (f.quiet (λ e. cc)) end fronts agent place (f.unread agent place refl) (f.broken tt) k
-  failing_run fronts RunFault.WriteFault f k =
+module _ (t : Network) (options : RunOptions) (d : Disks) (script : Script) (old mid new : Option (List ℕ)) (before after : Counts) (b m a : ℕ) (end : RunEnd) where
+  pub failing_run : CanRun options.limit t script → (fault : RunFault) → Failing t options d script old mid before after b m fault → FailsAs t fault end mid new m a → HasPlayed options d t script old new before after b a end
+  failing_run can RunFault.Long f k = too_long_run t options d script old mid new before after b m a (f.quiet (λ e. cc)) end can (f.long refl) k
+  failing_run can (RunFault.DiskFault agent) f k = failed_run t options d script old mid new before after b m a (f.quiet (λ e. cc)) end can agent (f.broken tt) k (f.disk agent refl)
+  failing_run can (RunFault.NotAJournal agent place) f k = unread_run t options d script old mid new before after b m a (f.quiet (λ e. cc)) end can agent place (f.unread agent place refl) (f.broken tt) k
+  failing_run can RunFault.WriteFault f k =
       let r = f.write refl in
-      let P : Option (List ℕ) → Type 0 = λ o. WritesSomeOfPlay t options (plans_of script.lose) holds script.groups old o in
-      silent_run t options holds script old new before after b a fronts end (λ _. subst (λ x. b < x) (sym k.still) r) (λ n. absurd (n k.is)) (inl k.is) (subst P (sym k.same) f.front)
-  failing_run fronts RunFault.NoMemory f k =
-      let P : Option (List ℕ) → Type 0 = λ o. WritesSomeOfPlay t options (plans_of script.lose) holds script.groups old o in
+      let P : Option (List ℕ) → Type 0 = λ o. PlayCut t options d script old o in
+      silent_run t options d script old new before after b a can end (λ _. subst (λ x. b < x) (sym k.still) r) (λ n. absurd (n k.is)) (inl k.is) (subst P (sym k.same) f.front)
+  failing_run can RunFault.NoMemory f k =
+      let P : Option (List ℕ) → Type 0 = λ o. PlayCut t options d script old o in
       let e = k.is in
-      silent_run t options holds script old new before after b a fronts end (λ w. cc) (λ _. k.still ∙ f.quiet (λ w. cc)) (inr k.is) (subst P (sym k.same) f.front)
+      silent_run t options d script old new before after b a can end (λ w. cc) (λ _. k.still ∙ f.quiet (λ w. cc)) (inr k.is) (subst P (sym k.same) f.front)
 
 -- a play that has failed isn't done
 pub fails_not_done : (t : Network) (fault : RunFault) (end : RunEnd) (old new : Option (List ℕ)) (b a : ℕ) → FailsAs t fault end old new b a → end ≡ RunEnd.Done → ⊥
@@ -238,15 +258,15 @@ fails_not_done t RunFault.NoMemory end old new b a k e = let i = k.is in cc
 
 ---- Causes
 
-pub unread_cause : (t : Network) (Shown : Type 0) (f g s r : ℕ) (fault : RunFault) (agent place : ℕ) → fault ≡ RunFault.NotAJournal agent place → HasFaultOf t Shown f g s r fault → Shown → ⊥
-unread_cause t Shown f g s r fault agent place e c = (subst (HasFaultOf t Shown f g s r) e c).1
+pub unread_cause : (t : Network) (Told Shown : Type 0) (f g s r : ℕ) (fault : RunFault) (agent place : ℕ) → fault ≡ RunFault.NotAJournal agent place → HasFaultOf t Told Shown f g s r fault → IsUnread Told Shown s r
+unread_cause t Told Shown f g s r fault agent place e c = (subst (HasFaultOf t Told Shown f g s r) e c).1
 
-pub disk_cause : (t : Network) (Shown : Type 0) (f g s r : ℕ) (fault : RunFault) (agent : ℕ) → fault ≡ RunFault.DiskFault agent → HasFaultOf t Shown f g s r fault → HasBroken f g s r
-disk_cause t Shown f g s r fault agent e c = (subst (HasFaultOf t Shown f g s r) e c).1
+pub disk_cause : (t : Network) (Told Shown : Type 0) (f g s r : ℕ) (fault : RunFault) (agent : ℕ) → fault ≡ RunFault.DiskFault agent → HasFaultOf t Told Shown f g s r fault → HasBroken f g s r
+disk_cause t Told Shown f g s r fault agent e c = (subst (HasFaultOf t Told Shown f g s r) e c).1
 
-pub of_agent : (t : Network) (Shown : Type 0) (f g s r : ℕ) (fault : RunFault) → HasFaultOf t Shown f g s r fault → IsFaultOf t fault
-of_agent t Shown f g s r RunFault.Long c = tt
-of_agent t Shown f g s r RunFault.WriteFault c = tt
-of_agent t Shown f g s r (RunFault.DiskFault agent) c = c.0
-of_agent t Shown f g s r (RunFault.NotAJournal agent place) c = c.0
-of_agent t Shown f g s r RunFault.NoMemory c = tt
+pub of_agent : (t : Network) (Told Shown : Type 0) (f g s r : ℕ) (fault : RunFault) → HasFaultOf t Told Shown f g s r fault → IsFaultOf t fault
+of_agent t Told Shown f g s r RunFault.Long c = tt
+of_agent t Told Shown f g s r RunFault.WriteFault c = tt
+of_agent t Told Shown f g s r (RunFault.DiskFault agent) c = c.0
+of_agent t Told Shown f g s r (RunFault.NotAJournal agent place) c = c.0
+of_agent t Told Shown f g s r RunFault.NoMemory c = tt

@@ -1,6 +1,5 @@
 -- How a run ends, and what stands then.
 use Rattle.std.specs.Prelude.{◌≡◌, ◌<◌, ◌⊎◌, ℕ, Bool, true, false, List, ◌++◌, take, length, Option, Some, IfSome}
-use Rattle.nsi_disk.specs.ShelfCounts.{Raised}
 use Rattle.nsi_outside.specs.Stream.{WritesAll, WritesFront}
 use Rattle.stp_topology.specs.declared.network.Network.{Network}
 use Rattle.stp_topology.specs.Network.{name_of}
@@ -10,8 +9,8 @@ use Rattle.fault_lines.specs.Lines.{journal_fault, disk_fault_line, long_line, r
 use Rattle.agent_threads.specs.declared.fault.RunFault.{RunFault}
 use Rattle.agent_threads.specs.declared.report.RunOptions.{RunOptions}
 use Rattle.run_command.specs.declared.command.RunEnd.{RunEnd}
-use Rattle.net_run.specs.Worlds.{Holds}
-use Rattle.run_command.specs.Runs.{Plays, BeginsPlay, BreaksPlay, Runs, Begins, Breaks}
+use Rattle.net_run.specs.Shelves.{IsQuiet as IsShelfQuiet}
+use Rattle.run_command.specs.Runs.{Disks, Plays, BeginsPlay, BreaksPlay, Runs, Begins, Breaks}
 
 -- an end that is neither want of memory nor a fault of reading, writing or a disk
 abbrev pub is_told : RunEnd → Bool
@@ -32,10 +31,10 @@ WritesSomeFront P old new = IfSome old (λ c. (text : List ℕ) × (k : ℕ) × 
 ---- Runs that were cut short
 
 -- Writing was cut short: in the run, or behind a fault of reading or of a disk, whose counts then rose.
-abbrev pub IsCutShort : RunOptions → Holds → (content left : Option (List ℕ)) → (before after : Counts) → Option (List ℕ) → Type 0
-IsCutShort options holds content left before after new =
-    ((after.reads ≡ before.reads) × IfSome left (λ bytes. WritesSomeFront (Begins options holds bytes) content new)) ⊎ ((before.reads < after.reads) × WritesFront content new read_fault_line)
-    ⊎ (HasDiskFault before after × IfSome left (λ bytes. WritesSomeFront (Breaks options holds bytes) content new))
+abbrev pub IsCutShort : RunOptions → Disks → (content left : Option (List ℕ)) → (before after : Counts) → Option (List ℕ) → Type 0
+IsCutShort options d content left before after new =
+    ((after.reads ≡ before.reads) × IfSome left (λ bytes. WritesSomeFront (Begins options d bytes) content new)) ⊎ ((before.reads < after.reads) × WritesFront content new read_fault_line)
+    ⊎ (HasDiskFault before after × IfSome left (λ bytes. WritesSomeFront (Breaks options d bytes) content new))
 
 ---- Steps of a run
 
@@ -78,9 +77,9 @@ FailsAs t (RunFault.DiskFault agent) end old new before after = Closes (disk_fau
 FailsAs t (RunFault.NotAJournal agent place) end old new before after = Closes (journal_fault (name_of t agent) place) RunEnd.NotAJournal end old new before after
 FailsAs t RunFault.NoMemory end old new before after = EndsSilently RunEnd.NoMemory end old new before after
 
--- the counts of the shelf's disks haven't risen
+-- no call of a disk has failed
 abbrev pub IsQuiet : Counts → Counts → Type 0
-IsQuiet before after = Raised before.faults 0 after.faults × Raised before.stops 0 after.stops
+IsQuiet before after = IsShelfQuiet before.faults after.faults before.stops after.stops
 
 -- What a run has come to that writes one of these texts, or these where a disk has failed: how it has ended, what the sink has taken, and which counts have
 -- risen.
@@ -97,9 +96,9 @@ pub record HasRun (Texts : RunEnd → List ℕ → Type 0) (Fronts Broken : List
   pub read : end ≡ RunEnd.ReadFault → ⊥
 
 -- a script is played
-abbrev pub HasPlayed : RunOptions → Holds → Network → Script → (old new : Option (List ℕ)) → (before after : Counts) → (faults_before faults_after : ℕ) → RunEnd → Type 0
-HasPlayed options holds t script = HasRun (Plays options holds t script) (BeginsPlay options holds t script) (BreaksPlay options holds t script)
+abbrev pub HasPlayed : RunOptions → Disks → Network → Script → (old new : Option (List ℕ)) → (before after : Counts) → (faults_before faults_after : ℕ) → RunEnd → Type 0
+HasPlayed options d t script = HasRun (Plays options d t script) (BeginsPlay options d t script) (BreaksPlay options d t script)
 
 -- an input is read
-abbrev pub HasRead : RunOptions → Holds → List ℕ → (old new : Option (List ℕ)) → (before after : Counts) → (faults_before faults_after : ℕ) → RunEnd → Type 0
-HasRead options holds bytes = HasRun (Runs options holds bytes) (Begins options holds bytes) (Breaks options holds bytes)
+abbrev pub HasRead : RunOptions → Disks → List ℕ → (old new : Option (List ℕ)) → (before after : Counts) → (faults_before faults_after : ℕ) → RunEnd → Type 0
+HasRead options d bytes = HasRun (Runs options d bytes) (Begins options d bytes) (Breaks options d bytes)

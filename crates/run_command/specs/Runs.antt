@@ -1,5 +1,5 @@
--- What the command `run` writes.
-use Rattle.std.specs.Prelude.{◌≡◌, ◌≤◌, ◌<◌, ◌⊎◌, ℕ, ◌+◌, Bool, true, false, List, [], ◌++◌, length, take, nat_le, codes, decimal, Option, Result, Ok, Err}
+-- What the command `run` writes. Where disks stop it is the text of a play whose agents go on from what these have.
+use Rattle.std.specs.Prelude.{◌≡◌, ◌≤◌, ◌<◌, ◌⊎◌, ℕ, ◌+◌, Bool, true, false, List, [], ◌++◌, length, take, nat_le, codes, decimal, Result, Ok, Err}
 use Rattle.std.specs.List.{All}
 use Rattle.nsi_base.specs.Lines.{lines_of}
 use Rattle.nsi_base.specs.Range.{greatest_input}
@@ -9,11 +9,12 @@ use Rattle.stp_topology.specs.declared.network.Network.{Network}
 use Rattle.stp_topology.specs.Network.{nothing, name_of}
 use Rattle.stp_topology.specs.Text.{read_lines, behind_lines}
 use Rattle.nsi_script.specs.declared.fault.ScriptFault.{ScriptFault}
+use Rattle.nsi_script.specs.declared.script.Group.{Group}
 use Rattle.nsi_script.specs.declared.script.Script.{Script}
 use Rattle.nsi_script.specs.Text.{script_of}
 use Rattle.nsi_agent.specs.Homes.{Routes, AreRoutes, home_in}
 use Rattle.nsi_play.specs.Openings.{plans_of}
-use Rattle.nsi_play.specs.Play.{Passes}
+use Rattle.nsi_play.specs.Play.{RestartNobody}
 use Rattle.nsi_world.specs.Worlds.{empty, said}
 use Rattle.nsi_world.specs.Runs.{world_after, asks_of, numbered}
 use Rattle.nsi_world.specs.Scripts.{wishes_of}
@@ -24,11 +25,13 @@ use Rattle.answered_play.specs.Answered.{AnswersAll}
 use Rattle.settled_play.specs.Settled.{LeavesOnlyLost, LoseNothing, GoesOn, IsDone}
 use Rattle.run_totals.specs.Totals.{totals_of}
 use Rattle.run_totals.specs.declared.totals.Totals.{Totals}
+use Rattle.agent_threads.specs.Promise.{NoRestart}
 use Rattle.agent_threads.specs.Reports.{written}
 use Rattle.run_totals.specs.declared.report.Report.{Report}
 use Rattle.agent_threads.specs.declared.report.RunOptions.{RunOptions}
-use Rattle.net_run.specs.Held.{IsShown, HoldsJournals}
-use Rattle.net_run.specs.Worlds.{Holds, PlaysPart}
+use Rattle.net_run.specs.Held.{AreTold, IsShown}
+use Rattle.net_run.specs.Shelves.{HasNoStop, IsUnread}
+use Rattle.net_run.specs.Worlds.{Holds, PlaysPart, PartPasses, KeepsJournals}
 use Rattle.fault_lines.specs.Lines.{as_line, topology_fault, script_fault, journal_fault, disk_fault_line, long_line}
 use Rattle.run_command.specs.declared.command.RunEnd.{RunEnd}
 
@@ -57,11 +60,29 @@ pub record IsSafeThroughout (t : Network) (routes : Routes) (events : List Event
 abbrev pub NothingIsSafeThroughout : Type 0
 NothingIsSafeThroughout = (t : Network) (routes : Routes) → IsSafeThroughout t routes []
 
--- the play of some first groups of a script, which has no more events than that, and is such a run whichever legs are those of the least paths;
--- so it is where the shelf tells what it holds, or the script restarts nobody
-pub record IsTextOf (options : RunOptions) (holds : Holds) (t : Network) (script : Script) (groups : ℕ) (events : List Event) : Type 0 where
-  pub play : PlaysPart t (plans_of script.lose) holds script.groups (take groups script.groups) events
-  pub run : IsShown t script.groups holds → (routes : Routes) → AreRoutes t routes → IsSafeThroughout t routes events
+-- what the disks of a shelf hold by names before a run and behind it, where it tells, and how often calls have stopped them
+pub record Disks : Type 0 where
+  pub held : Holds
+  pub holds : Holds
+  pub before : ℕ
+  pub after : ℕ
+
+abbrev pub disks : (held holds : Holds) (before after : ℕ) → Disks
+disks held holds before after = record { held = held; holds = holds; before = before; after = after }
+
+-- no disk has stopped in the run
+abbrev pub NoneStops : Disks → Type 0
+NoneStops d = HasNoStop d.before d.after
+
+-- It is known which play was written: the shelf tells what it holds; or the script restarts nobody, and no disk has stopped.
+abbrev pub IsKnown : Network → List Group → Holds → (Calm : Type 0) → Type 0
+IsKnown t script holds Calm = AreTold t holds ⊎ (Calm × RestartNobody script)
+
+-- The events of a play of some first groups of a script, in which disks stop as some tapes say, and none does where the run was calm. They are
+-- no more than that, and where the play is known they are such a run, whichever legs are those of the least paths.
+pub record IsTextOf (options : RunOptions) (d : Disks) (Calm : Type 0) (t : Network) (script : Script) (groups : ℕ) (events : List Event) : Type 0 where
+  pub play : PlaysPart t (plans_of script.lose) d.held d.before d.after Calm script.groups (take groups script.groups) events
+  pub run : IsKnown t script.groups d.held Calm → (routes : Routes) → AreRoutes t routes → IsSafeThroughout t routes events
   pub within : length events ≤ options.limit
 
 -- These events are a safe run that asks the whole script, in order. In the world that they make each journal is synced whole and no work
@@ -77,74 +98,75 @@ pub record IsWholeRun (t : Network) (routes : Routes) (script : Script) (events 
   pub left : LeavesOnlyLost t (home_in t routes) (plans_of script.lose) events
   pub over : LoseNothing (plans_of script.lose) → All GoesOn events → (a : ℕ) → a < length t.agents → All (IsDone t (home_in t routes) (world_after empty events) a) (said (home_in t routes) (world_after empty events) a)
 
--- what is wanted of the whole play, which is such a run whichever legs are those of the least paths, where the shelf tells what it holds or
--- the script restarts nobody, and behind it its numbers
-pub record IsSettled (options : RunOptions) (holds : Holds) (t : Network) (script : Script) (text : List ℕ) : Type 0 where
+-- What is wanted of the whole play, and behind it its numbers. Where the play is known it is such a run, whichever legs are those of the least
+-- paths. Where the shelf told what it held, it holds each agent's journal in the world that these events make.
+pub record IsSettled (options : RunOptions) (d : Disks) (t : Network) (script : Script) (text : List ℕ) : Type 0 where
   pub events : List Event
-  pub play : PlaysPart t (plans_of script.lose) holds script.groups script.groups events
-  pub run : IsShown t script.groups holds → (routes : Routes) → AreRoutes t routes → IsWholeRun t routes script events
+  pub play : PlaysPart t (plans_of script.lose) d.held d.before d.after (NoneStops d ⊎ NoRestart events) script.groups script.groups events
+  pub run : IsKnown t script.groups d.held (NoneStops d ⊎ NoRestart events) → (routes : Routes) → AreRoutes t routes → IsWholeRun t routes script events
+  pub journals : KeepsJournals t d.held d.holds events
   pub within : length events ≤ options.limit
   pub spelled : text ≡ written options.report t events ++ closing_line options.report (totals_of t events)
 
 -- as many groups as make no more events than that, and behind them that there are more
-pub record IsTooLong (options : RunOptions) (holds : Holds) (t : Network) (script : Script) (text : List ℕ) : Type 0 where
+pub record IsTooLong (options : RunOptions) (d : Disks) (t : Network) (script : Script) (text : List ℕ) : Type 0 where
   pub groups : ℕ
   pub events : List Event
-  pub first : IsTextOf options holds t script groups events
-  pub passes : IsShown t script.groups holds → Passes options.limit t (plans_of script.lose) (take (groups + 1) script.groups)
+  pub first : IsTextOf options d (NoneStops d ⊎ NoRestart events) t script groups events
+  pub passes : PartPasses t (plans_of script.lose) d.held d.before d.after (NoneStops d) options.limit script.groups (take (groups + 1) script.groups)
   pub spelled : text ≡ written options.report t events ++ long_line
 
 -- some first groups of the play, and that text behind them
-pub record StartsPlay (options : RunOptions) (holds : Holds) (t : Network) (script : Script) (behind : Network → List ℕ) (text : List ℕ) : Type 0 where
+pub record StartsPlay (options : RunOptions) (d : Disks) (t : Network) (script : Script) (behind : Network → List ℕ) (text : List ℕ) : Type 0 where
   pub groups : ℕ
   pub events : List Event
-  pub first : IsTextOf options holds t script groups events
+  pub first : IsTextOf options d (NoneStops d ⊎ NoRestart events) t script groups events
   pub spelled : text ≡ written options.report t events ++ behind t
 
 -- some first groups of the play, and behind them whose disk has failed
-abbrev pub BreaksPlay : RunOptions → Holds → Network → Script → List ℕ → Type 0
-BreaksPlay options holds t script text = (agent : ℕ) × StartsPlay options holds t script (λ u. disk_fault_line (name_of u agent)) text
+abbrev pub BreaksPlay : RunOptions → Disks → Network → Script → List ℕ → Type 0
+BreaksPlay options d t script text = (agent : ℕ) × StartsPlay options d t script (λ u. disk_fault_line (name_of u agent)) text
 
--- Some first groups of the play, and behind them whose journal has no reading. So it is only where the script restarts an agent, and the shelf
--- doesn't tell what it holds.
-abbrev pub UnreadsPlay : RunOptions → Holds → Network → Script → List ℕ → Type 0
-UnreadsPlay options holds t script text =
-    (agent : ℕ) × (place : ℕ) × (IsShown t script.groups holds → ⊥) × StartsPlay options holds t script (λ u. journal_fault (name_of u agent) place) text
+-- Some first groups of the play, and behind them whose journal has no reading. So it is only where the shelf doesn't tell what it holds, and the
+-- script restarts an agent or a disk has stopped.
+abbrev pub UnreadsPlay : RunOptions → Disks → Network → Script → List ℕ → Type 0
+UnreadsPlay options d t script text =
+    (agent : ℕ) × (place : ℕ) × IsUnread (AreTold t d.held) (IsShown t script.groups d.held) d.before d.after × StartsPlay options d t script (λ u. journal_fault (name_of u agent) place) text
 
 abbrev pub no_text : Network → List ℕ
 no_text t = []
 
-abbrev pub Plays : RunOptions → Holds → Network → Script → RunEnd → List ℕ → Type 0
-Plays options holds t script RunEnd.Done text = IsSettled options holds t script text
-Plays options holds t script RunEnd.Long text = IsTooLong options holds t script text
-Plays options holds t script RunEnd.NotAJournal text = UnreadsPlay options holds t script text
-Plays options holds t script end text = ⊥
+abbrev pub Plays : RunOptions → Disks → Network → Script → RunEnd → List ℕ → Type 0
+Plays options d t script RunEnd.Done text = IsSettled options d t script text
+Plays options d t script RunEnd.Long text = IsTooLong options d t script text
+Plays options d t script RunEnd.NotAJournal text = UnreadsPlay options d t script text
+Plays options d t script end text = ⊥
 
 -- all that a play writes, or some first groups of it
-abbrev pub BeginsPlay : RunOptions → Holds → Network → Script → List ℕ → Type 0
-BeginsPlay options holds t script text = ((end : RunEnd) × Plays options holds t script end text) ⊎ StartsPlay options holds t script no_text text
+abbrev pub BeginsPlay : RunOptions → Disks → Network → Script → List ℕ → Type 0
+BeginsPlay options d t script text = ((end : RunEnd) × Plays options d t script end text) ⊎ StartsPlay options d t script no_text text
 
 ---- Inputs
 
-abbrev pub RunsScript : RunOptions → Holds → Network → Result Script (ℕ × ScriptFault) → RunEnd → List ℕ → Type 0
-RunsScript options holds t (Ok script) end text = Plays options holds t script end text
-RunsScript options holds t (Err e) end text = (end ≡ RunEnd.BadScript) × (text ≡ script_fault e.0 e.1)
+abbrev pub RunsScript : RunOptions → Disks → Network → Result Script (ℕ × ScriptFault) → RunEnd → List ℕ → Type 0
+RunsScript options d t (Ok script) end text = Plays options d t script end text
+RunsScript options d t (Err e) end text = (end ≡ RunEnd.BadScript) × (text ≡ script_fault e.0 e.1)
 
 -- the script stands behind the topology's lines
 abbrev pub script_behind : List ℕ → Network × ℕ → Result Script (ℕ × ScriptFault)
 script_behind bytes read = script_of read.0 (read.1 + 1) (behind_lines read.1 bytes)
 
-abbrev pub RunsRead : RunOptions → Holds → List ℕ → Result (Network × ℕ) (ℕ × TopologyFault) → RunEnd → List ℕ → Type 0
-RunsRead options holds bytes (Ok read) end text = RunsScript options holds read.0 (script_behind bytes read) end text
-RunsRead options holds bytes (Err e) end text = (end ≡ RunEnd.BadTopology) × (text ≡ topology_fault e.0 e.1)
+abbrev pub RunsRead : RunOptions → Disks → List ℕ → Result (Network × ℕ) (ℕ × TopologyFault) → RunEnd → List ℕ → Type 0
+RunsRead options d bytes (Ok read) end text = RunsScript options d read.0 (script_behind bytes read) end text
+RunsRead options d bytes (Err e) end text = (end ≡ RunEnd.BadTopology) × (text ≡ topology_fault e.0 e.1)
 
-abbrev pub RunsIf : (fits : Bool) → RunOptions → Holds → List ℕ → RunEnd → List ℕ → Type 0
-RunsIf true options holds bytes end text = RunsRead options holds bytes (read_lines nothing 0 (lines_of bytes)) end text
-RunsIf false options holds bytes end text = (end ≡ RunEnd.Long) × (text ≡ long_line)
+abbrev pub RunsIf : (fits : Bool) → RunOptions → Disks → List ℕ → RunEnd → List ℕ → Type 0
+RunsIf true options d bytes end text = RunsRead options d bytes (read_lines nothing 0 (lines_of bytes)) end text
+RunsIf false options d bytes end text = (end ≡ RunEnd.Long) × (text ≡ long_line)
 
 -- how `run` ends on these bytes with these options, and all that it writes
-abbrev pub Runs : RunOptions → Holds → List ℕ → RunEnd → List ℕ → Type 0
-Runs options holds bytes end text = RunsIf (nat_le (length bytes) greatest_input) options holds bytes end text
+abbrev pub Runs : RunOptions → Disks → List ℕ → RunEnd → List ℕ → Type 0
+Runs options d bytes end text = RunsIf (nat_le (length bytes) greatest_input) options d bytes end text
 
 ---- Runs that were cut short
 
@@ -159,15 +181,20 @@ abbrev pub OfRead : List ℕ → (Network → Script → Type 0) → Type 0
 OfRead bytes P = (t : Network) × (script : Script) × AreRead bytes t script × P t script
 
 -- some first groups of the play, and behind them whose disk has failed
-abbrev pub Breaks : RunOptions → Holds → List ℕ → List ℕ → Type 0
-Breaks options holds bytes text = OfRead bytes (λ t script. BreaksPlay options holds t script text)
+abbrev pub Breaks : RunOptions → Disks → List ℕ → List ℕ → Type 0
+Breaks options d bytes text = OfRead bytes (λ t script. BreaksPlay options d t script text)
 
 -- all that a run writes, or some first groups of its play
-abbrev pub Begins : RunOptions → Holds → List ℕ → List ℕ → Type 0
-Begins options holds bytes text = ((end : RunEnd) × Runs options holds bytes end text) ⊎ OfRead bytes (λ t script. StartsPlay options holds t script no_text text)
+abbrev pub Begins : RunOptions → Disks → List ℕ → List ℕ → Type 0
+Begins options d bytes text = ((end : RunEnd) × Runs options d bytes end text) ⊎ OfRead bytes (λ t script. StartsPlay options d t script no_text text)
 
 ---- Journals
 
--- the bytes are a topology and a script, and what is held under the name of each agent reads as its journal of the play
-abbrev pub KeepsRun : List ℕ → (old new : List ℕ → Option (List ℕ)) → Type 0
-KeepsRun bytes old new = OfRead bytes (λ t script. HoldsJournals t (plans_of script.lose) script.groups old new)
+-- What is held under the name of each agent reads as its journal in the world that the events of a play make, where the shelf told what it held.
+abbrev pub KeepsPlay : Disks → Network → Script → Type 0
+KeepsPlay d t script =
+    (events : List Event) × PlaysPart t (plans_of script.lose) d.held d.before d.after (NoneStops d ⊎ NoRestart events) script.groups script.groups events × KeepsJournals t d.held d.holds events
+
+-- the bytes are a topology and a script, and so it is of the play of it
+abbrev pub KeepsRun : List ℕ → Disks → Type 0
+KeepsRun bytes d = OfRead bytes (λ t script. KeepsPlay d t script)

@@ -5,17 +5,15 @@ ghost use Rattle.nsi_base.specs.Range.{greatest_input};
 ghost use Rattle.nsi_outside.specs.Stream.{WritesAll};
 ghost use Rattle.stp_topology.specs.Network.{name_of};
 ghost use Rattle.nsi_script.specs.Fits.{Fits};
-ghost use Rattle.nsi_play.specs.Openings.{plans_of};
+ghost use Rattle.settled_play.specs.Settled.{PlayLeavesNone};
 ghost use Rattle.fault_lines.specs.Lines.{topology_fault, script_fault, journal_fault, disk_fault_line, read_fault_line};
 ghost use Rattle.run_command.specs.Ends.{is_told, WritesSome, WritesSomeFront, IsCutShort, IsQuiet, HasDiskFault, IsTold, Closes, IsOfAgent, FailsAs, HidesDisks, HasPlayed, HasRead, counted};
 ghost use Rattle.topology_input.specs.Reading.{IsDeclared};
-ghost use Rattle.net_run.specs.Held.{HoldsJournals};
-ghost use Rattle.net_run.specs.Worlds.{Holds};
-ghost use Rattle.run_command.specs.Runs.{NothingIsSafeThroughout, Runs, Begins, Breaks, KeepsRun, closing_line};
+ghost use Rattle.run_command.specs.Runs.{NothingIsSafeThroughout, Disks, disks, Runs, Begins, Breaks, KeepsPlay, KeepsRun, closing_line};
 
 use crate::texts::closing_line;
 use agent_threads::{Resources, RunFault, RunOptions};
-use answered_play::laws::every_play;
+use answered_play::laws::at_rest;
 use circuit_laws::safety::{every_run_safe, nothing_safe};
 use end_to_end::laws::{every_run, nothing};
 use fault_lines::{disk_fault_text, journal_fault, script_fault, topology_fault};
@@ -25,11 +23,10 @@ use nsi_base::{AgentNo, GREATEST_INPUT};
 use nsi_disk::Shelf;
 use nsi_outside::{Sink, SinkError, Source, write_all};
 use nsi_script::{Script, ScriptFault, ScriptRefusal, read_script};
-use nsi_world::laws::{asks_whole, play_runs};
 use run_totals::{Report, Totals};
-use settled_play::laws::settled;
 use std::alloc::Global;
 use std::thread::Threads;
+use stopped_play::laws::{asks_whole, calm, runs, settled};
 use stp_topology::{Topology, TopologyFault, TopologyRefusal};
 use topology_input::{Declared, read_declared};
 
@@ -44,7 +41,7 @@ pub enum RunEnd {
     Long,
     ReadFault,
     WriteFault,
-    /// An agent's disk failed or stopped.
+    /// An agent's disk failed, or it stopped while a journal was made or read.
     DiskFault,
     /// A journal that was to be read again is none.
     NotAJournal,
@@ -57,6 +54,13 @@ fn nothing_throughout()
 {
     nothing_safe();
     nothing();
+}
+
+/// Where nothing is lost and no agent restarts, a play leaves nothing open.
+fn nothing_is_left()
+    ensures { PlayLeavesNone }
+{
+    settled_play::laws::settled();
 }
 
 /// Writes a text with which a run ends.
@@ -163,22 +167,27 @@ where
     H::Disk: Drop + Send,
     requires limit { options.limit ≤ 2000000 }
     requires fits { Fits topology.now script.now }
-    ensures played { HasPlayed options (H.holds shelf.old) topology.now script.now
+    ensures played { HasPlayed options
+        (disks (H.holds shelf.old) (H.holds shelf.new) (H.stops shelf.old) (H.stops shelf.new))
+        topology.now script.now
         (K.content out.old) (K.content out.new)
         (counted 0 (H.faults shelf.old) (H.stops shelf.old))
         (counted 0 (H.faults shelf.new) (H.stops shelf.new))
         (K.faults out.old) (K.faults out.new) result }
-    ensures journals { result ≡ RunEnd.Done → HoldsJournals topology.now
-        (plans_of script.now.lose) script.now.groups (H.holds shelf.old) (H.holds shelf.new) }
+    ensures journals { result ≡ RunEnd.Done → KeepsPlay
+        (disks (H.holds shelf.old) (H.holds shelf.new) (H.stops shelf.old) (H.stops shelf.new))
+        topology.now script.now }
 {
     topology.facts();
     topology.laws();
-    play_runs();
+    calm();
+    runs();
     asks_whole();
     every_run_safe();
     every_run();
-    every_play();
+    at_rest();
     settled();
+    nothing_is_left();
     match run_world(resources, topology, script, options, shelf, out) {
         Ok(totals) => tell_totals(resources.alloc, out, options.report, totals),
         Err(fault) => fail(resources.alloc, out, topology, &fault),
@@ -200,13 +209,15 @@ where
     requires size { length bytes.now ≤ greatest_input }
     requires declared { IsDeclared bytes.now declared.now }
     requires behind { declared.now.lines + length declared.now.behind.now ≤ length bytes.now }
-    ensures read { HasRead options (H.holds shelf.old) bytes.now
+    ensures read { HasRead options
+        (disks (H.holds shelf.old) (H.holds shelf.new) (H.stops shelf.old) (H.stops shelf.new))
+        bytes.now
         (K.content out.old) (K.content out.new)
         (counted 0 (H.faults shelf.old) (H.stops shelf.old))
         (counted 0 (H.faults shelf.new) (H.stops shelf.new))
         (K.faults out.old) (K.faults out.new) result }
-    ensures journals { result ≡ RunEnd.Done →
-        KeepsRun bytes.now (H.holds shelf.old) (H.holds shelf.new) }
+    ensures journals { result ≡ RunEnd.Done → KeepsRun bytes.now
+        (disks (H.holds shelf.old) (H.holds shelf.new) (H.stops shelf.old) (H.stops shelf.new)) }
 {
     nothing_throughout();
     let alloc = resources.alloc;
@@ -234,13 +245,15 @@ where
     H::Disk: Drop + Send,
     requires limit { options.limit ≤ 2000000 }
     requires size { length bytes.now ≤ greatest_input }
-    ensures read { HasRead options (H.holds shelf.old) bytes.now
+    ensures read { HasRead options
+        (disks (H.holds shelf.old) (H.holds shelf.new) (H.stops shelf.old) (H.stops shelf.new))
+        bytes.now
         (K.content out.old) (K.content out.new)
         (counted 0 (H.faults shelf.old) (H.stops shelf.old))
         (counted 0 (H.faults shelf.new) (H.stops shelf.new))
         (K.faults out.old) (K.faults out.new) result }
-    ensures journals { result ≡ RunEnd.Done →
-        KeepsRun bytes.now (H.holds shelf.old) (H.holds shelf.new) }
+    ensures journals { result ≡ RunEnd.Done → KeepsRun bytes.now
+        (disks (H.holds shelf.old) (H.holds shelf.new) (H.stops shelf.old) (H.stops shelf.new)) }
 {
     nothing_throughout();
     let alloc = resources.alloc;
@@ -263,10 +276,13 @@ pub fn run<R: Threads + Sync, S: Source, K: Sink, H: Shelf>(
 where
     H::Disk: Drop + Send,
     requires { options.limit ≤ 2000000 }
-    // The bytes say how it ends and all that is written, where the shelf tells what it holds or no agent is restarted.
+    // The bytes say how it ends and all that is written, but for the disks that stop: it is the text of a play in which
+    // disks stop, where the shelf tells what it holds; and that of the play, where none has stopped and the shelf tells
+    // what it holds or no agent is restarted.
     ensures ends { is_told result ≡ true → IfSome (S.left input.old)
-        (λ bytes. WritesSome (Runs options (H.holds shelf.old) bytes result)
-        (K.content out.old) (K.content out.new)) }
+        (λ bytes. WritesSome (Runs options
+        (disks (H.holds shelf.old) (H.holds shelf.new) (H.stops shelf.old) (H.stops shelf.new))
+        bytes result) (K.content out.old) (K.content out.new)) }
 
     // A fault comes only from outside, and leaves whole groups or a front of them.
     ensures read_fault { result ≡ RunEnd.ReadFault → S.faults input.old < S.faults input.new }
@@ -278,16 +294,19 @@ where
         (counted (S.faults input.old) (H.faults shelf.old) (H.stops shelf.old))
         (counted (S.faults input.new) (H.faults shelf.new) (H.stops shelf.new)) }
     ensures broken { result ≡ RunEnd.DiskFault → IfSome (S.left input.old)
-        (λ bytes. WritesSome (Breaks options (H.holds shelf.old) bytes)
-        (K.content out.old) (K.content out.new)) }
+        (λ bytes. WritesSome (Breaks options
+        (disks (H.holds shelf.old) (H.holds shelf.new) (H.stops shelf.old) (H.stops shelf.new))
+        bytes) (K.content out.old) (K.content out.new)) }
     ensures unfinished { (result ≡ RunEnd.WriteFault) ⊎ (result ≡ RunEnd.NoMemory) →
-        IsCutShort options (H.holds shelf.old) (K.content out.old) (S.left input.old)
+        IsCutShort options
+        (disks (H.holds shelf.old) (H.holds shelf.new) (H.stops shelf.old) (H.stops shelf.new))
+        (K.content out.old) (S.left input.old)
         (counted (S.faults input.old) (H.faults shelf.old) (H.stops shelf.old))
         (counted (S.faults input.new) (H.faults shelf.new) (H.stops shelf.new))
         (K.content out.new) }
 
     // No fault is swallowed, and none is told as want of memory; but in the round that has too many events another disk
-    // may have failed, and so may that of a journal without a reading.
+    // may have failed, and so may that of a journal without a reading. A disk that has stopped in a round is no fault.
     ensures quiet_in { is_told result ≡ true → S.faults input.new ≡ S.faults input.old }
     ensures quiet_out { (result ≡ RunEnd.WriteFault → ⊥) → K.faults out.new ≡ K.faults out.old }
     ensures quiet_disk { is_told result ≡ true → (HidesDisks result → ⊥) →
@@ -295,9 +314,10 @@ where
         (counted (S.faults input.old) (H.faults shelf.old) (H.stops shelf.old))
         (counted (S.faults input.new) (H.faults shelf.new) (H.stops shelf.new)) }
 
-    // With Done each agent's disk reads as its journal of the play, where the shelf told what it held.
+    // With Done each agent's disk reads as its journal of such a play, where the shelf told what it held.
     ensures journals { result ≡ RunEnd.Done → IfSome (S.left input.old)
-        (λ bytes. KeepsRun bytes (H.holds shelf.old) (H.holds shelf.new)) }
+        (λ bytes. KeepsRun bytes
+        (disks (H.holds shelf.old) (H.holds shelf.new) (H.stops shelf.old) (H.stops shelf.new))) }
 {
     nothing_throughout();
     match read_whole(resources.alloc, input, GREATEST_INPUT) {
@@ -310,8 +330,8 @@ where
 
 /// Nothing is a front of what a run writes, whatever the input.
 pub fn begins_with_nothing()
-    ensures { (options : _) (holds : Holds) (left old : Option (List ℕ)) → IfSome left
-        (λ bytes. WritesSomeFront (Begins options holds bytes) old old) }
+    ensures { (options : _) (d : Disks) → d.before ≤ d.after → (left old : Option (List ℕ)) →
+        IfSome left (λ bytes. WritesSomeFront (Begins options d bytes) old old) }
 {
     nothing_throughout();
 }
