@@ -64,12 +64,8 @@ fn verify_by<'t>(
     'lines: while 0 < rest.len() {
         let (bytes, behind) = cut_at_feed(rest);
         match follow(alloc, topology, follower, asks, bytes)? {
-            Step::Event { asks: count } => {
-                if events == limit {
-                    return Err(VerifyFault::Long);
-                }
-                asks = count;
-            }
+            Step::Event { .. } if events == limit => return Err(VerifyFault::Long),
+            Step::Event { asks: count } => asks = count,
             Step::Closing => {
                 let verdict = close(alloc, bytes, behind, line, events)?;
                 return Ok(verdict);

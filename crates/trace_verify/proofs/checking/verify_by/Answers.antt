@@ -35,8 +35,8 @@ lines-preserved c = record {
   place = omega (arith, c.lines.invariant.place);
   within = omega (arith, c.lines.invariant.within, c.if-events-limit.false);
   size = omega (arith, c.lines.invariant.size, c.cut_at_feed.ensures.shorter);
-  follower = c.in_ok-count.ensures.follower;
-  few = subst (HasFew most_asks) c.in-Event.is c.in_ok-count.ensures.few;
+  follower = c.in_ok-follow.ensures.follower;
+  few = subst (HasFew most_asks) c.in-Event.is c.in_ok-follow.ensures.few;
   far = λ routes are.
       let t = c.args.topology.now in
       let homes = home_in t routes in
@@ -44,12 +44,12 @@ lines-preserved c = record {
       let tail = trace_lines c.cut_at_feed.result.1.now in
       let lines = trace_lines c.args.text.now in
       let far = cut_far t homes lines (trace_lines c.lines.rest.now) tail line c.lines.follower c.lines.asks c.lines.events c.cut_at_feed.ensures.lines (c.lines.invariant.far routes are) in
-      so_far_more t routes lines tail line c.lines.follower c.follow.new.follower c.lines.asks c.lines.events c.in-Event.count far
-      (step_as t homes far.run line c.follow.new.follower c.in_ok-count.field-0 (Step.Event c.in-Event.count) c.in-Event.is (c.in_ok-count.ensures.step routes are far.run far.shows (c.sent.ensures.heard homes far.run far.splits.trace.trace.run.allowed) far.asked));
+      so_far_more t routes lines tail line c.lines.follower c.follow.new.follower c.lines.asks c.lines.events c.in-Event.asks far
+      (step_as t homes far.run line c.follow.new.follower c.in_ok-follow.field-0 (Step.Event c.in-Event.asks) c.in-Event.is (c.in_ok-follow.ensures.step routes are far.run far.shows (c.sent.ensures.heard homes far.run far.splits.trace.trace.run.allowed) far.asked));
 }
 
-pub returns-then-events-limit : goal.returns-then-events-limit
-returns-then-events-limit c = record {
+pub returns-in-Event : goal.returns-in-Event
+returns-in-Event c = record {
   finds = λ routes are.
       let t = c.args.topology.now in
       let homes = home_in t routes in
@@ -57,8 +57,8 @@ returns-then-events-limit c = record {
       let tail = trace_lines c.cut_at_feed.result.1.now in
       let lines = trace_lines c.args.text.now in
       let far = cut_far t homes lines (trace_lines c.lines.rest.now) tail line c.lines.follower c.lines.asks c.lines.events c.cut_at_feed.ensures.lines (c.lines.invariant.far routes are) in
-      too_long t homes lines tail line c.lines.follower c.follow.new.follower c.lines.asks c.lines.events c.in-Event.count c.args.limit far
-      (step_as t homes far.run line c.follow.new.follower c.in_ok-count.field-0 (Step.Event c.in-Event.count) c.in-Event.is (c.in_ok-count.ensures.step routes are far.run far.shows (c.sent.ensures.heard homes far.run far.splits.trace.trace.run.allowed) far.asked)) c.if-events-limit.true;
+      too_long t homes lines tail line c.lines.follower c.follow.new.follower c.lines.asks c.lines.events c.in-Event.asks c.args.limit far
+      (step_as t homes far.run line c.follow.new.follower c.in_ok-follow.field-0 (Step.Event c.in-Event.asks) c.in-Event.is (c.in_ok-follow.ensures.step routes are far.run far.shows (c.sent.ensures.heard homes far.run far.splits.trace.trace.run.allowed) far.asked)) c.if-events-limit.true;
 }
 
 pub returns-in-Closing : goal.returns-in-Closing
@@ -71,7 +71,7 @@ returns-in-Closing c = record {
       let lines = trace_lines c.args.text.now in
       let far = cut_far t homes lines (trace_lines c.lines.rest.now) tail line c.lines.follower c.lines.asks c.lines.events c.cut_at_feed.ensures.lines (c.lines.invariant.far routes are) in
       closing_next t homes c.args.first_line c.lines.line lines tail line c.lines.follower c.lines.asks c.lines.events c.in_ok-verdict-in-Closing.verdict far
-      (step_as t homes far.run line c.follow.new.follower c.in_ok-count.field-0 Step.Closing c.in-Closing.is (c.in_ok-count.ensures.step routes are far.run far.shows (c.sent.ensures.heard homes far.run far.splits.trace.trace.run.allowed) far.asked)) c.lines.invariant.place
+      (step_as t homes far.run line c.follow.new.follower c.in_ok-follow.field-0 Step.Closing c.in-Closing.is (c.in_ok-follow.ensures.step routes are far.run far.shows (c.sent.ensures.heard homes far.run far.splits.trace.trace.run.allowed) far.asked)) c.lines.invariant.place
       c.in_ok-verdict-in-Closing.ensures;
 }
 
@@ -85,7 +85,7 @@ returns-in-Not c = record {
       let lines = trace_lines c.args.text.now in
       let far = cut_far t homes lines (trace_lines c.lines.rest.now) tail line c.lines.follower c.lines.asks c.lines.events c.cut_at_feed.ensures.lines (c.lines.invariant.far routes are) in
       not_next t homes c.args.first_line c.lines.line lines tail line c.lines.follower c.follow.new.follower c.lines.asks c.lines.events c.in-Not.why far
-      (step_as t homes far.run line c.follow.new.follower c.in_ok-count.field-0 (Step.Not c.in-Not.why) c.in-Not.is (c.in_ok-count.ensures.step routes are far.run far.shows (c.sent.ensures.heard homes far.run far.splits.trace.trace.run.allowed) far.asked)) c.lines.invariant.place;
+      (step_as t homes far.run line c.follow.new.follower c.in_ok-follow.field-0 (Step.Not c.in-Not.why) c.in-Not.is (c.in_ok-follow.ensures.step routes are far.run far.shows (c.sent.ensures.heard homes far.run far.splits.trace.trace.run.allowed) far.asked)) c.lines.invariant.place;
 }
 
 pub returns : goal.returns
