@@ -100,7 +100,7 @@ module _ (homes : Homes) (given : Given homes) (a b : ℕ) (agent : IsAgent home
       in
       ap (λ (z : Message). z.body) one ∙ reserved.body
 
-  learnt_there : (source dest : List ℕ) (id : ℕ) → IsLearnt (journal a) mine.out child source dest id → IsThere rows parent id source dest
+  pub learnt_there : (source dest : List ℕ) (id : ℕ) → IsLearnt (journal a) mine.out child source dest id → IsThere rows parent id source dest
   unfolding connection_of
   learnt_there source dest _ (IsLearnt.first c id t reserved) = by (taught_by c id t)
     where
@@ -163,7 +163,7 @@ each_there homes given a b agent other asked setting role journal grown n id x i
     learnt_there homes given a b agent other asked journal grown x.source x.dest id
     (subst (λ (z : List ℕ). IsLearnt (journal a) (told (homes a) (journal a)).out z x.source x.dest id) named (k.known id known))
 
-first_true : (p q : Bool) → (p && q) ≡ true → p ≡ true
+pub first_true : (p q : Bool) → (p && q) ≡ true → p ≡ true
 first_true true q h = refl
 first_true false q h = absurd (cc)
 

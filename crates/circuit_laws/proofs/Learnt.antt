@@ -79,11 +79,11 @@ pub data IsLearnt (es : List Entry) (out : List Message) (child source dest : Li
   again : (c id old : ℕ) → IsTaught es child c id → IsReserved out child c (IsModification old) → IsLearnt es out child source dest old → IsLearnt es out child source dest id
 
 -- a correlation under which the view may learn a connection
-abbrev Awaits : ChildConnection → ℕ → Type 0
+abbrev pub Awaits : ChildConnection → ℕ → Type 0
 Awaits x c = (x.attempt ≡ Some c) ⊎ (x.reserve_request ≡ Some (sent c Kind.Reserve))
 
 -- what was asked under it
-abbrev IsAttempted : List Entry → List Message → List ℕ → List ℕ → List ℕ → ℕ → Type 0
+abbrev pub IsAttempted : List Entry → List Message → List ℕ → List ℕ → List ℕ → ℕ → Type 0
 IsAttempted es out child source dest c =
     IsReserved out child c (IsFirstBetween source dest) ⊎ ((id : ℕ) × IsReserved out child c (IsModification id) × IsLearnt es out child source dest id)
 
@@ -108,18 +108,18 @@ module _ (out more : List Message) (said : (m : Message) → Contains out m → 
   attempted_more es fs child source dest c (inl r) = inl (reserved_more child c (IsFirstBetween source dest) r)
   attempted_more es fs child source dest c (inr (id, r, l)) = inr (id, reserved_more child c (IsModification id) r, learnt_more es fs child source dest id l)
 
-  knowing_more : (es fs : List Entry) (x : ChildConnection) → IsKnowing es out x → IsKnowing (es ++ fs) more x
+  pub knowing_more : (es fs : List Entry) (x : ChildConnection) → IsKnowing es out x → IsKnowing (es ++ fs) more x
   knowing_more es fs x k =
       record { attempted = λ c a. attempted_more es fs x.child x.source x.dest c (k.attempted c a); known = λ id e. learnt_more es fs x.child x.source x.dest id (k.known id e) }
 
 -- a view at the same place
 module _ (es : List Entry) (out : List Message) (x y : ChildConnection) (same : IsSamePlace x y) where
-  attempted_same : (c : ℕ) → IsAttempted es out x.child x.source x.dest c → IsAttempted es out y.child y.source y.dest c
+  pub attempted_same : (c : ℕ) → IsAttempted es out x.child x.source x.dest c → IsAttempted es out y.child y.source y.dest c
   attempted_same c a =
       subst (λ (z : List ℕ). IsAttempted es out z y.source y.dest c) (sym same.child)
       (subst (λ (z : List ℕ). IsAttempted es out x.child z y.dest c) (sym same.source) (subst (λ (z : List ℕ). IsAttempted es out x.child x.source z c) (sym same.dest) a))
 
-  learnt_same : (id : ℕ) → IsLearnt es out x.child x.source x.dest id → IsLearnt es out y.child y.source y.dest id
+  pub learnt_same : (id : ℕ) → IsLearnt es out x.child x.source x.dest id → IsLearnt es out y.child y.source y.dest id
   learnt_same id l =
       subst (λ (z : List ℕ). IsLearnt es out z y.source y.dest id) (sym same.child)
       (subst (λ (z : List ℕ). IsLearnt es out x.child z y.dest id) (sym same.source) (subst (λ (z : List ℕ). IsLearnt es out x.child x.source z id) (sym same.dest) l))
@@ -136,17 +136,17 @@ new_knowing es out leg = record { attempted = λ c a. absurd (none c a); known =
 
 ---- A view that asks
 
-same_sent : (a b : Sent) → Some a ≡ Some b → a ≡ b
+pub same_sent : (a b : Sent) → Some a ≡ Some b → a ≡ b
 same_sent a b e = cc
 
-same_number : (a b : ℕ) → Some a ≡ Some b → a ≡ b
+pub same_number : (a b : ℕ) → Some a ≡ Some b → a ≡ b
 same_number a b e = cc
 
 same_body : (a b : Body) → Some a ≡ Some b → a ≡ b
 same_body a b e = cc
 
 -- a request of another kind
-other_awaits : (k : Kind) (c d : ℕ) (x : ChildConnection) → (k ≡ Kind.Reserve → ⊥) → Awaits (asks k c x) d → Awaits x d
+pub other_awaits : (k : Kind) (c d : ℕ) (x : ChildConnection) → (k ≡ Kind.Reserve → ⊥) → Awaits (asks k c x) d → Awaits x d
 unfolding asks
 other_awaits Kind.Reserve c d x never a = absurd (never refl)
 other_awaits Kind.ReserveCommit c d x never (inl e) = inl e
@@ -159,7 +159,7 @@ other_awaits Kind.Terminate c d x never a = a
 other_awaits _ c d x never a = a
 
 -- a reserve
-reserve_awaits : (c d : ℕ) (x : ChildConnection) → Awaits (asks Kind.Reserve c x) d → c ≡ d
+pub reserve_awaits : (c d : ℕ) (x : ChildConnection) → Awaits (asks Kind.Reserve c x) d → c ≡ d
 unfolding asks
 reserve_awaits c d x (inl e) = same_number c d e
 reserve_awaits c d x (inr e) = ap (λ (z : Sent). z.correlation) (same_sent (sent c Kind.Reserve) (sent d Kind.Reserve) e)

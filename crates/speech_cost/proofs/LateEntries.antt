@@ -1,5 +1,5 @@
 -- What an entry makes an aggregator tell to be late was asked, and wasn't told before.
-use Rattle.std.proofs.Common.{ℕ, ◌+◌, ◌≤◌, ◌≡◌, Bool, true, false, ◌&&◌, ◌==◌, nat_le, List, [], ◌∷◌, ◌++◌, Option, Some, None, refl, sym, ap, subst, arith, bytes_eq, length, slice_get}
+use Rattle.std.proofs.Common.{ℕ, ◌+◌, ◌≤◌, ◌≡◌, Bool, true, false, ◌&&◌, ◌==◌, nat_le, List, [], ◌∷◌, ◌++◌, Option, Some, None, refl, sym, ap, subst, arith, bytes_eq, length}
 use Rattle.std.specs.List.{list_any}
 use Rattle.nsi_primitive.specs.Ids.{id_of}
 use Rattle.nsi_primitive.specs.Messages.{is_request, is_query, connection_of}
@@ -20,13 +20,12 @@ use Rattle.connection_record.proofs.Saying.{tally_append}
 use Rattle.child_connection.specs.Views.{ChildConnection}
 use Rattle.agent_state.specs.declared.parent.Due.{Due}
 use Rattle.agent_state.specs.declared.parent.OpenQuery.{OpenQuery}
-use Rattle.agent_state.specs.declared.parent.Part.{Part}
 use Rattle.agent_state.specs.Entries.{error_reply, is_recursive, query_reply}
 use Rattle.agent_state.specs.State.{sends, AgentState, AgentStepped, blank_agent, stays, record_at, children_at}
 use Rattle.agent_state.proofs.Querying.{replied_by}
 use Rattle.aggregator_agent.specs.declared.agent.Agent.{Agent}
 use Rattle.aggregator_agent.specs.Asking.{Turn}
-use Rattle.aggregator_agent.specs.Below.{Sought, is_asked, seek_of, seek_one, seek, opened, nested_reply, Heard, part_of, closes_unless, told_at, tells_query, tells_first, tells_if, asked_place, hear_below}
+use Rattle.aggregator_agent.specs.Below.{Sought, is_asked, seek_of, seek_one, seek, opened, nested_reply, Heard, hear_below}
 use Rattle.aggregator_agent.specs.Clock.{due_for, is_late, is_late_of, tells_late, marked, told_dues, Told as Tell, tell_one, tell_all, ends, clocked, Clocked, clock_then, clock_all}
 use Rattle.aggregator_agent.specs.Queries.{answer_to}
 use Rattle.aggregator_agent.specs.Setting.{Setting}
@@ -39,7 +38,8 @@ use Rattle.nsi_agent.specs.Told.{Told, goes_on, told}
 use Rattle.agent_speech.proofs.Queried.{rows_answer}
 use Rattle.speech_cost.specs.Costs.{is_late_notice, says_late, asks, is_untold, IsLateByAsking}
 use Rattle.speech_cost.specs.Laws.{LatesWereAsked, LatesAreFew}
-use Rattle.speech_cost.proofs.Lates.{late_reply, NoLate, none_late, addressed_late, lives_if_late, leaves_late, request_spoken, answer_spoken}
+use Rattle.speech_cost.proofs.Silent.{below_silent}
+use Rattle.speech_cost.proofs.Lates.{late_reply, NoLate, none_late, addressed_late, late_messages, lives_if_late, leaves_late, request_spoken, answer_spoken}
 
 abbrev Lates : AgentState → AgentStepped → Type 0
 Lates s x = IsLateByAsking s x.state x.out
@@ -190,26 +190,8 @@ all_passed agent now number m next (r ∷ rs) (xs ∷ xss) =
       );
     }
 
-closed_late : (waits : Bool) (agent : List ℕ) (own : Record) (q : OpenQuery) (qs : List OpenQuery) → tally says_late (closes_unless waits agent own q qs).out ≡ 0
-closed_late true agent own q qs = none_late
-closed_late false agent own q qs = one_late (nested_reply agent own q) refl
-
-query_late : (own : Option Record) (place : Option ℕ) (agent : List ℕ) (p : Part) (q : OpenQuery) (qs : List OpenQuery) (rest : Heard) → tally says_late rest.out ≡ 0 → tally says_late (tells_query own place agent p q qs rest).out ≡ 0
-query_late (Some own) (Some n) agent p q qs rest h = closed_late (list_any is_asked (told_at n p q).parts) agent own (told_at n p q) qs
-query_late None place agent p q qs rest h = h
-query_late (Some own) None agent p q qs rest h = h
-
-first_late : (agent : List ℕ) (records : List Record) (c : ℕ) (p : Part) (qs : List OpenQuery) → tally says_late (tells_first agent records c p qs).out ≡ 0
-unfolding tells_first
-first_late agent records c p [] = none_late
-first_late agent records c p (q ∷ qs) = query_late (slice_get records q.place) (asked_place c q) agent p q qs (tells_first agent records c p qs) (first_late agent records c p qs)
-
 below_late : (agent : List ℕ) (records : List Record) (m : Message) (qs : List OpenQuery) → tally says_late (hear_below agent records m qs).out ≡ 0
-below_late agent records m qs = by (part_of m.body)
-  where
-    by : (o : Option Part) → tally says_late (tells_if o agent records m.header.correlation qs).out ≡ 0
-    by None = none_late
-    by (Some p) = first_late agent records m.header.correlation p qs
+below_late agent records m qs = let out : List Message = (hear_below agent records m qs).out in omega (arith, below_silent agent records m qs, late_messages out)
 
 hears_lates : (setting : Setting) (s : AgentState) (m : Message) → Lates s (hears setting (sees m s) m)
 unfolding hears

@@ -9,6 +9,7 @@ use Rattle.aggregator_agent.specs.Setting.{Setting as AggregatorSetting}
 use Rattle.aggregator_agent.specs.Steps.{after as aggregator_after}
 use Rattle.nsi_agent.specs.Homes.{Home, provides, aggregates}
 use Rattle.nsi_agent.specs.Told.{told}
+use Rattle.speech_cost.specs.Changes.{says_change, is_of_change, hearers, all_hearers, KnowTheirOwn, AlwaysKnowTheirOwn, IsToldByHearing}
 use Rattle.speech_cost.specs.Costs.{messages_cost, left_by, says_own, own_left_by, worth, IsPaid, IsPaidByOwn, says_late, asks, IsLateByAsking}
 
 -- what an entry makes a provider say is paid
@@ -38,3 +39,23 @@ LatesWereAsked = (setting : AggregatorSetting) (s : AgentState) (e : Entry) → 
 -- so an aggregator tells of no more late requests than it has asked
 abbrev pub LatesAreFew : Type 0
 LatesAreFew = (h : Home) (setting : AggregatorSetting) (es : List Entry) → h.role ≡ aggregates setting → tally says_late (told h es).out ≤ tally asks (told h es).out
+
+-- an entry makes an aggregator tell no more changes of the data plane than there are views that hear of one from their child
+abbrev pub EntriesPassChangesOn : Type 0
+EntriesPassChangesOn = (setting : AggregatorSetting) (s : AgentState) (e : Entry) → tally says_change (aggregator_after setting s e).out ≤ hearers s e.input
+
+-- so do all entries
+abbrev pub ChangesArePassedOn : Type 0
+ChangesArePassedOn = (h : Home) (setting : AggregatorSetting) (es : List Entry) → h.role ≡ aggregates setting → tally says_change (told h es).out ≤ all_hearers h es
+
+-- where no two views of one child know one connection, a change is told once for one that is heard for the first time
+abbrev pub EntriesTellWhatIsHeard : Type 0
+EntriesTellWhatIsHeard =
+    (setting : AggregatorSetting) (s : AgentState) (e : Entry) → KnowTheirOwn s →
+    IsToldByHearing s (aggregator_after setting s e).state (aggregator_after setting s e).out
+
+-- so an aggregator tells no more changes than it has heard
+abbrev pub ChangesWereHeard : Type 0
+ChangesWereHeard =
+    (h : Home) (setting : AggregatorSetting) (es : List Entry) → h.role ≡ aggregates setting → AlwaysKnowTheirOwn h es →
+    tally says_change (told h es).out ≤ tally is_of_change (told h es).state.base.heard

@@ -1,0 +1,4 @@
+//! What aggregators tell in runs of the data planes below them.
+#![tactic(auto)]
+
+pub mod laws;

@@ -1,0 +1,11 @@
+pub mod Fees
+pub mod Views
+pub mod Requesting
+pub mod Lasting
+pub mod Turns
+pub mod Sides
+pub mod Clocks
+pub mod Aggregating
+pub mod Journals
+pub mod Reserving
+pub mod Taken
