@@ -1,7 +1,7 @@
 """Topologies, least paths, scripts, nodes and rounds, written from the rules alone; `run` plays an input and writes its trace.
 
 A link's queue and what is under way on it are lists of parcels, ("message", MESSAGE) or ("ack", IDENTITY). Nothing is kept
-on a disk: an agent's journal is the list of its entries. Lines `stop` have the fault Unbuilt, as in the program.
+on a disk: an agent's journal is the list of its entries. The calls of its disk are counted, so that it stops where that is planned.
 """
 import re
 
@@ -15,7 +15,7 @@ LONGEST_HOLD = 86_400
 RECORDS = 4_194_304
 MOST_AGENTS, MOST_POINTS, MOST_ASKS, GREATEST_RANK = 64, 4_096, 100_000, 4
 PLACES = 1_024
-STATUS = {"Done": 0, "Usage": 4, "BadTopology": 5, "BadScript": 6, "Long": 8}
+STATUS = {"Done": 0, "Usage": 4, "BadTopology": 5, "BadScript": 6, "DiskFault": 7, "Long": 8}
 ANSWERS = {kind for kinds in ANSWERED_BY.values() for kind in kinds}
 KINDS = {*REQUESTS, *ANSWERS, "reserveResponse", *TOLD, *(f"{kind}Confirmed" for kind in QUERIES)}
 
@@ -207,6 +207,8 @@ class Script:
     def __init__(self, topology):
         self.topology = topology
         self.plan = {}
+        # By agent: the image of each call at which its disk stops.
+        self.stops = {agent: {} for agent in topology.agents}
         self.groups = []
         self.asks = 0
         self.labels = set()
@@ -236,9 +238,12 @@ class Script:
 
     def stop(self, agent, call, image):
         name(agent)
-        number(call, 1, 2**64 - 1)
+        call = number(call, 1, 2**64 - 1)
         demand_form(image in ("old", "new", "torn"))
-        raise Fault("Unbuilt")
+        demand_form(call not in self.stops.get(agent, {}))
+        if agent not in self.stops:
+            raise Fault("Agent")
+        self.stops[agent][call] = image
 
     def restart(self, agent):
         name(agent)
@@ -313,10 +318,53 @@ def agent_of(topology, agent):
     return Requester(place, agent, what["provider"])
 
 
+class End(Exception):
+    """How a run ends before its script: the word of its status, and its fault line."""
+
+
+class Disk:
+    """What is counted of an agent's disk: its calls, and whether its file is shorter than a batch."""
+
+    def __init__(self, agent, stops):
+        self.agent = agent
+        self.stops = stops
+        self.calls = 0
+        self.is_short = True
+
+    def call(self):
+        """The image of a stop at the next call."""
+        self.calls += 1
+        return self.stops.get(self.calls)
+
+    def go(self, calls):
+        """Calls of a journal that is made or read: a stop there ends the run."""
+        for _ in range(calls):
+            if self.call():
+                raise End("DiskFault", f"fault disk {self.agent}")
+
+    def make(self):
+        """The file is cut, that is synced, a closed gate is written, and that is synced."""
+        self.go(4)
+
+    def read(self):
+        """A sync, the length, and the bytes; a short file gets a closed gate, which is synced."""
+        self.go(5 if self.is_short else 3)
+
+    def keep(self):
+        """A batch is written, synced, its gate is opened, and that is synced. Whether the disk stops there, and whether the batch is kept."""
+        for call in range(1, 5):
+            image = self.call()
+            if image:
+                self.is_short = self.is_short and call <= 2 and image == "old"
+                return True, (call == 3 and image == "new") or (call == 4 and image != "old")
+        self.is_short = False
+        return False, True
+
+
 class Node:
     """An agent with its links: what waits to be sent, and what was sent to it before the round."""
 
-    def __init__(self, topology, agent, plan):
+    def __init__(self, topology, agent, plan, stops):
         self.begin = lambda: agent_of(topology, agent)
         self.agent = self.begin()
         self.plan = plan
@@ -329,6 +377,8 @@ class Node:
         self.pushed = {other: [] for other in self.others}
         self.counts = {}
         self.events = []
+        self.disk = Disk(agent, stops)
+        self.has_stopped = False
 
     def enter(self, entry, *words):
         """Takes an entry, and writes its event with the answer in front of the words, where there is one."""
@@ -352,6 +402,8 @@ class Node:
 
     def restart(self):
         """Goes on from the synced entries: what was queued is gone, what waits for its acknowledgement is queued, what came lies there."""
+        self.disk.read()
+        self.has_stopped = False
         self.entries = self.entries[: self.synced]
         self.agent = self.begin()
         for entry in self.entries:
@@ -366,7 +418,8 @@ class Node:
         under_way = [*self.queues.values(), *self.incoming.values()]
         return len(self.entries) == self.synced and self.agent.waiting_work() is None and not any(under_way)
 
-    def turn(self):
+    def turn(self, room):
+        """A turn, which ends where the disk stops: then what was kept is synced, and nothing is queued or pushed."""
         for other in self.others:
             for parcel in self.incoming[other]:
                 self.take(other, *parcel)
@@ -374,7 +427,12 @@ class Node:
         while work := self.agent.waiting_work():
             self.enter(("work", *work), work[0], work[1].lower())
         if self.synced < len(self.entries):
-            self.synced = len(self.entries)
+            if len(self.events) >= room:
+                raise End("Long", "fault long")
+            self.has_stopped, is_kept = self.disk.keep()
+            self.synced = len(self.entries) if is_kept else self.synced
+            if self.has_stopped:
+                return
             self.events.append(f"sync {self.agent.name} {self.synced}")
             for message in self.unsynced_messages:
                 self.queues[receiver(message)].append(("message", message))
@@ -407,13 +465,13 @@ class Node:
 
 
 def nodes_of(topology, script):
-    return {agent: Node(topology, agent, script.plan) for agent in topology.agents}
+    return {agent: Node(topology, agent, script.plan, script.stops[agent]) for agent in topology.agents}
 
 
-def make_round(nodes):
+def make_round(nodes, room):
     """One agent after another has its turn; then what was pushed is under way to its receiver."""
     for node in nodes.values():
-        node.turn()
+        node.turn(room)
     for node in nodes.values():
         for other in node.others:
             nodes[other].incoming[node.agent.name] = node.pushed[other]
@@ -427,28 +485,55 @@ def taken_events(nodes):
     return events
 
 
-def play_group(nodes, second, acts):
+class Events:
+    """What has happened in a group; there is room for so many."""
+
+    def __init__(self, room):
+        self.all = []
+        self.room = room
+
+    def take(self, nodes):
+        self.all += taken_events(nodes)
+
+    def demand_room(self):
+        if len(self.all) > self.room:
+            raise End("Long", "fault long")
+
+
+def play_group(nodes, second, acts, room=MOST_EVENTS):
+    """Behind a round those whose disks have stopped go on, and behind its other events stand theirs."""
+    events = Events(room)
     for node in nodes.values():
         node.tick(second)
-    events = taken_events(nodes)
+    events.take(nodes)
     for agent, act in acts:
+        events.demand_room()
         nodes[agent].act(act)
-        events += taken_events(nodes)
+        events.take(nodes)
+    events.demand_room()
     while not all(node.is_quiet() for node in nodes.values()):
-        make_round(nodes)
-        events += taken_events(nodes)
-    return events
+        make_round(nodes, room - len(events.all))
+        events.take(nodes)
+        events.demand_room()
+        for node in nodes.values():
+            if node.has_stopped:
+                node.restart()
+        events.take(nodes)
+        events.demand_room()
+    return events.all
 
 
 def play(nodes, groups, limit):
-    """The lines of the run, and whether it has too many events; then the last group's aren't among them."""
+    """The lines of the run's whole groups, and how it ends before its script, if it does."""
     written = []
-    for second, acts in groups:
-        events = play_group(nodes, second, acts)
-        if len(written) + len(events) > limit:
-            return written, True
-        written += events
-    return written, False
+    try:
+        for node in nodes.values():
+            node.disk.make()
+        for second, acts in groups:
+            written += play_group(nodes, second, acts, limit - len(written))
+    except End as end:
+        return written, end
+    return written, None
 
 
 def run(text, limit=MOST_EVENTS):
@@ -464,7 +549,8 @@ def run(text, limit=MOST_EVENTS):
         script = read_script(lines[length:], length + 1, topology)
     except Fault as fault:
         return STATUS["BadScript"], ["fault script {} {}".format(*fault.args)]
-    written, is_long = play(nodes_of(topology, script), script.groups, limit)
-    if is_long:
-        return STATUS["Long"], [*written, "fault long"]
+    written, end = play(nodes_of(topology, script), script.groups, limit)
+    if end:
+        word, line = end.args
+        return STATUS[word], [*written, line]
     return STATUS["Done"], [*written, f"settled {len(written)}"]
