@@ -1,0 +1,4 @@
+pub mod Within
+pub mod Lists
+pub mod Heard
+pub mod Children

@@ -1,0 +1,16 @@
+-- The laws of how many changes of the data plane are told in runs.
+use Rattle.std.specs.Prelude.{ℕ, ◌≡◌, ◌≤◌, ◌*◌}
+use Rattle.aggregator_agent.specs.Setting.{Setting}
+use Rattle.nsi_agent.specs.Homes.{aggregates}
+use Rattle.agent_node.specs.Openings.{agents}
+use Rattle.nsi_world.specs.Worlds.{IsAgent}
+use Rattle.circuit_laws.specs.Laws.{InEveryRun}
+use Rattle.run_changes.specs.Told.{AreHeardOnce, changes_told, provider_changes_told}
+
+-- what an aggregator has heard of changes its children have told it, each counted once
+abbrev pub ChangesAreHeardOnce : Type 0
+ChangesAreHeardOnce = InEveryRun (λ t homes w. (a : ℕ) (setting : Setting) → IsAgent homes a → (homes a).role ≡ aggregates setting → AreHeardOnce t homes w a)
+
+-- all agents together tell no more than five times as many changes as the providers
+abbrev pub ChangesAreFew : Type 0
+ChangesAreFew = InEveryRun (λ t homes w. changes_told homes w (agents t) ≤ 5 * provider_changes_told homes w (agents t))
