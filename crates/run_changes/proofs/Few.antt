@@ -45,7 +45,7 @@ agent_is : (t : Network) (routes : Routes) (a : ℕ) → IsWellFormed t → a < 
 unfolding home_in
 agent_is t routes a formed lt = formed.agents a lt
 
-all_agents : (t : Network) (routes : Routes) → IsWellFormed t → All (IsAgent (home_in t routes)) (agents t)
+pub all_agents : (t : Network) (routes : Routes) → IsWellFormed t → All (IsAgent (home_in t routes)) (agents t)
 all_agents t routes formed k d lt =
     let n : ℕ = length t.agents in
     let within : k < n = omega (arith, lt, length-range_with_len 0 n) in

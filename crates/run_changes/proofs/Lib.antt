@@ -5,3 +5,4 @@ pub mod Children
 pub mod Ranks
 pub mod Sums
 pub mod Few
+pub mod Messages

@@ -1,5 +1,5 @@
 -- Changes of the data plane in a world: those that agents have told, and those that an aggregator has heard.
-use Rattle.std.specs.Prelude.{ℕ, ◌≡◌, true, List, [], ◌∷◌, sum_by, if◌then◌else◌}
+use Rattle.std.specs.Prelude.{ℕ, ◌≡◌, true, List, [], ◌∷◌, length, sum_by, if◌then◌else◌}
 use Rattle.std.specs.List.{All, filter}
 use Rattle.nsi_primitive.specs.Messages.{identity}
 use Rattle.nsi_primitive.specs.declared.message.Identity.{Identity}
@@ -11,6 +11,7 @@ use Rattle.nsi_agent.specs.Told.{told}
 use Rattle.nsi_world.specs.Worlds.{Homes, World, IsSaidBy, IsTo}
 use Rattle.nsi_world.specs.Runs.{is_provider}
 use Rattle.speech_cost.specs.Changes.{says_change, is_of_change}
+use Rattle.speech_cost.specs.Costs.{asks}
 
 ---- What is told
 
@@ -29,6 +30,18 @@ changes_told homes w agents = sum_by (changes_by homes w) agents
 -- how many the providers among them have told
 abbrev pub provider_changes_told : Homes → World → (agents : List ℕ) → ℕ
 provider_changes_told homes w agents = sum_by (provider_changes_by homes w) agents
+
+-- how many messages of any kind these agents have told together
+abbrev pub messages_told : Homes → World → (agents : List ℕ) → ℕ
+messages_told homes w agents = sum_by (λ a. length (told (homes a) (w.journal a)).out) agents
+
+-- how many of these are requests
+abbrev pub requests_asked : Homes → World → (agents : List ℕ) → ℕ
+requests_asked homes w agents = sum_by (λ a. tally asks (told (homes a) (w.journal a)).out) agents
+
+-- how many requests they have taken together
+abbrev pub requests_taken : Homes → World → (agents : List ℕ) → ℕ
+requests_taken homes w agents = sum_by (λ a. length (told (homes a) (w.journal a)).state.base.seen) agents
 
 ---- What is heard
 
