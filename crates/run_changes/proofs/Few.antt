@@ -106,7 +106,7 @@ module _ (own : WhatIsSaidIsItsOwn) (sent : HeardWasSent) (once : ChangesAreHear
   unfolding changes
   changes_length b = tally_filter says_change (out b)
 
-  -- who asks a requester? nobody, so it tells none
+  -- nobody asks a requester, so it tells none
   none_of_requesters : (b : ℕ) → IsAgent homes b → is_requester (homes b).role ≡ true → changes_by homes w b ≡ 0
   none_of_requesters b is asks = sym (changes_length b) ∙ by (changes b) (all_changes b)
     where

@@ -1,4 +1,4 @@
--- The laws of how many changes of the data plane are told in runs.
+-- The laws of how many changes of the data plane, and how many messages, are told in runs.
 use Rattle.std.specs.Prelude.{ℕ, true, ◌≡◌, ◌≤◌, ◌+◌, ◌*◌}
 use Rattle.aggregator_agent.specs.Setting.{Setting}
 use Rattle.nsi_agent.specs.Homes.{aggregates}

@@ -1,4 +1,4 @@
--- Changes of the data plane in a world: those that agents have told, and those that an aggregator has heard.
+-- What agents have told in a world, as numbers, and which changes of the data plane an aggregator has heard.
 use Rattle.std.specs.Prelude.{ℕ, ◌≡◌, true, List, [], ◌∷◌, length, sum_by, if◌then◌else◌}
 use Rattle.std.specs.List.{All, filter}
 use Rattle.nsi_primitive.specs.Messages.{identity}

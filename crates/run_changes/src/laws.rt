@@ -1,4 +1,4 @@
-//! The laws of how many changes of the data plane are told in runs. Each function is its contract.
+//! The laws of how many changes of the data plane, and how many messages, are told in runs. Each function is its contract.
 
 ghost use Rattle.run_changes.specs.Laws.{ChangesAreHeardOnce, RequestersTellNone, ChangesAreFew, MessagesAreFew};
 
@@ -16,7 +16,7 @@ pub fn heard_from_children()
 }
 
 /// In every run a requester tells no change of the data plane, and all agents together tell no more than five times as many as the providers:
-/// what an aggregator tells a child has told it, and no more than four aggregators stand one above the other.
+/// an aggregator tells no more than its children have told it, and no more than four aggregators stand one above the other.
 pub fn changes_are_few()
     ensures requesters { RequestersTellNone }
     ensures all { ChangesAreFew }

@@ -1,4 +1,4 @@
-//! How many changes of the data plane are told in runs.
+//! How many changes of the data plane, and how many messages, are told in runs.
 #![tactic(auto)]
 
 pub mod laws;
