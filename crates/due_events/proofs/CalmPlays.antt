@@ -42,7 +42,7 @@ none_first : (ns : List ℕ) → sum_by (λ (n : ℕ). 0) ns ≡ 0
 none_first [] = refl
 none_first (n ∷ ns) = omega (arith, sum_by-cons (λ (m : ℕ). 0) n ns, none_first ns)
 
-none_stops : (ns : List ℕ) (groups rounds : ℕ) → all_stops ns (calm_stops groups rounds) ≡ 0
+pub none_stops : (ns : List ℕ) (groups rounds : ℕ) → all_stops ns (calm_stops groups rounds) ≡ 0
 none_stops ns groups rounds = omega (arith, none_first ns, no_play_stops ns groups rounds)
 
 ---- So the play is one by tapes
@@ -51,7 +51,7 @@ remade_none : (net : Net) → remade (λ a. 0) net ≡ []
 remade_none [] = refl
 remade_none (s ∷ ss) = remade_none ss
 
-calm_is : (t : Network) (routes : Routes) (plans : Plans) (rounds : ℕ) (script : List Group) → played t routes plans (calm_stops (length script) rounds) script ≡ plays rounds script 0 (home_in t routes) (opening t plans)
+pub calm_is : (t : Network) (routes : Routes) (plans : Plans) (rounds : ℕ) (script : List Group) → played t routes plans (calm_stops (length script) rounds) script ≡ plays rounds script 0 (home_in t routes) (opening t plans)
 calm_is t routes plans rounds script =
     let x : Net = opening t plans in
     ap (λ (es : List Event). behind es (plays_by (copies (length script) (calm rounds)) script 0 (home_in t routes) x)) (remade_none x) ∙ calm_tapes rounds script 0 (home_in t routes) x

@@ -16,5 +16,5 @@ mod Bounding
 mod Outside
 mod Scripted
 mod ShortPlays
-mod CalmPlays
+pub mod CalmPlays
 mod Rows
