@@ -38,7 +38,7 @@ no_play_stops : (ns : List ℕ) (groups rounds : ℕ) → play_stops ns (copies 
 no_play_stops ns zero rounds = refl
 no_play_stops ns (suc groups) rounds = omega (arith, no_round_stops ns rounds, no_play_stops ns groups rounds)
 
-none_first : (ns : List ℕ) → sum_by (λ (n : ℕ). 0) ns ≡ 0
+pub none_first : (ns : List ℕ) → sum_by (λ (n : ℕ). 0) ns ≡ 0
 none_first [] = refl
 none_first (n ∷ ns) = omega (arith, sum_by-cons (λ (m : ℕ). 0) n ns, none_first ns)
 
