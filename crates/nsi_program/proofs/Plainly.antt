@@ -16,7 +16,7 @@ use Rattle.provide_command.specs.Provided.{HasProvided, CountsEnd}
 use Rattle.provide_command.specs.Writes.{WritesSome, WritesSomeFront}
 use Rattle.provide_command.proofs.Declared.{is_complete, is_safe, names_fault}
 use Rattle.run_command.specs.Ends.{IsCutShort as RunIsCutShort, IsQuiet}
-use Rattle.run_command.specs.Runs.{Breaks, KeepsRun}
+use Rattle.run_command.specs.Runs.{Breaks, KeepsRun, IsHeavy}
 use Rattle.nsi_base.specs.Lines.{lines_of}
 use Rattle.nsi_base.specs.Range.{greatest_input}
 use Rattle.stp_topology.specs.declared.fault.TopologyFault.{TopologyFault}
@@ -58,6 +58,7 @@ provide_plain most old new status few p q b = record {
   broken = p.broken;
   backed = λ m e. b;
   journals = λ play e. absurd (no_play play e);
+  settles = λ play e. absurd (no_play play e);
   quiet_in = q.quiet_in;
   quiet_out = q.quiet_out;
   quiet_disk = λ told _. (q.quiet_faults told, q.quiet_stops told);
@@ -150,6 +151,7 @@ check_plain old content left reads writes status p = record {
   broken = λ e. absurd (p.not_disk e);
   backed = λ m e. absurd (no_provide m e);
   journals = λ play e. absurd (no_play play e);
+  settles = λ play e. absurd (no_play play e);
   quiet_in = p.quiet_in;
   quiet_out = p.quiet_out;
   quiet_disk = λ told _. (raised_none old.counts.faults, raised_none old.counts.stops);
@@ -194,6 +196,7 @@ generate_plain load old content writes status p = record {
   broken = λ e. absurd (p.not_disk e);
   backed = λ m e. absurd (no_provide m e);
   journals = λ play e. absurd (no_play play e);
+  settles = λ play e. absurd (no_play play e);
   quiet_in = λ told. refl;
   quiet_out = p.quiet;
   quiet_disk = λ told _. (raised_none old.counts.faults, raised_none old.counts.stops);
@@ -228,6 +231,7 @@ usage_plain old content writes status p = record {
   broken = λ e. absurd (p.not_disk e);
   backed = λ m e. absurd (no_command (Command.Provide m) e);
   journals = λ play e. absurd (no_command (Command.Run play) e);
+  settles = λ play e. absurd (no_command (Command.Run play) e);
   quiet_in = λ told. refl;
   quiet_out = p.quiet;
   quiet_disk = λ told _. (raised_none old.counts.faults, raised_none old.counts.stops);
@@ -257,6 +261,7 @@ nothing_plain none words old = record {
   broken = λ e. absurd (no_disk e);
   backed = λ m e. nothing_backs old.holds old.content old.left;
   journals = λ play e done. absurd (no_done done);
+  settles = λ play e long. absurd (no_long long);
   quiet_in = λ told. refl;
   quiet_out = λ told. refl;
   quiet_disk = λ told _. absurd (untold told);
@@ -279,6 +284,9 @@ nothing_plain none words old = record {
     no_done : Status.NoMemory ≡ Status.Done → ⊥
     no_done e = cc
 
+    no_long : Status.NoMemory ≡ Status.Long → ⊥
+    no_long e = cc
+
 ---- Runs
 
 -- what `run` promises
@@ -296,6 +304,7 @@ pub record HasRun (play : Play) (old new : Outside) (status : Status) : Type 0 w
   pub reading : status ≡ Status.ReadFault → new.writes ≡ old.writes
   pub memory : status ≡ Status.NoMemory → new.writes ≡ old.writes
   pub journals : status ≡ Status.Done → IfSome old.left (λ bytes. KeepsRun bytes (disks_of old new))
+  pub settles : status ≡ Status.Long → IfSome old.left (λ bytes. IsHeavy (options_of play) (disks_of old new) bytes)
 
 pub run_plain : (play : Play) (old new : Outside) (status : Status) → HasRun play old new status → EndsPlainly (Some (Command.Run play)) old new status
 run_plain play old new status p = record {
@@ -314,6 +323,7 @@ run_plain play old new status p = record {
   broken = p.broken;
   backed = λ m e. absurd (no_provide m e);
   journals = λ other e. p.journals;
+  settles = λ other e long. subst (λ (own : Play). IfSome old.left (λ bytes. IsHeavy (options_of own) (disks_of old new) bytes)) (same_play other e) (p.settles long);
   quiet_in = p.quiet_in;
   quiet_out = p.quiet_out;
   quiet_disk = p.quiet_disk;
@@ -321,6 +331,9 @@ run_plain play old new status p = record {
   memory = p.memory;
 }
   where
+    same_play : (other : Play) → Some (Command.Run play) ≡ Some (Command.Run other) → play ≡ other
+    same_play other e = cc
+
     no_provide : (m : ℕ) → Some (Command.Run play) ≡ Some (Command.Provide m) → ⊥
     no_provide m e = cc
 
@@ -365,6 +378,7 @@ verify_plain most old content left reads writes status p = record {
   broken = λ e. absurd (p.not_disk e);
   backed = λ m e. absurd (no_provide m e);
   journals = λ play e. absurd (no_play play e);
+  settles = λ play e. absurd (no_play play e);
   quiet_in = p.quiet_in;
   quiet_out = p.quiet_out;
   quiet_disk = λ told _. (raised_none old.counts.faults, raised_none old.counts.stops);

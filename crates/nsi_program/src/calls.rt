@@ -9,11 +9,12 @@ ghost use Rattle.command_words.specs.declared.command.Command.TheVariants.{Provi
 ghost use Rattle.command_words.specs.declared.command.Load.{Load};
 ghost use Rattle.command_words.specs.declared.command.Play.{Play};
 ghost use Rattle.nsi_script.specs.Load.{load_of};
-ghost use Rattle.run_command.specs.Runs.{disks, KeepsRun};
+ghost use Rattle.run_command.specs.Runs.{disks, KeepsRun, IsHeavy};
 ghost use Rattle.fault_lines.specs.Counts.{counted, HasDiskFault};
 ghost use Rattle.provide_command.specs.Ends.{WithReading};
 ghost use Rattle.nsi_program.specs.Ends.{HasEnded, IsChecked, IsCut, IsBroken, IsCutShort, ReadsTopology, TellsDisks, AreQuiet};
 ghost use Rattle.nsi_program.specs.Plain.{EndsPlainly, outside};
+ghost use Rattle.nsi_program.specs.RunsTo.{options_of};
 
 use crate::check::check;
 use crate::generating::generate;
@@ -106,6 +107,16 @@ where
         → result ≡ Status.Done → IfSome (S.left input.old)
         (λ bytes. KeepsRun bytes
         (disks (H.holds shelf.old) (H.holds shelf.new) (H.stops shelf.old) (H.stops shelf.new))) }
+
+    // `run` makes too many events only where the input is too long, or where the weight of its script is above the
+    // limit: a number that topology and script tell. So with a limit of that weight it is Done, or a fault comes from
+    // outside.
+    ensures settles { (play : Play)
+        → command_of (map string_bytes words.now) ≡ Some (RunValue play)
+        → result ≡ Status.Long → IfSome (S.left input.old)
+        (λ bytes. IsHeavy (options_of play)
+        (disks (H.holds shelf.old) (H.holds shelf.new) (H.stops shelf.old) (H.stops shelf.new))
+        bytes) }
 
     // No fault is swallowed, and none is told as want of memory; but a failed read is, or a failed disk, where there is
     // no memory for its line. In the round of `run` that has too many events another agent's disk may have failed too,

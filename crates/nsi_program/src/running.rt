@@ -2,7 +2,7 @@
 
 ghost use Rattle.std.specs.Prelude.{◌≡◌, ◌<◌, ◌⊎◌, true, IfSome};
 ghost use Rattle.run_command.specs.Ends.{IsCutShort as IsRunCutShort, IsQuiet, is_told as is_told_end, HidesDisks as HidesEnd};
-ghost use Rattle.run_command.specs.Runs.{disks, KeepsRun, Breaks as BreaksRun};
+ghost use Rattle.run_command.specs.Runs.{disks, KeepsRun, Breaks as BreaksRun, IsHeavy};
 ghost use Rattle.fault_lines.specs.Counts.{counted, HasDiskFault};
 ghost use Rattle.provide_command.specs.Promise.{is_told, read_fault_line, Writes};
 ghost use Rattle.nsi_program.specs.RunsTo.{RunsTo, options_of, status_of_run, HidesDisks};
@@ -84,6 +84,10 @@ where
     ensures journals { result ≡ Status.Done → IfSome (S.left input.old)
         (λ bytes. KeepsRun bytes
         (disks (H.holds shelf.old) (H.holds shelf.new) (H.stops shelf.old) (H.stops shelf.new))) }
+    ensures settles { result ≡ Status.Long → IfSome (S.left input.old)
+        (λ bytes. IsHeavy (options_of play)
+        (disks (H.holds shelf.old) (H.holds shelf.new) (H.stops shelf.old) (H.stops shelf.new))
+        bytes) }
 {
     let resources = Resources {
         alloc,

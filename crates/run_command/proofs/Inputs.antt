@@ -26,7 +26,7 @@ use Rattle.net_run.specs.Shelves.{IsQuiet as IsShelfQuiet}
 use Rattle.run_command.specs.declared.command.RunEnd.{RunEnd}
 use Rattle.topology_input.specs.declared.Declared.{Declared}
 use Rattle.topology_input.specs.Reading.{IsDeclared}
-use Rattle.run_command.specs.Runs.{NothingIsSafeThroughout, Disks, script_behind, AreRead, Plays, StartsPlay, BeginsPlay, BreaksPlay, no_text, RunsScript, RunsRead, RunsIf, Runs, Begins, Breaks}
+use Rattle.run_command.specs.Runs.{IsHeavy, NothingIsSafeThroughout, Disks, script_behind, AreRead, Plays, StartsPlay, BeginsPlay, BreaksPlay, no_text, RunsScript, RunsRead, RunsIf, Runs, Begins, Breaks}
 use Rattle.run_command.specs.Ends.{WritesSomeFront, Counts, Closes, HasPlayed, HasRead}
 use Rattle.run_command.proofs.Closing.{nothing_front}
 use Rattle.run_command.proofs.Running.{none_all, some_front, told_run, run_along}
@@ -173,6 +173,11 @@ long_begun options d None old new l w = tt
 long_begun options d (Some bytes) old new l w =
     let P : Bool → Type 0 = λ b. RunsIf b options d bytes RunEnd.Long long_line in
     some_front (Begins options d bytes) old new long_line (inl (RunEnd.Long, subst P (sym (passes (length bytes) greatest_input l)) (refl, refl))) w
+
+-- an input that is longer than is taken
+pub long_heavy : (options : RunOptions) (d : Disks) (left : Option (List ℕ)) → IfSome left (λ bytes. greatest_input < length bytes) → IfSome left (λ bytes. IsHeavy options d bytes)
+long_heavy options d None l = tt
+long_heavy options d (Some bytes) l = inl l
 
 -- nothing was written of an input that was read
 pub wanting_read : NothingIsSafeThroughout → (options : RunOptions) (d : Disks) → d.before ≤ d.after → (bytes : List ℕ) (old : Option (List ℕ)) (counts : Counts) (faults : ℕ) → HasRead options d bytes old old counts counts faults faults RunEnd.NoMemory

@@ -1,5 +1,5 @@
 -- What a run has come to.
-use Rattle.std.proofs.Common.{◌≡◌, ◌<◌, ◌⊎◌, inl, inr, ℕ, List, [], ◌++◌, true, Option, Some, None, refl, sym, ap, ◌∙◌, subst, append-nil}
+use Rattle.std.proofs.Common.{◌≡◌, ◌<◌, ◌⊎◌, inl, inr, ℕ, ◌+◌, List, [], ◌++◌, true, Option, Some, None, refl, sym, ap, ◌∙◌, subst, append-nil}
 use Rattle.nsi_outside.specs.Stream.{WritesAll, WritesFront}
 use Rattle.stp_topology.specs.declared.network.Network.{Network}
 use Rattle.stp_topology.specs.Network.{name_of}
@@ -15,8 +15,8 @@ use Rattle.net_run.specs.Shelves.{HasBroken, HasFaultOf, IsUnread}
 use Rattle.net_run.specs.Worlds.{WritesPlay, WritesTooLong, WritesGroups, WritesSomeOfPlay}
 use Rattle.nsi_play.specs.Openings.{plans_of}
 use Rattle.run_command.specs.declared.command.RunEnd.{RunEnd}
-use Rattle.run_command.specs.Runs.{Disks, Plays, BeginsPlay, BreaksPlay, KeepsPlay, no_text, closing_line}
-use Rattle.run_command.proofs.Wholes.{CanRun, whole_run, front_run}
+use Rattle.run_command.specs.Runs.{Disks, Plays, BeginsPlay, BreaksPlay, KeepsPlay, IsBelowWeight, no_text, closing_line}
+use Rattle.run_command.proofs.Wholes.{CanRun, whole_run, front_run, below_weight}
 use Rattle.run_command.specs.Ends.{HidesDisks, IsOfAgent as IsFaultOf, is_told, WritesSome, WritesSomeFront, Counts, HasDiskFault, Closes, IsQuiet, FailsAs, HasRun, HasPlayed}
 use Rattle.run_command.proofs.Closing.{behind_all, behind_front}
 
@@ -168,7 +168,7 @@ module _ (t : Network) (options : RunOptions) (d : Disks) (script : Script) (old
   pub too_long_run : CanRun options.limit t script → PlayTooLong t options d script old mid → Closes long_line RunEnd.Long end mid new m a → HasPlayed options d t script old new before after b a end
   too_long_run can w k =
       let text = written options.report t w.1 ++ long_line in
-      let is : Plays options d t script RunEnd.Long text = record { groups = w.0; events = w.1; first = record { play = w.2; run = front_run options.limit t script d.held d.before d.after w.0 w.1 can w.2 w.3; within = w.3 }; passes = w.4; spelled = refl } in
+      let is : Plays options d t script RunEnd.Long text = record { groups = w.0; events = w.1; first = record { play = w.2; run = front_run options.limit t script d.held d.before d.after w.0 w.1 can w.2 w.3; within = w.3 }; passes = w.4; below = below_weight options.limit t script d (w.0 + 1) can w.4; spelled = refl } in
       told_run (Plays options d t script) (BeginsPlay options d t script) (BreaksPlay options d t script) old mid new before after b a (written options.report t w.1) long_line end w.5
       RunEnd.Long (closes_from long_line RunEnd.Long k) refl is (inl (RunEnd.Long, is)) (λ n. absurd (n tt))
 
@@ -249,6 +249,22 @@ module _ (t : Network) (options : RunOptions) (d : Disks) (script : Script) (old
       silent_run t options d script old new before after b a can end (λ w. cc) (λ _. k.still ∙ f.quiet (λ w. cc)) (inr k.is) (subst P (sym k.same) f.front)
 
 -- a play that has failed isn't done
+pub long_only : (own end : RunEnd) → Kind own end → (own ≡ RunEnd.Long → ⊥) → end ≡ RunEnd.Long → ⊥
+long_only own end (inl e) n d = n (sym e ∙ d)
+long_only own end (inr (inl e)) n d = cc
+long_only own end (inr (inr e)) n d = cc
+
+pub fails_long : (t : Network) (fault : RunFault) (end : RunEnd) (old new : Option (List ℕ)) (b a : ℕ) → FailsAs t fault end old new b a → end ≡ RunEnd.Long → fault ≡ RunFault.Long
+fails_long t RunFault.Long end old new b a k e = refl
+fails_long t (RunFault.DiskFault agent) end old new b a k e = absurd (long_only RunEnd.DiskFault end k.kind (λ d. cc) e)
+fails_long t (RunFault.NotAJournal agent place) end old new b a k e = absurd (long_only RunEnd.NotAJournal end k.kind (λ d. cc) e)
+fails_long t RunFault.WriteFault end old new b a k e = let i = k.is in cc
+fails_long t RunFault.NoMemory end old new b a k e = let i = k.is in cc
+
+-- a play is too long only where the weight of its script is above the limit
+pub too_heavy : (t : Network) (options : RunOptions) (d : Disks) (script : Script) (old new : Option (List ℕ)) → CanRun options.limit t script → PlayTooLong t options d script old new → IsBelowWeight options.limit d t script.groups
+too_heavy t options d script old new can w = below_weight options.limit t script d (w.0 + 1) can w.4
+
 pub fails_not_done : (t : Network) (fault : RunFault) (end : RunEnd) (old new : Option (List ℕ)) (b a : ℕ) → FailsAs t fault end old new b a → end ≡ RunEnd.Done → ⊥
 fails_not_done t RunFault.Long end old new b a k e = kinds RunEnd.Long end k.kind (λ d. cc) e
 fails_not_done t (RunFault.DiskFault agent) end old new b a k e = kinds RunEnd.DiskFault end k.kind (λ d. cc) e

@@ -1,6 +1,7 @@
 -- A play is a safe run that asks the whole script, and comes to rest, wherever disks stop; so is each front of it a safe run.
-use Rattle.std.proofs.Common.{ℕ, zero, suc, ◌≡◌, ◌≤◌, ◌⊎◌, inl, inr, List, [], ◌∷◌, ◌++◌, length, take, refl, sym, ap, subst, arith}
+use Rattle.std.proofs.Common.{ℕ, zero, suc, ◌≡◌, ◌≤◌, ◌⊎◌, inl, inr, List, [], ◌∷◌, ◌++◌, ◌+◌, ◌<◌, length, take, drop, refl, sym, ap, subst, arith}
 use Rattle.std.specs.List.{All}
+use Rattle.std.proofs.lemmas.List.{take-append-drop}
 use Rattle.std.proofs.lemmas.List.Elements.{All-nil, All-cons, All-head, All-tail, All-append}
 use Rattle.nsi_primitive.specs.declared.entry.Event.{Event}
 use Rattle.nsi_primitive.specs.declared.entry.Happening.{Happening}
@@ -21,15 +22,22 @@ use Rattle.circuit_laws.specs.SafeLaws.{EveryRunIsSafe}
 use Rattle.settled_play.specs.Settled.{PlayLeavesNone, GoesOn, IsNoRestart}
 use Rattle.end_to_end.specs.Laws.{EveryRunStands}
 use Rattle.answered_play.specs.Laws.{AnswersAtRest}
-use Rattle.stopped_play.specs.Tapes.{Stops, calm_stops}
-use Rattle.stopped_play.specs.Counts.{one_restart, restarts_in}
+use Rattle.stopped_play.specs.Tapes.{Tape, Stops, calm_stops}
+use Rattle.stopped_play.specs.Counts.{one_restart, restarts_in, play_stops}
 use Rattle.stopped_play.specs.Play.{IsPlayBy}
 use Rattle.stopped_play.specs.Laws.{CalmPlays, played, StoppedPlayRuns, StoppedPlayRests, StoppedPlayAsks, StoppedPlaySettles}
 use Rattle.agent_threads.specs.Promise.{NoRestart}
+use Rattle.agent_node.specs.Openings.{agents}
+use Rattle.agent_threads.specs.Nets.{numbers}
 use Rattle.agent_threads.specs.Stopping.{on_tapes}
+use Rattle.nsi_world.proofs.Opening.{numbers_of}
 use Rattle.net_run.specs.Held.{IsShown}
-use Rattle.net_run.specs.Worlds.{Holds, PlaysPart}
-use Rattle.run_command.specs.Runs.{IsKnown, IsSafeThroughout, IsWholeRun}
+use Rattle.net_run.specs.Worlds.{Holds, PlaysPart, PartPasses}
+use Rattle.due_events.specs.Counts.{script_restarts, all_stops}
+use Rattle.due_events.proofs.CalmPlays.{none_first}
+use Rattle.run_weight.specs.Laws.{IsPlayable, StoppedLongIsOver, LongIsOver}
+use Rattle.run_weight.specs.Weight.{weight}
+use Rattle.run_command.specs.Runs.{Disks, NoneStops, IsKnown, IsSafeThroughout, IsWholeRun, IsBelowWeight}
 
 -- these are the events of a play of a script in which some disks stop, or none does
 pub record IsSomePlay (t : Network) (routes : Routes) (plans : Plans) (script : List Group) (events : List Event) : Type 0 where
@@ -48,6 +56,8 @@ pub record PlayLaws : Type 0 where
   pub stands : EveryRunStands
   pub answers : AnswersAtRest
   pub over : PlayLeavesNone
+  pub stopped_long : StoppedLongIsOver
+  pub calm_long : LongIsOver
 
 ---- Which play it is
 
@@ -146,3 +156,31 @@ front_run {Calm} limit t s holds b q groups events can play within known routes 
     let acts = acts_take (IsActOf t) groups s.groups can.fits.acts in
     safe_throughout can.laws t routes events can.sound can.well r
     (run_of can.laws t routes (plans_of s.lose) (take groups s.groups) events can.well rising acts p (omega (arith, can.few, within)))
+
+---- The limit is passed
+
+-- the disks of these agents stop no more often than those of the seats
+stops_are : (t : Network) (plans : Plans) (tapes : List Tape) (by : ℕ) → play_stops (numbers (opening t plans)) tapes ≤ by → all_stops (agents t) (on_tapes tapes) ≤ by
+stops_are t plans tapes by low = omega (arith, low, ap (λ (ns : List ℕ). play_stops ns tapes) (numbers_of t plans (agents t)), none_first (agents t))
+
+-- where some first groups pass the limit, it is below the weight of the script
+pub below_weight : (limit : ℕ) (t : Network) (s : Script) (d : Disks) (groups : ℕ) → CanRun limit t s → PartPasses t (plans_of s.lose) d.held d.before d.after (NoneStops d) limit s.groups (take groups s.groups)
+    → IsBelowWeight limit d t s.groups
+below_weight limit t s d groups can passes =
+    let part : List Group = take groups s.groups in
+    let rest : List Group = drop groups s.groups in
+    let plans : Plans = plans_of s.lose in
+    let whole : part ++ rest ≡ s.groups = take-append-drop groups s.groups in
+    let playable : (routes : Routes) → AreRoutes t routes → IsPlayable t routes part = λ routes r.
+    record { sound = can.sound; formed = can.well; routed = r; rising = rising_take groups s.groups can.fits.rising; acts = acts_take (IsActOf t) groups s.groups can.fits.acts }
+    in
+    record {
+      told = λ told routes r.
+          let p = passes.told told in
+          let q = p.2 routes r in
+          let over = can.laws.stopped_long t routes plans (on_tapes q.0) limit p.0 part rest (playable routes r) (omega (arith, can.few)) (stops_are t plans q.0 p.0 q.1) q.2 in
+          (p.0, p.1, subst (λ (gs : List Group). limit < weight t routes gs (script_restarts gs + p.0)) whole over);
+      calm = λ none shown routes r.
+          let over = can.laws.calm_long t routes plans limit part rest (playable routes r) (omega (arith, can.few)) (passes.calm none shown routes r) in
+          subst (λ (gs : List Group). limit < weight t routes gs (script_restarts gs)) whole over;
+    }

@@ -4,6 +4,7 @@ use Rattle.std.specs.List.{All}
 use Rattle.nsi_base.specs.Lines.{lines_of}
 use Rattle.nsi_base.specs.Range.{greatest_input}
 use Rattle.nsi_primitive.specs.declared.entry.Event.{Event}
+use Rattle.nsi_disk.specs.ShelfCounts.{Raised}
 use Rattle.stp_topology.specs.declared.fault.TopologyFault.{TopologyFault}
 use Rattle.stp_topology.specs.declared.network.Network.{Network}
 use Rattle.stp_topology.specs.Network.{nothing, name_of}
@@ -23,6 +24,8 @@ use Rattle.circuit_laws.specs.Safe.{IsSafeRun}
 use Rattle.end_to_end.specs.Stands.{StandsInEachWorld}
 use Rattle.answered_play.specs.Answered.{AnswersAll}
 use Rattle.settled_play.specs.Settled.{LeavesOnlyLost, LoseNothing, GoesOn, IsDone}
+use Rattle.due_events.specs.Counts.{script_restarts}
+use Rattle.run_weight.specs.Weight.{weight}
 use Rattle.run_totals.specs.Totals.{totals_of}
 use Rattle.run_totals.specs.declared.totals.Totals.{Totals}
 use Rattle.agent_threads.specs.Promise.{NoRestart}
@@ -108,12 +111,20 @@ pub record IsSettled (options : RunOptions) (d : Disks) (t : Network) (script : 
   pub within : length events ≤ options.limit
   pub spelled : text ≡ written options.report t events ++ closing_line options.report (totals_of t events)
 
--- as many groups as make no more events than that, and behind them that there are more
+-- The limit is below the weight of the script, whichever legs are those of the least paths: with as many restarts as the script has and disks have
+-- stopped, where the shelf tells what it holds; and with those of the script, where no disk has stopped and the play is known.
+pub record IsBelowWeight (limit : ℕ) (d : Disks) (t : Network) (script : List Group) : Type 0 where
+  pub told : AreTold t d.held → (routes : Routes) → AreRoutes t routes → (by : ℕ) × Raised d.before by d.after × (limit < weight t routes script (script_restarts script + by))
+  pub calm : NoneStops d → IsShown t script d.held → (routes : Routes) → AreRoutes t routes → limit < weight t routes script (script_restarts script)
+
+-- As many groups as make no more events than that, and behind them that there are more. So it is only where the weight of the script is above the
+-- limit.
 pub record IsTooLong (options : RunOptions) (d : Disks) (t : Network) (script : Script) (text : List ℕ) : Type 0 where
   pub groups : ℕ
   pub events : List Event
   pub first : IsTextOf options d (NoneStops d ⊎ NoRestart events) t script groups events
   pub passes : PartPasses t (plans_of script.lose) d.held d.before d.after (NoneStops d) options.limit script.groups (take (groups + 1) script.groups)
+  pub below : IsBelowWeight options.limit d t script.groups
   pub spelled : text ≡ written options.report t events ++ long_line
 
 -- some first groups of the play, and that text behind them
@@ -179,6 +190,14 @@ pub record AreRead (bytes : List ℕ) (t : Network) (script : Script) : Type 0 w
 -- where the bytes are a topology and a script, something of these
 abbrev pub OfRead : List ℕ → (Network → Script → Type 0) → Type 0
 OfRead bytes P = (t : Network) × (script : Script) × AreRead bytes t script × P t script
+
+-- the bytes are a topology and a script, and the limit is below the weight of this
+abbrev pub OfHeavy : RunOptions → Disks → List ℕ → Type 0
+OfHeavy options d bytes = OfRead bytes (λ t script. IsBelowWeight options.limit d t script.groups)
+
+-- the input is longer than is taken, or the limit is below the weight of its script
+abbrev pub IsHeavy : RunOptions → Disks → List ℕ → Type 0
+IsHeavy options d bytes = (greatest_input < length bytes) ⊎ OfHeavy options d bytes
 
 -- some first groups of the play, and behind them whose disk has failed
 abbrev pub Breaks : RunOptions → Disks → List ℕ → List ℕ → Type 0

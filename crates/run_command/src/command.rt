@@ -9,7 +9,7 @@ ghost use Rattle.settled_play.specs.Settled.{PlayLeavesNone};
 ghost use Rattle.fault_lines.specs.Lines.{topology_fault, script_fault, journal_fault, disk_fault_line, read_fault_line};
 ghost use Rattle.run_command.specs.Ends.{is_told, WritesSome, WritesSomeFront, IsCutShort, IsQuiet, HasDiskFault, IsTold, Closes, IsOfAgent, FailsAs, HidesDisks, HasPlayed, HasRead, counted};
 ghost use Rattle.topology_input.specs.Reading.{IsDeclared};
-ghost use Rattle.run_command.specs.Runs.{NothingIsSafeThroughout, Disks, disks, Runs, Begins, Breaks, KeepsPlay, KeepsRun, closing_line};
+ghost use Rattle.run_command.specs.Runs.{NothingIsSafeThroughout, Disks, disks, Runs, Begins, Breaks, KeepsPlay, KeepsRun, IsBelowWeight, OfHeavy, IsHeavy, closing_line};
 
 use crate::texts::closing_line;
 use agent_threads::{Resources, RunFault, RunOptions};
@@ -24,6 +24,7 @@ use nsi_disk::Shelf;
 use nsi_outside::{Sink, SinkError, Source, write_all};
 use nsi_script::{Script, ScriptFault, ScriptRefusal, read_script};
 use run_totals::{Report, Totals};
+use run_weight::laws::long_is_over;
 use std::alloc::Global;
 use std::thread::Threads;
 use stopped_play::laws::{asks_whole, calm, runs, settled};
@@ -177,6 +178,9 @@ where
     ensures journals { result ≡ RunEnd.Done → KeepsPlay
         (disks (H.holds shelf.old) (H.holds shelf.new) (H.stops shelf.old) (H.stops shelf.new))
         topology.now script.now }
+    ensures settles { result ≡ RunEnd.Long → IsBelowWeight options.limit
+        (disks (H.holds shelf.old) (H.holds shelf.new) (H.stops shelf.old) (H.stops shelf.new))
+        topology.now script.now.groups }
 {
     topology.facts();
     topology.laws();
@@ -188,6 +192,7 @@ where
     at_rest();
     settled();
     nothing_is_left();
+    long_is_over();
     match run_world(resources, topology, script, options, shelf, out) {
         Ok(totals) => tell_totals(resources.alloc, out, options.report, totals),
         Err(fault) => fail(resources.alloc, out, topology, &fault),
@@ -218,6 +223,9 @@ where
         (K.faults out.old) (K.faults out.new) result }
     ensures journals { result ≡ RunEnd.Done → KeepsRun bytes.now
         (disks (H.holds shelf.old) (H.holds shelf.new) (H.stops shelf.old) (H.stops shelf.new)) }
+    ensures settles { result ≡ RunEnd.Long → OfHeavy options
+        (disks (H.holds shelf.old) (H.holds shelf.new) (H.stops shelf.old) (H.stops shelf.new))
+        bytes.now }
 {
     nothing_throughout();
     let alloc = resources.alloc;
@@ -254,6 +262,9 @@ where
         (K.faults out.old) (K.faults out.new) result }
     ensures journals { result ≡ RunEnd.Done → KeepsRun bytes.now
         (disks (H.holds shelf.old) (H.holds shelf.new) (H.stops shelf.old) (H.stops shelf.new)) }
+    ensures settles { result ≡ RunEnd.Long → OfHeavy options
+        (disks (H.holds shelf.old) (H.holds shelf.new) (H.stops shelf.old) (H.stops shelf.new))
+        bytes.now }
 {
     nothing_throughout();
     let alloc = resources.alloc;
@@ -318,6 +329,12 @@ where
     ensures journals { result ≡ RunEnd.Done → IfSome (S.left input.old)
         (λ bytes. KeepsRun bytes
         (disks (H.holds shelf.old) (H.holds shelf.new) (H.stops shelf.old) (H.stops shelf.new))) }
+
+    // There are too many events only where the weight of the script is above the limit.
+    ensures settles { result ≡ RunEnd.Long → IfSome (S.left input.old)
+        (λ bytes. IsHeavy options
+        (disks (H.holds shelf.old) (H.holds shelf.new) (H.stops shelf.old) (H.stops shelf.new))
+        bytes) }
 {
     nothing_throughout();
     match read_whole(resources.alloc, input, GREATEST_INPUT) {

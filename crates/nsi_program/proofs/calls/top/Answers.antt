@@ -41,6 +41,7 @@ returns-in-Run-clause-plain g c =
       reading = e.reading;
       memory = e.memory;
       journals = e.journals;
+      settles = e.settles;
     }))
 
 pub returns-in-Check-clause-plain : goal.returns-in-Check-clause-plain

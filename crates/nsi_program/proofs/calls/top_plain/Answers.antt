@@ -59,3 +59,6 @@ returns-clause-reading g c = c.top.ensures.plain.reading
 
 pub returns-clause-memory : goal.returns-clause-memory
 returns-clause-memory g c = c.top.ensures.plain.memory
+
+pub returns-clause-settles : goal.returns-clause-settles
+returns-clause-settles g c = c.top.ensures.plain.settles

@@ -1,8 +1,9 @@
 use Rattle.std.proofs.Common.{Result, Err, ◌≡◌, ap}
 use Rattle.run_totals.specs.declared.totals.Totals.{Totals}
 use Rattle.agent_threads.specs.declared.fault.RunFault.{RunFault}
+use Rattle.run_command.specs.declared.command.RunEnd.{RunEnd}
 use Rattle.run_command.specs.Runs.{disks}
-use Rattle.run_command.proofs.Running.{settled_run, failing_run, kept_play, fails_not_done, unread_cause, disk_cause, of_agent}
+use Rattle.run_command.proofs.Running.{settled_run, failing_run, kept_play, fails_not_done, fails_long, long_only, too_heavy, unread_cause, disk_cause, of_agent}
 use Rattle.run_command.proofs.Wholes.{PlayLaws, CanRun}
 use Rattle.run_command.proofs.command.play.Goals as goal
 
@@ -19,6 +20,8 @@ returns-in-Ok-clause-played g c =
       stands = c.every_run.ensures;
       answers = c.at_rest.ensures;
       over = c.nothing_is_left.ensures;
+      stopped_long = c.long_is_over.ensures.stopped;
+      calm_long = c.long_is_over.ensures.calm;
     }
     in
     let can : CanRun c.args.options.limit c.args.topology.now c.args.script.now = record { laws = laws; few = c.requires.limit; sound = c.facts.ensures; well = c.laws.ensures; fits = c.requires.fits } in
@@ -53,6 +56,8 @@ returns-in-Err-clause-played g c =
       stands = c.every_run.ensures;
       answers = c.at_rest.ensures;
       over = c.nothing_is_left.ensures;
+      stopped_long = c.long_is_over.ensures.stopped;
+      calm_long = c.long_is_over.ensures.calm;
     }
     in
     let can : CanRun c.args.options.limit c.args.topology.now c.args.script.now = record { laws = laws; few = c.requires.limit; sound = c.facts.ensures; well = c.laws.ensures; fits = c.requires.fits } in
@@ -72,6 +77,32 @@ returns-in-Err-clause-played g c =
 
 pub returns-in-Err-clause-journals : goal.returns-in-Err-clause-journals
 returns-in-Err-clause-journals g c = λ done. absurd (fails_not_done c.args.topology.now c.in-Err.fault c.fail.result _ _ _ _ c.fail.ensures done)
+
+pub returns-in-Ok-clause-settles : goal.returns-in-Ok-clause-settles
+returns-in-Ok-clause-settles g c = λ long. absurd (long_only RunEnd.Done c.tell_totals.result c.tell_totals.ensures.kind (λ d. cc) long)
+
+pub returns-in-Err-clause-settles : goal.returns-in-Err-clause-settles
+returns-in-Err-clause-settles g c =
+    let laws : PlayLaws =
+    record {
+      calm = c.calm.ensures.plays;
+      is_run = c.runs.ensures.front;
+      rests = c.runs.ensures.rests;
+      asks = c.asks_whole.ensures;
+      left = c.settled.ensures;
+      safe = c.every_run_safe.ensures;
+      stands = c.every_run.ensures;
+      answers = c.at_rest.ensures;
+      over = c.nothing_is_left.ensures;
+      stopped_long = c.long_is_over.ensures.stopped;
+      calm_long = c.long_is_over.ensures.calm;
+    }
+    in
+    let can : CanRun c.args.options.limit c.args.topology.now c.args.script.now = record { laws = laws; few = c.requires.limit; sound = c.facts.ensures; well = c.laws.ensures; fits = c.requires.fits } in
+    λ long.
+    too_heavy c.args.topology.now c.args.options
+    (disks (g.H.Shelf.holds c.args.shelf.now) (g.H.Shelf.holds c.run_world.new.shelf) (g.H.Shelf.stops c.args.shelf.now) (g.H.Shelf.stops c.run_world.new.shelf))
+    c.args.script.now _ _ can (c.in-Err.ensures.long (ap (λ f. Err f) (fails_long c.args.topology.now c.in-Err.fault c.fail.result _ _ _ _ c.fail.ensures long)))
 
 pub fail-requires : goal.fail-requires
 fail-requires g c = of_agent c.args.topology.now _ _ _ _ _ _ c.in-Err.fault c.in-Err.ensures.cause

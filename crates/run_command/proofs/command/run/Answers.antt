@@ -1,8 +1,8 @@
 use Rattle.std.proofs.Common.{inl, Ok, Err, ap, arith}
 use Rattle.run_command.specs.declared.command.RunEnd.{RunEnd}
 use Rattle.run_command.specs.Runs.{disks}
-use Rattle.run_command.proofs.Running.{kinds}
-use Rattle.run_command.proofs.Inputs.{quiet_still, nothing_begun, long_begun}
+use Rattle.run_command.proofs.Running.{kinds, long_only}
+use Rattle.run_command.proofs.Inputs.{quiet_still, nothing_begun, long_begun, long_heavy}
 use Rattle.run_command.proofs.command.run.Goals as goal
 
 pub returns-in-Ok-None-clause-unfinished : goal.returns-in-Ok-None-clause-unfinished
@@ -33,3 +33,9 @@ returns-in-Err-Failed-clause-quiet_disk g c = λ told shown. quiet_still _ _
 
 pub returns-in-Err-NoMemory-clause-quiet_disk : goal.returns-in-Err-NoMemory-clause-quiet_disk
 returns-in-Err-NoMemory-clause-quiet_disk g c = λ told shown. quiet_still _ _
+
+pub returns-in-Ok-None-clause-settles : goal.returns-in-Ok-None-clause-settles
+returns-in-Ok-None-clause-settles g c = λ long. long_heavy c.args.options (disks (g.H.Shelf.holds c.args.shelf.now) (g.H.Shelf.holds c.args.shelf.now) (g.H.Shelf.stops c.args.shelf.now) (g.H.Shelf.stops c.args.shelf.now)) (g.S.Source.left c.args.input.now) (c.in-Ok-None.ensures.long (ap (λ o. Ok o) c.in-Ok-None.field-0-is))
+
+pub returns-in-Err-Failed-clause-settles : goal.returns-in-Err-Failed-clause-settles
+returns-in-Err-Failed-clause-settles g c = λ long. absurd (long_only RunEnd.ReadFault c.close-in-Err-Failed.result c.close-in-Err-Failed.ensures.kind (λ d. cc) long)

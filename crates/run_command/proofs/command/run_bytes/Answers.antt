@@ -1,7 +1,7 @@
 use Rattle.std.proofs.Common.{arith}
 use Rattle.run_command.specs.declared.command.RunEnd.{RunEnd}
 use Rattle.run_command.specs.Runs.{disks}
-use Rattle.run_command.proofs.Running.{kinds}
+use Rattle.run_command.proofs.Running.{kinds, long_only}
 use Rattle.run_command.proofs.Inputs.{bad_topology_read, wanting_read}
 use Rattle.run_command.proofs.command.run_bytes.Goals as goal
 
@@ -16,3 +16,9 @@ returns-in-Err-NoMemory-clause-read g c = wanting_read c.nothing_throughout.ensu
 
 pub returns-in-Err-NoMemory-clause-journals : goal.returns-in-Err-NoMemory-clause-journals
 returns-in-Err-NoMemory-clause-journals g c = λ done. cc
+
+pub returns-in-Err-Fault-clause-settles : goal.returns-in-Err-Fault-clause-settles
+returns-in-Err-Fault-clause-settles g c = λ long. absurd (long_only RunEnd.BadTopology c.bad_topology.result c.bad_topology.ensures.kind (λ d. cc) long)
+
+pub returns-in-Err-NoMemory-clause-settles : goal.returns-in-Err-NoMemory-clause-settles
+returns-in-Err-NoMemory-clause-settles g c = λ long. cc
