@@ -500,6 +500,40 @@ class Events:
             raise End("Long", "fault long")
 
 
+def reach(topology, agent, source, dest):
+    """How many agents a reserve between two points comes to, by the least paths."""
+    finds = topology.kind(agent) == "aggregator" and source in topology.points and dest in topology.points
+    path = topology.find(agent, source, dest) if finds else None
+    return 1 + sum(reach(topology, *segment) for segment in path or [])
+
+
+def weight(topology, script, restarts):
+    """How many events the run of a script has at most, with so many restarts."""
+    acts = [act for _, acts in script.groups for act in acts]
+    asks = [(agent, act[1]) for agent, act in acts if act[0] == "ask"]
+    most = {}
+    for agent, words in asks:
+        if words[0] == "reserve":
+            here = reach(topology, topology.agents[agent]["provider"], words[2], words[3])
+            most[agent, words[1]] = max(most.get((agent, words[1]), 0), here)
+    reaches = sum(most.get((agent, words[1]), 0) if len(words) > 1 else 1 for agent, words in asks)
+    forces = sum(act[0] == "force" for _, act in acts)
+    held = len(topology.agents) * len(script.groups) + forces + len(asks) + 3 * 32 * reaches
+    return 2 * (1 + restarts) * held + restarts
+
+
+def weighed(text):
+    """The weight of an input that is played to its end, and its events; None where it has another end."""
+    status, written = run(text)
+    if status != STATUS["Done"]:
+        return None
+    lines = lines_of(text)
+    topology, length = read_topology(lines)
+    script = read_script(lines[length:], length + 1, topology)
+    restarts = sum(line.startswith("restart ") for line in written)
+    return weight(topology, script, restarts), len(written) - 1
+
+
 def play_group(nodes, second, acts, room=MOST_EVENTS):
     """Behind a round those whose disks have stopped go on, and behind its other events stand theirs."""
     events = Events(room)
