@@ -97,3 +97,4 @@ pub record HasCauses {T : Type 0} (old new : Meter) (result : Result T DiskError
   pub failed : IsErrOf result Failed → old.faults < new.faults
   pub stopped : IsErrOf result Stopped → old.stops < new.stops
   pub spares : IsErrOf result Stopped → new.faults ≡ old.faults
+  pub planned : new.planned ≡ old.planned

@@ -7,7 +7,7 @@ ghost use Rattle.journal_entry.specs.Payloads.{batch_of};
 ghost use Rattle.journal_entry.specs.Journals.{recovers};
 ghost use Rattle.disk_journal.specs.Batches.{Crashes};
 ghost use Rattle.disk_journal.specs.Opening.{AsBefore};
-ghost use Rattle.disk_journal.specs.StartOf.{StartsFor, KeepsCounts, Keeps, LeavesNow, ReadsAsJournal, ReadsNothing};
+ghost use Rattle.disk_journal.specs.StartOf.{StartsFor, KeepsCounts, Keeps, LeavesNow, ReadsAsJournal, ReadsNothing, StaysTold};
 
 use crate::batches::BatchFile;
 use crate::opening::{Opening, StartCause, empty, open};
@@ -93,6 +93,7 @@ impl<D: Disk> DiskJournal<D> {
             (λ j. Keeps [] (D.history disk) (⟦<DiskJournal<D> as Journal>⟧.kept j)) }
         ensures cause { IfErr result (λ f. StartsFor (D.meter disk) (D.meter f.disk) None f.cause) }
         ensures unread { IfErr result (λ f. ReadsNothing f.cause) }
+        ensures told { IfErr result (λ f. StaysTold (D.history disk) (D.history f.disk)) }
         ensures quiet { IfOk result
             (λ j. KeepsCounts (D.meter disk) (⟦<DiskJournal<D> as Journal>⟧.meter j)) }
         ensures untold { D.history disk ≡ None →

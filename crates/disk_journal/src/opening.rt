@@ -6,7 +6,7 @@ ghost use Rattle.nsi_disk.specs.Disk.{seen, Synced};
 ghost use Rattle.journal_entry.specs.Payloads.{batch_of};
 ghost use Rattle.journal_entry.specs.Journals.{recovers};
 ghost use Rattle.disk_journal.specs.Batches.{Told, Crashes, HasCauses};
-ghost use Rattle.disk_journal.specs.StartOf.{StartsFor, KeepsCounts};
+ghost use Rattle.disk_journal.specs.StartOf.{StartsFor, KeepsCounts, StaysTold};
 ghost use Rattle.disk_journal.specs.Opening.{AsBefore, AsRead, Rests, IsEmptied, Opened};
 
 use crate::reading::{Batches, ReadFault, read_batches};
@@ -122,6 +122,7 @@ pub fn open<D: Disk>(alloc: Global, disk: &mut D) -> Result<Opening, StartCause>
 pub fn empty<D: Disk>(disk: &mut D) -> Result<(), DiskError>
     requires runs { (D.meter disk.old).stopped ≡ false }
     ensures untold { D.history disk.old ≡ None → D.history disk.new ≡ None }
+    ensures told { StaysTold (D.history disk.old) (D.history disk.new) }
     ensures closed { OnOk result (Told (D.history disk.old) (D.history disk.new) IsEmptied) }
     ensures cause { HasCauses (D.meter disk.old) (D.meter disk.new) result }
 {

@@ -12,6 +12,3 @@ module _ {D : Type 0} where
 
   abbrev pub faults_of : FolderShelf D → ℕ
   faults_of s = s.faults
-
-  abbrev pub stops_of : FolderShelf D → ℕ
-  stops_of s = s.stops

@@ -11,8 +11,9 @@ use crate::tally::Tally;
 use nsi_disk::{Disk, DiskError};
 use std::alloc::AllocError;
 
-/// A file that the system keeps. It is closed where it is dropped. Once a sync has failed each later one fails too, since the
-/// system may have let go of what it couldn't write. A fault that can't be counted stops it.
+/// A file that the system keeps. It is closed where it is dropped. Once a sync has failed each later
+/// one fails too, since the system may have let go of what it couldn't write. It never stops: a fault
+/// that can't be counted is told as want of memory.
 #[derive(Drop)]
 pub struct FileDisk<F: DiskFile> {
     file: F,
@@ -55,7 +56,6 @@ impl<F: DiskFile> FileDisk<F> {
             past_of (F.DiskFile.told (file_of self.new)) ≡ Some (Fresh (seen h)))) }
         ensures cause { HasCause (meter_of self.old) (meter_of self.new) result }
     {
-        self.tally.begin()?;
         if self.has_lost {
             return self.tally.settle(CallOutcome::Failed);
         }
@@ -69,13 +69,6 @@ impl<F: DiskFile> FileDisk<F> {
         ensures { result ≡ (meter_of self.now).faults }
     {
         self.tally.faults()
-    }
-
-    /// How many of its calls stopped it.
-    pub fn stops(&self) -> u64
-        ensures { result ≡ (meter_of self.now).stops }
-    {
-        self.tally.stops()
     }
 }
 
@@ -117,17 +110,20 @@ fn write_whole<F: DiskFile>(file: &mut F, place: u64, piece: &[u8]) -> CallOutco
 }
 
 impl<F: DiskFile> Disk for FileDisk<F> {
+    ghost use Rattle.std.proofs.Common.{arith};
+    ghost use Rattle.file_shelf.specs.DiskOf.{meter_of};
     ghost use Rattle.file_shelf.specs.Told.{past_of};
     ghost use Rattle.file_shelf.specs.ToldLaws.{past_image};
 
     ghost history = { λ d. past_of (F.DiskFile.told d.file) };
 
-    ghost meter = { λ d. d.tally };
+    ghost meter = { λ d. meter_of d };
 
     ghost reads_image = { λ d. past_image (F.DiskFile.told d.file) (F.DiskFile.reads_image d.file) };
 
+    ghost few_stops = { λ _. omega arith };
+
     fn length(&mut self) -> Result<u64, DiskError> {
-        self.tally.begin()?;
         let (came, length) = length_outcome(self.file.length());
         match self.tally.settle(came) {
             Ok(()) => Ok(length),
@@ -136,25 +132,21 @@ impl<F: DiskFile> Disk for FileDisk<F> {
     }
 
     fn read_at(&mut self, place: u64, buffer: &mut [u8]) -> Result<(), DiskError> {
-        self.tally.begin()?;
         let came = read_whole(&mut self.file, place, buffer);
         self.tally.settle(came)
     }
 
     fn write_at(&mut self, place: u64, piece: &[u8]) -> Result<(), DiskError> {
-        self.tally.begin()?;
         let came = write_whole(&mut self.file, place, piece);
         self.tally.settle(came)
     }
 
     fn cut(&mut self, len: u64) -> Result<(), DiskError> {
-        self.tally.begin()?;
         let came = call_outcome(self.file.cut(len));
         self.tally.settle(came)
     }
 
     fn sync(&mut self) -> Result<(), DiskError> {
-        self.tally.begin()?;
         if self.has_lost {
             return self.tally.settle(CallOutcome::Failed);
         }
@@ -164,7 +156,6 @@ impl<F: DiskFile> Disk for FileDisk<F> {
     }
 
     fn make_room(&mut self, calls: u64, longest: u64, bytes: u64) -> Result<(), AllocError> {
-        self.tally.make_room(calls, longest, bytes);
-        Ok(())
+        self.tally.make_room(calls, longest, bytes)
     }
 }

@@ -20,7 +20,6 @@ use std::marker::Model;
 pub struct FolderShelf<D> {
     folder: D,
     faults: u64,
-    stops: u64,
 }
 
 /// The files of a folder of the system.
@@ -40,39 +39,32 @@ fn open_alone<D: Folder>(folder: &D, alloc: Global, name: &Name) -> Result<D::Fi
 }
 
 impl<'a> FolderShelf<StdFolder<'a>> {
-    ghost use Rattle.file_shelf.specs.ShelfOf.{folder_of, path_of, faults_of, stops_of};
+    ghost use Rattle.file_shelf.specs.ShelfOf.{folder_of, path_of, faults_of};
 
     /// The files in the folder of this path.
     pub fn new(rt: &'a HostRuntime, path: &'a str) -> FolderShelf<StdFolder<'a>>
         ensures path { path_of (folder_of result) ≡ path.now }
         ensures faults { faults_of result ≡ 0 }
-        ensures stops { stops_of result ≡ 0 }
     {
         FolderShelf::over(StdFolder::new(rt, path))
     }
 }
 
 impl<D> FolderShelf<D> {
-    ghost use Rattle.file_shelf.specs.ShelfOf.{folder_of, faults_of, stops_of};
+    ghost use Rattle.file_shelf.specs.ShelfOf.{folder_of, faults_of};
 
     /// The files in this folder.
     pub fn over(folder: D) -> FolderShelf<D>
         ensures folder { folder_of result ≡ folder }
         ensures faults { faults_of result ≡ 0 }
-        ensures stops { stops_of result ≡ 0 }
     {
-        FolderShelf {
-            folder,
-            faults: 0,
-            stops: 0,
-        }
+        FolderShelf { folder, faults: 0 }
     }
 
     /// Counts a fault, and tells why there is no disk.
     fn refuse(&mut self, error: ShelfError) -> ShelfError
         ensures answer { result ≡ refusal (faults_of self.old) error }
         ensures counted { faults_of self.new ≡ refused (faults_of self.old) error }
-        ensures stops { stops_of self.new ≡ stops_of self.old }
         ensures folder { folder_of self.new ≡ folder_of self.old }
     {
         match error {
@@ -96,7 +88,7 @@ impl<D: Folder> Shelf for FolderShelf<D> {
 
     ghost faults = { λ s. s.faults };
 
-    ghost stops = { λ s. s.stops };
+    ghost stops = { λ _. 0 };
 
     fn fetch(
         &mut self,
@@ -118,16 +110,12 @@ impl<D: Folder> Shelf for FolderShelf<D> {
     ) -> Result<FileDisk<D::File>, ShelfError> {
         match disk.settle() {
             Ok(()) => Ok(disk),
-            Err(_) => {
-                self.stops = self.stops.saturating_add(disk.stops());
-                Err(self.refuse(ShelfError::Failed))
-            }
+            Err(_) => Err(self.refuse(ShelfError::Failed)),
         }
     }
 
     fn give_back(&mut self, name: &Name, disk: FileDisk<D::File>) {
         self.faults = self.faults.saturating_add(disk.faults());
-        self.stops = self.stops.saturating_add(disk.stops());
         self.folder.close(name, disk.into_file());
     }
 }

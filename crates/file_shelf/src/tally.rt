@@ -1,46 +1,31 @@
 //! The count of a disk's faults, and the room that was made.
 
-ghost use Rattle.std.specs.Prelude.{◌≡◌, false, OnErr};
-ghost use Rattle.nsi_disk.specs.Disk.{HasCause, KeepsRoom};
-ghost use Rattle.file_shelf.specs.Tallies.{answer, settled, start_answer, started, fresh_meter};
+ghost use Rattle.std.specs.Prelude.{◌≡◌, ◌≤◌, ◌+◌, OnOk, OnErr};
+ghost use Rattle.nsi_disk.specs.Disk.{HasCause, KeepsRoom, with_room};
+ghost use Rattle.file_shelf.specs.Tallies.{most_faults, answer, settled, fresh_meter};
 
 use crate::outcome::CallOutcome;
 use nsi_disk::DiskError;
-use std::marker::Model;
+use std::alloc::AllocError;
 
-/// A file takes no memory of the program, so a call always has its room. It is counted as the trait of disks asks.
+/// A file takes no memory of the program, so the room of a call is that its fault can be counted.
 #[derive(Drop)]
 pub struct Tally {
     faults: u64,
-    stopped: bool,
     calls: u64,
     longest: u64,
     bytes: u64,
-}
-
-impl Model for Tally {
-    ghost use Rattle.std.specs.Prelude.{if◌then◌else◌};
-    ghost use Rattle.nsi_disk.specs.Disk.{Meter};
-
-    ghost Value = { Meter };
-
-    ghost view = { λ t. record {
-      faults = t.faults;
-      stops = if t.stopped then 1 else 0;
-      stopped = t.stopped;
-      calls = t.calls;
-      longest = t.longest;
-      bytes = t.bytes;
-    } };
+    ghost room: { faults + calls ≤ most_faults },
 }
 
 impl Tally {
+    ghost use Rattle.file_shelf.specs.DiskOf.{tally_meter};
+
     pub fn new() -> Tally
-        ensures { result ≡ fresh_meter }
+        ensures { tally_meter result ≡ fresh_meter }
     {
         Tally {
             faults: 0,
-            stopped: false,
             calls: 0,
             longest: 0,
             bytes: 0,
@@ -48,38 +33,19 @@ impl Tally {
     }
 
     pub fn faults(&self) -> u64
-        ensures { result ≡ self.now.faults }
+        ensures { result ≡ (tally_meter self.now).faults }
     {
         self.faults
     }
 
-    pub fn stops(&self) -> u64
-        ensures { result ≡ self.now.stops }
-    {
-        u64::from(self.stopped)
-    }
-
-    /// Refuses a call of a disk that has stopped.
-    pub fn begin(&mut self) -> Result<(), DiskError>
-        ensures answer { result ≡ start_answer self.old }
-        ensures started { self.new ≡ started self.old }
-        ensures cause { OnErr result (HasCause self.old self.new result) }
-        ensures room { OnErr result (KeepsRoom self.old self.new 0 result) }
-    {
-        if !self.stopped {
-            return Ok(());
-        }
-        self.calls = self.calls.saturating_sub(1);
-        Err(DiskError::Stopped)
-    }
-
-    /// The disk's answer to a call, by what it came to. Each fault is counted, and one that can't be stops the disk.
+    /// The disk's answer to a call, by what it came to. Each fault is counted, and one that can't
+    /// be is told as want of memory.
     pub fn settle(&mut self, came: CallOutcome) -> Result<(), DiskError>
-        requires { self.old.stopped ≡ false }
-        ensures answer { result ≡ answer self.old came }
-        ensures settled { self.new ≡ settled self.old came }
-        ensures cause { HasCause self.old self.new result }
-        ensures room { KeepsRoom self.old self.new 0 result }
+        ensures answer { result ≡ answer (tally_meter self.old) came }
+        ensures settled { tally_meter self.new ≡ settled (tally_meter self.old) came }
+        ensures cause { HasCause (tally_meter self.old) (tally_meter self.new) result }
+        ensures room { 1 ≤ (tally_meter self.old).calls
+            → KeepsRoom (tally_meter self.old) (tally_meter self.new) 0 result }
     {
         self.calls = self.calls.saturating_sub(1);
         if came == CallOutcome::Done {
@@ -89,15 +55,20 @@ impl Tally {
             self.faults += 1;
             return Err(DiskError::Failed);
         }
-        self.stopped = true;
-        Err(DiskError::Stopped)
+        Err(DiskError::NoMemory)
     }
 
-    pub fn make_room(&mut self, calls: u64, longest: u64, bytes: u64)
-        ensures { self.new ≡ record (self.old) { calls = calls; longest = longest; bytes = bytes } }
+    pub fn make_room(&mut self, calls: u64, longest: u64, bytes: u64) -> Result<(), AllocError>
+        ensures ok { OnOk result
+            (tally_meter self.new ≡ with_room calls longest bytes (tally_meter self.old)) }
+        ensures err { OnErr result (tally_meter self.new ≡ tally_meter self.old) }
     {
+        if u64::MAX - self.faults < calls {
+            return Err(AllocError);
+        }
         self.calls = calls;
         self.longest = longest;
         self.bytes = bytes;
+        Ok(())
     }
 }

@@ -21,7 +21,7 @@ use Rattle.nsi_base.specs.Range.{greatest_second, greatest_record}
 use Rattle.journal_entry.specs.Forms.{times_of, holds_ask, holds_message, form_byte, form_of}
 use Rattle.journal_entry.specs.declared.form.Form.{Form}
 use Rattle.journal_entry.specs.Fields.{number_at, bounded_at, text_at, text_field}
-use Rattle.journal_entry.specs.Lines.{what_is_read, as_spelled, parcel_in, if_held as message_held, message_in, ack_in}
+use Rattle.journal_entry.specs.Lines.{what_is_read, as_spelled, parcel_in, message_in, ack_in}
 use Rattle.journal_entry.specs.Entries.{machine_of, if_held as ask_held, held_ask_in, ask_at, got_at, machine_at, work_at, force_at, acked_at, input_at, entry_at}
 use Rattle.journal_entry.specs.Spelling.{machine_byte, tag_of, body_of, entry_spelling, entry_of, IsReadAgain, HasParts}
 use Rattle.journal_entry.specs.Payloads.{entries_in, payload_of, payload_spelling, not_empty, batch_of}

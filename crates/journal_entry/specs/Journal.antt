@@ -17,12 +17,13 @@ fault_of disk.Failed = DiskFault
 fault_of disk.Stopped = Stopped
 fault_of disk.NoMemory = NoMemory
 
--- the counts of the disk don't fall, and rise only where a call fails; each fault has its cause
+-- the counts of the disk don't fall, and rise only where a call fails; as many stops are planned; each fault has its cause
 pub record HasJournalCause {T : Type 0} (old new : Meter) (result : Result T JournalFault) : Type 0 where
   pub faults : old.faults ≤ new.faults
   pub stops : old.stops ≤ new.stops
   pub quiet : OnOk result (new.faults ≡ old.faults)
   pub calm : OnOk result (new.stops ≡ old.stops)
+  pub planned : new.planned ≡ old.planned
   pub fault : IsErrOf result DiskFault → old.faults < new.faults
   pub stopped : IsErrOf result Stopped → old.stops < new.stops
   pub spares : IsErrOf result Stopped → new.faults ≡ old.faults
@@ -31,6 +32,7 @@ pub record HasJournalCause {T : Type 0} (old new : Meter) (result : Result T Jou
 pub record HasSameCounts (old new : Meter) : Type 0 where
   pub faults : new.faults ≡ old.faults
   pub stops : new.stops ≡ old.stops
+  pub planned : new.planned ≡ old.planned
 
 -- these entries wait, and as many are synced as before
 abbrev pub Waits : List Entry → Option Kept → Option Kept → Type 0

@@ -1,4 +1,5 @@
 mod Back
+mod Coming
 pub mod Moments
 mod Places
 mod Space

@@ -81,10 +81,12 @@ abbrev pub cut_away : Option History → ℕ → ℕ
 cut_away None n = 0
 cut_away (Some h) n = length (seen h) - n
 
--- counts, and the room: so many calls more on a disk of at most that length, which write or cut away so many bytes
+-- counts, how often it is planned to stop, and the room: so many calls more on a disk of at most that length, which write or cut away so many
+-- bytes
 pub record Meter : Type 0 where
   pub faults : ℕ
   pub stops : ℕ
+  pub planned : ℕ
   pub stopped : Bool
   pub calls : ℕ
   pub longest : ℕ
@@ -112,6 +114,7 @@ pub record HasCause {T : Type 0} (old new : Meter) (result : Result T DiskError)
   pub refuses : IsTrue old.stopped → IsErrOf result Stopped
   pub stays : IsErrOf result Stopped → IsTrue new.stopped
   pub goes : (IsErrOf result Stopped → ⊥) → new.stopped ≡ old.stopped
+  pub planned : new.planned ≡ old.planned
 
 -- there is room for a call that leaves it no longer than `reach` and writes or cuts away `spent` bytes; of an untold disk
 -- the numbers alone count

@@ -1,5 +1,5 @@
 -- A disk in memory, as contracts see it.
-use Rattle.std.specs.Prelude.{ℕ, List, is_some}
+use Rattle.std.specs.Prelude.{ℕ, List, length, is_some}
 use Rattle.nsi_disk.specs.Disk.{History, Meter}
 use Rattle.nsi_disk.specs.Images.{stopped_at, shows}
 use Rattle.nsi_disk.specs.Memory.{told_by}
@@ -11,7 +11,7 @@ abbrev pub history_of : MemoryDisk → History
 history_of d = stopped_at d.shown (told_by d.tape.content)
 
 abbrev pub meter_of : MemoryDisk → Meter
-meter_of d = record { faults = d.plan.faults; stops = d.plan.stopped; stopped = is_some d.shown; calls = d.tape.room.calls; longest = d.tape.room.longest; bytes = d.tape.room.bytes }
+meter_of d = record { faults = d.plan.faults; stops = d.plan.stopped; planned = length d.plan.stops.items; stopped = is_some d.shown; calls = d.tape.room.calls; longest = d.tape.room.longest; bytes = d.tape.room.bytes }
 
 abbrev pub plan_of : MemoryDisk → Planned
 plan_of d = planned_of d.plan

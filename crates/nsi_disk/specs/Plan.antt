@@ -1,5 +1,5 @@
 -- What the next call of a disk in memory does.
-use Rattle.std.specs.Prelude.{◌≡◌, ℕ, ◌≤◌, ◌<◌, ◌+◌, min, nat_eq, Bool, true, false, if◌then◌else◌, IsTrue, List, [], ◌∷◌, Option, Some, None, Result, IsErrOf, IfOk, OnOk, IfSome, IfNone}
+use Rattle.std.specs.Prelude.{◌≡◌, ℕ, ◌≤◌, ◌<◌, ◌+◌, ◌-◌, min, nat_eq, Bool, true, false, if◌then◌else◌, IsTrue, List, [], ◌∷◌, Option, Some, None, Result, IsErrOf, IfOk, OnOk, IfSome, IfNone}
 use Rattle.std.specs.List.{Contains}
 use Rattle.nsi_disk.specs.declared.disk.DiskError.{DiskError}
 use Rattle.nsi_disk.specs.declared.disk.DiskError.TheVariants.{Failed, Stopped, NoMemory}
@@ -27,6 +27,11 @@ most_calls = 18446744073709551615
 abbrev pub planned_image : ℕ → List Stop → Option Image
 planned_image call [] = None
 planned_image call (s ∷ stops) = if nat_eq s.call call then Some s.image else planned_image call stops
+
+-- how many of the stops are planned for calls that are still to come
+abbrev pub to_come : (calls : ℕ) → List Stop → ℕ
+to_come calls [] = 0
+to_come calls (s ∷ stops) = min 1 (s.call - calls) + to_come calls stops
 
 -- one call more: a listed one fails, and no other; one that doesn't fail stops where that is planned, and nowhere else; a
 -- call of a stopped disk is refused, and isn't counted

@@ -81,6 +81,9 @@ pub trait Disk {
 
     /// What it reads is one of its images.
     ghost reads_image: { (d : Self) → IfSome (history d) (λ h. MayLeave h (seen h)) };
+
+    /// It stops no more often than was planned.
+    ghost few_stops: { (d : Self) → (meter d).stops ≤ (meter d).planned };
 }
 
 impl From<AllocError> for DiskError {

@@ -1,6 +1,6 @@
 //! A disk in memory.
 
-ghost use Rattle.std.specs.Prelude.{◌≡◌, Some, false, IfOk};
+ghost use Rattle.std.specs.Prelude.{◌≡◌, Some, false, length, IfOk};
 ghost use Rattle.nsi_disk.specs.Disk.{Fresh, MayLeave, seen};
 
 use crate::content::Content;
@@ -26,12 +26,14 @@ impl MemoryDisk {
     ghost use Rattle.nsi_disk.specs.DiskOf.{history_of, meter_of, plan_of, left_of};
     ghost use Rattle.nsi_disk.specs.Plan.{first_plan};
 
+    #[tactic(auto, using(crate::proofs::Coming::few_to_come))]
     /// These bytes. The calls with the listed numbers, counted from 1, fail once each, and it stops where it is planned.
     pub fn new(alloc: Global, bytes: Vec<u8>, failing: Vec<u64>, stops: Vec<Stop>) -> MemoryDisk
         ensures bytes { history_of result ≡ Fresh bytes.items }
         ensures runs { (meter_of result).stopped ≡ false }
         ensures faults { (meter_of result).faults ≡ 0 }
         ensures stops { (meter_of result).stops ≡ 0 }
+        ensures planned { (meter_of result).planned ≡ length stops.items }
         ensures calls { (meter_of result).calls ≡ 0 }
         ensures plan { plan_of result ≡ first_plan failing.items stops.items }
     {
@@ -83,6 +85,7 @@ impl MemoryDisk {
         ensures runs { IfOk result (λ d. (meter_of d).stopped ≡ false) }
         ensures faults { IfOk result (λ d. (meter_of d).faults ≡ (meter_of self).faults) }
         ensures stops { IfOk result (λ d. (meter_of d).stops ≡ (meter_of self).stops) }
+        ensures planned { IfOk result (λ d. (meter_of d).planned ≡ (meter_of self).planned) }
         ensures calls { IfOk result (λ d. (meter_of d).calls ≡ 0) }
         ensures plan { IfOk result (λ d. plan_of d ≡ plan_of self) }
     {
@@ -101,12 +104,15 @@ impl Disk for MemoryDisk {
     ghost use Rattle.nsi_disk.specs.DiskOf.{history_of, meter_of};
     ghost use Rattle.nsi_disk.specs.Memory.{told_by};
     ghost use Rattle.nsi_disk.specs.Stopped.{reads_image as reads_one};
+    ghost use Rattle.nsi_disk.specs.PlanOf.{stops_within};
 
     ghost history = { λ d. Some (history_of d) };
 
     ghost meter = { λ d. meter_of d };
 
     ghost reads_image = { λ d. reads_one d.shown (told_by d.tape.content) d.tape.made };
+
+    ghost few_stops = { λ d. stops_within d.plan };
 
     fn length(&mut self) -> Result<u64, DiskError> {
         match self.plan.next(self.shown) {

@@ -1,7 +1,7 @@
 //! Which calls of a disk in memory fail, and at which it stops.
 
-ghost use Rattle.std.specs.Prelude.{◌≡◌, ◌≤◌, ◌<◌, ◌+◌, is_some, Option};
-ghost use Rattle.nsi_disk.specs.Plan.{Turn, planned_image};
+ghost use Rattle.std.specs.Prelude.{◌≡◌, ◌≤◌, ◌<◌, ◌+◌, length, is_some, Option};
+ghost use Rattle.nsi_disk.specs.Plan.{Turn, planned_image, to_come};
 
 use crate::DiskError;
 
@@ -46,6 +46,7 @@ pub struct Plan {
     pub stopped: u64,
     ghost faults_counted: { faults ≤ calls },
     ghost stops_counted: { stopped ≤ calls },
+    ghost few_stops: { stopped + to_come calls stops.items ≤ length stops.items },
 }
 
 impl Plan {

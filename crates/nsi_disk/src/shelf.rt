@@ -1,6 +1,6 @@
 //! Disks by the name of their agent.
 
-ghost use Rattle.std.specs.Prelude.{◌≡◌, ◌≤◌, ◌<◌, List, ℕ, Option, Some, Bool, true, false, IfSome, IfOk, OnOk, OnErr, IsErrOf, if◌then◌else◌, bytes_eq};
+ghost use Rattle.std.specs.Prelude.{◌≡◌, ◌≤◌, ◌<◌, List, ℕ, Option, Some, Bool, true, false, length, IfSome, IfOk, OnOk, OnErr, IsErrOf, if◌then◌else◌, bytes_eq};
 ghost use Rattle.nsi_disk.specs.Disk.{Fresh, MayLeave, seen};
 
 use crate::disk::Disk;
@@ -44,7 +44,7 @@ pub trait Shelf {
 
     ghost stops: { Self → ℕ };
 
-    /// The disk of this name, which stops where it is planned. A shelf that can't plan stops ignores the plan.
+    /// The disk of this name, which stops where it is planned, and nowhere else. A shelf that can't plan stops ignores the plan.
     fn fetch(
         &mut self,
         alloc: Global,
@@ -56,6 +56,7 @@ pub trait Shelf {
         ensures runs { IfOk result (λ d. (Self.Disk.meter d).stopped ≡ false) }
         ensures counts { IfOk result (λ d.
             ((Self.Disk.meter d).faults ≡ 0) × ((Self.Disk.meter d).stops ≡ 0)) }
+        ensures planned { IfOk result (λ d. (Self.Disk.meter d).planned ≤ length planned.now) }
         ensures listed { OnOk result (listed self.new name.now ≡ true) }
         ensures stays { (n : List ℕ) → listed self.old n ≡ true → listed self.new n ≡ true }
         ensures unlisted { OnErr result ((n : List ℕ) → listed self.new n ≡ listed self.old n) }
@@ -78,6 +79,8 @@ pub trait Shelf {
         ensures counts { IfOk result (λ d.
             ((Self.Disk.meter d).faults ≡ (Self.Disk.meter disk).faults)
             × ((Self.Disk.meter d).stops ≡ (Self.Disk.meter disk).stops)) }
+        ensures planned { IfOk result (λ d.
+            (Self.Disk.meter d).planned ≡ (Self.Disk.meter disk).planned) }
         ensures stays { (n : List ℕ) → listed self.new n ≡ listed self.old n }
         ensures same { (n : List ℕ) → holds self.new n ≡ holds self.old n }
         ensures failed { IsErrOf result Failed → faults self.old < faults self.new }
