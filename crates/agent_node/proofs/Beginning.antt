@@ -8,7 +8,7 @@ use Rattle.agent_link.specs.Plans.{Plan}
 use Rattle.agent_node.specs.declared.links.Link.{Link}
 use Rattle.agent_node.specs.Doors.{Door}
 use Rattle.agent_node.specs.Passing.{Plug}
-use Rattle.agent_node.specs.Kept.{AreEnds, IsShut, KnowsNone, ArePlanned, plan_of, plugs_of}
+use Rattle.agent_node.specs.Kept.{AreEnds, IsShut, KnowsNone, ArePlanned, plugs_of}
 use Rattle.agent_node.specs.Linked.{door_of, plug_of, doors, plugs}
 use Rattle.agent_node.specs.Openings.{first_door, opened}
 

@@ -38,6 +38,7 @@ no_call m z p q = record {
   failed = λ e. absurd (p e);
   stopped = λ e. absurd (q e);
   spares = λ e. absurd (q e);
+  planned = refl;
 }
 
 ---- What isn't synced
@@ -118,9 +119,9 @@ made_long c m k room none some = record {
 }
 
 failed_by : {T : Type 0} (m n : Meter) (r : Result T JournalFault) (e : JournalFault) → r ≡ Err e → HasJournalCause m n r → HasTurnCause m n (Some (fault_by e))
-failed_by m n r JournalFault.DiskFault h c = record { faults = c.faults; stops = c.stops; quiet = λ z. absurd (cc); calm = λ z. absurd (cc); failed = λ z. c.fault h; stopped = λ z. absurd (cc); spares = λ z. absurd (cc) }
-failed_by m n r JournalFault.Stopped h c = record { faults = c.faults; stops = c.stops; quiet = λ z. absurd (cc); calm = λ z. absurd (cc); failed = λ z. absurd (cc); stopped = λ z. c.stopped h; spares = λ z. c.spares h }
-failed_by m n r JournalFault.NoMemory h c = record { faults = c.faults; stops = c.stops; quiet = λ z. absurd (cc); calm = λ z. absurd (cc); failed = λ z. absurd (cc); stopped = λ z. absurd (cc); spares = λ z. absurd (cc) }
+failed_by m n r JournalFault.DiskFault h c = record { faults = c.faults; stops = c.stops; quiet = λ z. absurd (cc); calm = λ z. absurd (cc); failed = λ z. c.fault h; stopped = λ z. absurd (cc); spares = λ z. absurd (cc); planned = c.planned }
+failed_by m n r JournalFault.Stopped h c = record { faults = c.faults; stops = c.stops; quiet = λ z. absurd (cc); calm = λ z. absurd (cc); failed = λ z. absurd (cc); stopped = λ z. c.stopped h; spares = λ z. c.spares h; planned = c.planned }
+failed_by m n r JournalFault.NoMemory h c = record { faults = c.faults; stops = c.stops; quiet = λ z. absurd (cc); calm = λ z. absurd (cc); failed = λ z. absurd (cc); stopped = λ z. absurd (cc); spares = λ z. absurd (cc); planned = c.planned }
 
 not_long : (e : JournalFault) → Some (fault_by e) ≡ Some TurnFault.Long → ⊥
 not_long JournalFault.DiskFault z = cc
@@ -146,7 +147,7 @@ made_failed room c m n k j r e h cause either front = record {
 kept_by : {T : Type 0} (m n : Meter) (r : Result T JournalFault) (x : T) (z : Option TurnFault) → r ≡ Ok x → HasJournalCause m n r → (z ≡ Some TurnFault.DiskFault → ⊥) → (z ≡ Some TurnFault.Stopped → ⊥) → HasTurnCause m n z
 kept_by {T} m n r x z h c p q =
     let d : HasJournalCause m n (Ok x) = subst (λ (y : Result T JournalFault). HasJournalCause m n y) h c in
-    record { faults = c.faults; stops = c.stops; quiet = λ e. d.quiet; calm = λ e. d.calm; failed = λ e. absurd (p e); stopped = λ e. absurd (q e); spares = λ e. absurd (q e) }
+    record { faults = c.faults; stops = c.stops; quiet = λ e. d.quiet; calm = λ e. d.calm; failed = λ e. absurd (p e); stopped = λ e. absurd (q e); spares = λ e. absurd (q e); planned = c.planned }
 
 -- it is kept, and memory is wanting then
 pub made_lack : {T : Type 0} (room : ℕ) (c d : Seated) (m n : Meter) (k j : Option Journaled) (r : Result T JournalFault) (x : T) → r ≡ Ok x → HasJournalCause m n r → IsSameCore c d
@@ -242,7 +243,7 @@ turn_unpushed xs room l a b c d m n k j g p s = record {
   halted = λ routes are e. absurd (cc);
   either = λ e. absurd (cc);
   front = λ e. absurd (cc);
-  cause = record { faults = p.cause.faults; stops = p.cause.stops; quiet = λ e. absurd (cc); calm = λ e. absurd (cc); failed = λ e. absurd (cc); stopped = λ e. absurd (cc); spares = λ e. absurd (cc) };
+  cause = record { faults = p.cause.faults; stops = p.cause.stops; quiet = λ e. absurd (cc); calm = λ e. absurd (cc); failed = λ e. absurd (cc); stopped = λ e. absurd (cc); spares = λ e. absurd (cc); planned = p.cause.planned };
   same = record { network = s.network ∙ (p.same.network ∙ g.stays.network); number = s.number ∙ (p.same.number ∙ g.stays.number); others = s.others ∙ (p.same.others ∙ g.stays.others) };
   plugs = s.plugs ∙ (p.plugs ∙ g.stays.plugs);
 }

@@ -1,5 +1,5 @@
 -- A queue whose front is pushed, parcel by parcel.
-use Rattle.std.proofs.Common.{◌≡◌, List, [], ◌∷◌, ◌++◌, refl, sym, ap, ◌∙◌, subst, Option, Some, option_to_list, Bool, true, false, if◌then◌else◌, ◌↔◌, inl, inr, Result, Ok, Err, IsErrOf}
+use Rattle.std.proofs.Common.{◌≡◌, List, [], ◌∷◌, ◌++◌, sym, ap, ◌∙◌, subst, Option, Some, option_to_list, Bool, true, false, if◌then◌else◌, ◌↔◌, inl, inr, Result, Ok, Err, IsErrOf}
 use Rattle.std.proofs.lemmas.Bool.{cases_Bool}
 use Rattle.std.specs.List.{All}
 use Rattle.std.proofs.lemmas.List.Elements.{All-head, All-tail}
@@ -10,7 +10,7 @@ use Rattle.agent_link.specs.declared.ends.PushFault.{PushFault}
 use Rattle.agent_link.specs.Link.{is_full, handed_back}
 use Rattle.agent_link.specs.Plans.{Plan}
 use Rattle.agent_link.specs.Fates.{comes, passed}
-use Rattle.agent_node.specs.Passing.{Passing, passes}
+use Rattle.agent_node.specs.Passing.{passes}
 
 -- what was taken from the front
 pub taken : (q rest : List Parcel) (o : Option Parcel) (p : Parcel) → q ≡ option_to_list o ++ rest → o ≡ Some p → q ≡ p ∷ rest

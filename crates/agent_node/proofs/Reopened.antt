@@ -11,7 +11,7 @@ use Rattle.disk_journal.specs.StartOf.{StartsFor, Keeps}
 use Rattle.disk_journal.specs.declared.opening.StartCause.{StartCause}
 use Rattle.agent_node.specs.declared.fault.TurnFault.{TurnFault}
 use Rattle.agent_node.specs.declared.reopen.ReopenFault.{ReopenFault}
-use Rattle.agent_node.specs.Reopening.{MayRead, KeepsRead, AreEither, HasRisen, HasReopenCause, HasSameCounts, HasRead, IsReread, IsReopened}
+use Rattle.agent_node.specs.Reopening.{MayRead, KeepsRead, AreEither, HasRisen, HasReopenCause, HasStopped, HasRead, IsReread, IsReopened}
 use Rattle.agent_node.specs.Kept.{kept_with, first_kept, HasSynced, LeavesBatch}
 use Rattle.agent_node.specs.Restarts.{reads}
 use Rattle.agent_node.specs.Seat.{Seat}
@@ -20,7 +20,7 @@ use Rattle.agent_node.specs.Seated.{Seated, AtSeat, IsSameCore}
 ---- The image
 
 -- the bytes of an image are read
-image_read : (reading : List ℕ → Result (List Entry) ℕ) (x : Result (List Entry) ℕ) (h g : Option History) → IfSome h (λ y. (c : List ℕ) × MayLeave y c × (g ≡ Some (Fresh c))) → IfSome g (λ z. reading (seen z) ≡ x) → MayRead reading x h
+pub image_read : (reading : List ℕ → Result (List Entry) ℕ) (x : Result (List Entry) ℕ) (h g : Option History) → IfSome h (λ y. (c : List ℕ) × MayLeave y c × (g ≡ Some (Fresh c))) → IfSome g (λ z. reading (seen z) ≡ x) → MayRead reading x h
 image_read reading x None g image reads = tt
 image_read reading x (Some y) g image reads = (image.0, image.1, subst (λ (o : Option History). IfSome o (λ z. reading (seen z) ≡ x)) image.2 reads)
 
@@ -92,44 +92,45 @@ risen_more : (a b : ℕ) → a < b → HasRisen a b
 risen_more a b h = (b - a, omega (arith, h), inl (omega (arith, h)))
 
 -- the shelf gave no disk
-pub lost_cause : (P : ℕ → Type 0) (f g s r : ℕ) (e : ShelfError) → (e ≡ ShelfError.Failed → f < g) → HasReopenCause f g s r P (ReopenFault.Lost e)
-lost_cause P f g s r ShelfError.Failed h = risen_more f g (h refl)
-lost_cause P f g s r ShelfError.NoMemory h = tt
+pub lost_cause : (P : ℕ → Type 0) (f g : ℕ) (e : ShelfError) → (e ≡ ShelfError.Failed → f < g) → HasReopenCause f g P (ReopenFault.Lost e)
+lost_cause P f g ShelfError.Failed h = risen_more f g (h refl)
+lost_cause P f g ShelfError.NoMemory h = tt
 
--- the disk was given back to a shelf whose counts had not changed before
-pub start_cause : (P : ℕ → Type 0) (f m g s n r : ℕ) (old new : Meter) (history : Option History) (cause : StartCause) → StartsFor old new history cause → m ≡ f → n ≡ s → Raised m new.faults g → Raised n new.stops r
-    → ((place : ℕ) → IfSome history (λ h. recovers batch_of (seen h) ≡ Err place) → P place) → HasReopenCause f g s r P (ReopenFault.GivenBack cause)
-start_cause P f m g s n r old new history StartCause.DiskFault starts d e p q unread = (new.faults, omega (arith, starts.fault refl), subst (λ k. Raised k new.faults g) d p)
-start_cause P f m g s n r old new history StartCause.Stopped starts d e p q unread = (new.stops, omega (arith, starts.stopped refl), subst (λ k. Raised k new.stops r) e q)
-start_cause P f m g s n r old new history (StartCause.NotAJournal place) starts d e p q unread = unread place (starts.reading place refl)
-start_cause P f m g s n r old new history StartCause.NoMemory starts d e p q unread = tt
+-- the disk was given back to a shelf whose count of faults had not changed before
+pub start_cause : (P : ℕ → Type 0) (f m g : ℕ) (old new : Meter) (history : Option History) (cause : StartCause) → StartsFor old new history cause → (cause ≡ StartCause.Stopped → ⊥) → m ≡ f → Raised m new.faults g
+    → ((place : ℕ) → IfSome history (λ h. recovers batch_of (seen h) ≡ Err place) → P place) → HasReopenCause f g P (ReopenFault.GivenBack cause)
+start_cause P f m g old new history StartCause.DiskFault starts going d p unread = (new.faults, omega (arith, starts.fault refl), subst (λ k. Raised k new.faults g) d p)
+start_cause P f m g old new history StartCause.Stopped starts going d p unread = absurd (going refl)
+start_cause P f m g old new history (StartCause.NotAJournal place) starts going d p unread = unread place (starts.reading place refl)
+start_cause P f m g old new history StartCause.NoMemory starts going d p unread = tt
 
 -- its stops were counted
 pub given_back : (s n r least : ℕ) (old new : Meter) → n ≡ s → old.stops ≡ least → old.stops ≤ new.stops → Raised n new.stops r → RaisedFrom s least r
 given_back s n r least old new e f g p = (new.stops, omega (arith, f, g), subst (λ k. Raised k new.stops r) e p)
 
 -- the same causes, where what is so of bytes that are no journal is more
-pub cause_of : (P Q : ℕ → Type 0) (f g s r : ℕ) (e : ReopenFault) → ((place : ℕ) → P place → Q place) → HasReopenCause f g s r P e → HasReopenCause f g s r Q e
-cause_of P Q f g s r (ReopenFault.GivenBack StartCause.DiskFault) so c = c
-cause_of P Q f g s r (ReopenFault.GivenBack StartCause.Stopped) so c = c
-cause_of P Q f g s r (ReopenFault.GivenBack (StartCause.NotAJournal place)) so c = so place c
-cause_of P Q f g s r (ReopenFault.GivenBack StartCause.NoMemory) so c = tt
-cause_of P Q f g s r (ReopenFault.Lost ShelfError.Failed) so c = c
-cause_of P Q f g s r (ReopenFault.Lost ShelfError.NoMemory) so c = tt
+pub cause_of : (P Q : ℕ → Type 0) (f g : ℕ) (e : ReopenFault) → ((place : ℕ) → P place → Q place) → HasReopenCause f g P e → HasReopenCause f g Q e
+cause_of P Q f g (ReopenFault.GivenBack StartCause.DiskFault) so c = c
+cause_of P Q f g (ReopenFault.GivenBack StartCause.Stopped) so c = c
+cause_of P Q f g (ReopenFault.GivenBack (StartCause.NotAJournal place)) so c = so place c
+cause_of P Q f g (ReopenFault.GivenBack StartCause.NoMemory) so c = tt
+cause_of P Q f g (ReopenFault.Lost ShelfError.Failed) so c = c
+cause_of P Q f g (ReopenFault.Lost ShelfError.NoMemory) so c = tt
 
 ---- The agent
 
 -- it is made anew from what was read, and its journal is the one that was read
-pub made_again : {T : Type 0} (P : List Entry → Type 0) (r : Result T ReopenFault) (journal : T) (meter : T → Meter) (kept : T → Option Journaled) (m : Meter) (k : Option Journaled) (c d : Seated) (es : List Entry) → IfOk r (λ j. j ≡ journal)
-    → AtSeat c (λ h. OnOk r (d.seat ≡ reads h 0 es c.seat)) → IsSameCore c d → P es → KeepsRead es k (kept journal) → HasSameCounts m (meter journal) → IfOk r (λ j. HasRead P (kept_with c None m k) (kept_with d None (meter j) (kept j)))
-made_again P (Err e) journal meter kept m k c d es is seat stays read keeps counts = tt
-made_again {T} P (Ok j) journal meter kept m k c d es is seat stays read keeps counts = record {
+pub made_again : {T : Type 0} (P : List Entry → Type 0) (r : Result T ReopenFault) (journal : T) (meter : T → Meter) (kept : T → Option Journaled) (m : Meter) (k : Option Journaled) (c d : Seated) (tries : ℕ) (es : List Entry) → IfOk r (λ j. j ≡ journal)
+    → AtSeat c (λ h. OnOk r (d.seat ≡ reads h tries es c.seat)) → IsSameCore c d → P es → KeepsRead es k (kept journal) → HasStopped tries m (meter journal) → IfOk r (λ j. HasRead P (kept_with c None m k) (kept_with d None (meter j) (kept j)))
+made_again P (Err e) journal meter kept m k c d tries es is seat stays read keeps counts = tt
+made_again {T} P (Ok j) journal meter kept m k c d tries es is seat stays read keeps counts = record {
+  tries = tries;
   entries = es;
   seat = seat;
   read = read;
   kept = subst (λ (i : T). KeepsRead es k (kept i)) (sym is) keeps;
   fault = refl;
-  counts = subst (λ (i : T). HasSameCounts m (meter i)) (sym is) counts;
+  counts = subst (λ (i : T). HasStopped tries m (meter i)) (sym is) counts;
   same = record { network = stays.network; number = stays.number; others = stays.others };
   plugs = stays.plugs;
 }
@@ -147,6 +148,7 @@ module _ (reading : List ℕ → Result (List Entry) ℕ) (c d : Seated) (m n : 
   reread tells none leaves has =
       let same = read_is_synced reading k h has.entries tells leaves has.read in
       record {
+        tries = has.tries;
         entries = has.entries;
         seat = has.seat;
         synced = same;
@@ -161,6 +163,7 @@ module _ (reading : List ℕ → Result (List Entry) ℕ) (c d : Seated) (m n : 
   pub reopened : is_some k ≡ is_some h → LeavesBatch reading c.seat k h → HasRead ReadsFrom (kept_with c None m k) (kept_with d None n j) → IsReopened (kept_with c z m k) (kept_with d None n j)
   reopened tells leaves has =
       record {
+        tries = has.tries;
         entries = has.entries;
         seat = has.seat;
         read = read_is_either reading c.seat.fresh (first_kept c.seat.synced k) h has.entries (first_tells c.seat.synced k ∙ tells) leaves has.read;

@@ -1,17 +1,16 @@
 -- The turn of a quiet agent makes nothing.
-use Rattle.std.proofs.Common.{ℕ, ◌≡◌, ◌==◌, ◌&&◌, ◌∷◌, ◌++◌, List, [], Bool, true, false, Option, Some, None, IfSome, is_none, refl, sym, ap, ◌∙◌, subst, arith, length, map, flat_map, le_refl}
-use Rattle.nsi_primitive.specs.declared.entry.Entry.{Entry}
+use Rattle.std.proofs.Common.{ℕ, ◌≡◌, ◌==◌, ◌∷◌, ◌++◌, List, [], true, Option, Some, None, IfSome, is_none, refl, sym, ap, ◌∙◌, subst, arith, length, map}
 use Rattle.nsi_primitive.specs.declared.message.Parcel.{Parcel}
 use Rattle.nsi_disk.specs.Disk.{Meter}
 use Rattle.journal_entry.specs.Journal.{Kept as Journaled, Adds}
-use Rattle.nsi_agent.specs.Homes.{Home, Routes, home_in}
+use Rattle.nsi_agent.specs.Homes.{Home, home_in}
 use Rattle.nsi_agent.specs.Steps.{work_of}
 use Rattle.agent_node.specs.Acts.{is_quiet, is_idle, all_idle}
 use Rattle.agent_node.specs.Doors.{Door}
 use Rattle.agent_node.specs.Passing.{Passing, with_passing, clears, pushes, come_through, lying}
 use Rattle.agent_node.specs.Seat.{Seat}
 use Rattle.agent_node.specs.Seated.{Seated, AtSeat}
-use Rattle.agent_node.specs.Turns.{cleared, takes_all, pushed, synced_all, worked, turn_entered, turn_with, turned}
+use Rattle.agent_node.specs.Turns.{cleared, takes_all, pushed, synced_all, worked, turn_entered, turned}
 use Rattle.agent_node.specs.Kept.{kept_with}
 use Rattle.agent_node.specs.Made.{IsTurn, keeps}
 use Rattle.agent_node.proofs.Growing.{worked_none}

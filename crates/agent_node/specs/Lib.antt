@@ -12,3 +12,4 @@ pub mod Seated
 pub mod Kept
 pub mod Made
 pub mod Reopening
+pub mod Tries

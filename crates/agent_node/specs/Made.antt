@@ -23,7 +23,7 @@ turn_keeps h xs s = (turn_entered h xs s).fresh
 abbrev pub keeps : Home → Seat → List Entry
 keeps h s = turn_keeps h (lying s.doors) (cleared s)
 
--- the counts of a disk don't fall, and rise only where a call fails; each fault of it has its cause
+-- the counts of a disk don't fall, and rise only where a call fails; as many stops are planned; each fault of it has its cause
 pub record HasTurnCause (old new : Meter) (fault : Option TurnFault) : Type 0 where
   pub faults : old.faults ≤ new.faults
   pub stops : old.stops ≤ new.stops
@@ -32,6 +32,7 @@ pub record HasTurnCause (old new : Meter) (fault : Option TurnFault) : Type 0 wh
   pub failed : fault ≡ Some TurnFault.DiskFault → old.faults < new.faults
   pub stopped : fault ≡ Some TurnFault.Stopped → old.stops < new.stops
   pub spares : fault ≡ Some TurnFault.Stopped → new.faults ≡ old.faults
+  pub planned : new.planned ≡ old.planned
 
 -- A turn that had room for so many events, whose first part is e, which enters entries. Without a fault it makes f of an agent, and keeps
 -- what is fresh behind e. The fault Long comes exactly where more events were to be made. Where the disk stops, e alone was made of the

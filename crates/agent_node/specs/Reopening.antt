@@ -1,11 +1,10 @@
 -- A journal that is read again, and the agent that is made anew from it.
-use Rattle.std.specs.Prelude.{◌≡◌, ◌<◌, ◌⊎◌, ◌++◌, ℕ, List, [], Option, Some, None, Result, IfSome}
+use Rattle.std.specs.Prelude.{◌≡◌, ◌<◌, ◌≤◌, ◌+◌, ◌⊎◌, ◌++◌, ℕ, List, [], Option, Some, None, Result, IfSome}
 use Rattle.nsi_primitive.specs.declared.entry.Entry.{Entry}
-use Rattle.nsi_disk.specs.Disk.{History, MayLeave}
+use Rattle.nsi_disk.specs.Disk.{History, Meter, MayLeave}
 use Rattle.nsi_disk.specs.ShelfCounts.{Raised}
 use Rattle.nsi_disk.specs.declared.shelf.ShelfError.{ShelfError}
 use Rattle.journal_entry.specs.Journal.{Kept as Journaled}
-pub use Rattle.journal_entry.specs.Journal.{HasSameCounts}
 use Rattle.disk_journal.specs.declared.opening.StartCause.{StartCause}
 use Rattle.agent_node.specs.declared.reopen.ReopenFault.{ReopenFault}
 use Rattle.agent_node.specs.Kept.{Kept, IsSameAgent, first_kept}
@@ -32,36 +31,45 @@ AreEither batch kept es = IfSome kept (λ k. (es ≡ k.synced) ⊎ (es ≡ k.syn
 abbrev pub HasRisen : ℕ → ℕ → Type 0
 HasRisen old new = (by : ℕ) × (0 < by) × Raised old by new
 
--- The shelf's counts of faults and of stops, before and then, tell why; and of bytes that are no journal, up to that place, this is so.
-abbrev pub HasReopenCause : (f g s r : ℕ) → (ℕ → Type 0) → ReopenFault → Type 0
-HasReopenCause f g s r P (ReopenFault.GivenBack StartCause.DiskFault) = HasRisen f g
-HasReopenCause f g s r P (ReopenFault.GivenBack StartCause.Stopped) = HasRisen s r
-HasReopenCause f g s r P (ReopenFault.GivenBack (StartCause.NotAJournal place)) = P place
-HasReopenCause f g s r P (ReopenFault.GivenBack StartCause.NoMemory) = Unit {0}
-HasReopenCause f g s r P (ReopenFault.Lost ShelfError.Failed) = HasRisen f g
-HasReopenCause f g s r P (ReopenFault.Lost ShelfError.NoMemory) = Unit {0}
+-- The shelf's count of faults, before and then, tells why; and of bytes that are no journal, up to that place, this is so. A stop is no cause.
+abbrev pub HasReopenCause : (f g : ℕ) → (ℕ → Type 0) → ReopenFault → Type 0
+HasReopenCause f g P (ReopenFault.GivenBack StartCause.DiskFault) = HasRisen f g
+HasReopenCause f g P (ReopenFault.GivenBack StartCause.Stopped) = ⊥
+HasReopenCause f g P (ReopenFault.GivenBack (StartCause.NotAJournal place)) = P place
+HasReopenCause f g P (ReopenFault.GivenBack StartCause.NoMemory) = Unit {0}
+HasReopenCause f g P (ReopenFault.Lost ShelfError.Failed) = HasRisen f g
+HasReopenCause f g P (ReopenFault.Lost ShelfError.NoMemory) = Unit {0}
 
 ---- The agent
 
--- It has read these entries, which are those that were synced where these are told. It may be used, and is the same agent.
+-- no call of the disk failed, and so many stopped it, or more
+pub record HasStopped (tries : ℕ) (old new : Meter) : Type 0 where
+  pub faults : new.faults ≡ old.faults
+  pub stops : old.stops + tries ≤ new.stops
+  pub planned : new.planned ≡ old.planned
+
+-- It has read these entries, which are those that were synced where these are told, behind so many tries at which its disk stopped. It may be
+-- used, and is the same agent.
 pub record IsReread (old new : Kept) : Type 0 where
+  pub tries : ℕ
   pub entries : List Entry
-  pub seat : AtHome old (λ h. new.seat ≡ reads h 0 entries old.seat)
+  pub seat : AtHome old (λ h. new.seat ≡ reads h tries entries old.seat)
   pub synced : IfSome old.kept (λ k. entries ≡ k.synced)
   pub kept : IfSome old.kept (λ k. new.kept ≡ old.kept)
   pub fault : new.fault ≡ None
-  pub counts : HasSameCounts old.meter new.meter
+  pub counts : HasStopped tries old.meter new.meter
   pub same : IsSameAgent old new
   pub plugs : new.plugs ≡ old.plugs
 
--- It has read entries that are so, and keeps them. It may be used, and is the same agent.
+-- It has read entries that are so, and keeps them, behind so many tries at which its disk stopped. It may be used, and is the same agent.
 pub record HasRead (P : List Entry → Type 0) (old new : Kept) : Type 0 where
+  pub tries : ℕ
   pub entries : List Entry
-  pub seat : AtHome old (λ h. new.seat ≡ reads h 0 entries old.seat)
+  pub seat : AtHome old (λ h. new.seat ≡ reads h tries entries old.seat)
   pub read : P entries
   pub kept : KeepsRead entries old.kept new.kept
   pub fault : new.fault ≡ None
-  pub counts : HasSameCounts old.meter new.meter
+  pub counts : HasStopped tries old.meter new.meter
   pub same : IsSameAgent old new
   pub plugs : new.plugs ≡ old.plugs
 

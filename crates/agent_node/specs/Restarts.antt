@@ -47,9 +47,10 @@ reads h tries es s =
 abbrev pub begun_again : AgentState → ℕ → Seat → Seat
 begun_again state count s = record s { state = state; synced = count; fresh = []; unsaid = []; doors = map drops s.doors }
 
--- its restart is told, and these messages are queued
-abbrev pub tells_restart : Home → List Message → Seat → Seat
-tells_restart h ms s = record s { events = s.events ++ restart_event s.number s.synced ∷ []; doors = says_all h.agent_of ms s.doors }
+-- its restart is told, as often as its disk stopped before it was read, and these messages are queued
+abbrev pub tells_restart : Home → List Message → (tries : ℕ) → Seat → Seat
+tells_restart h ms tries s =
+    record s { events = s.events ++ restart_event s.number s.synced ∷ restart_events tries s.number s.synced; doors = says_all h.agent_of ms s.doors }
 
 ---- Synced entries
 

@@ -1,5 +1,5 @@
 -- One agent of a net: what it keeps, what it has to say, and its ends of the links.
-use Rattle.std.specs.Prelude.{ℕ, Bool, true, false, List, [], ◌∷◌, ◌++◌, Option, Some, None}
+use Rattle.std.specs.Prelude.{ℕ, Bool, true, false, List, [], ◌∷◌, ◌++◌, Option}
 use Rattle.nsi_primitive.specs.declared.ask.AskAnswer.{AskAnswer}
 use Rattle.nsi_primitive.specs.declared.entry.Entry.{Entry}
 use Rattle.nsi_primitive.specs.declared.entry.Event.{Event}

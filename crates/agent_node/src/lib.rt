@@ -16,4 +16,4 @@ mod turn;
 pub use fault::TurnFault;
 pub use node::Node;
 pub use opening::NodeFault;
-pub use reopen::{Reopen, ReopenFault};
+pub use reopen::{Reopen, ReopenFault, Reread};

@@ -5,7 +5,7 @@ ghost use Rattle.std.specs.List.{All};
 ghost use Rattle.nsi_primitive.specs.Printable.{IsPrintable, IsPrintableEntry, IsPrintableEvent, IsPrintableTaken};
 ghost use Rattle.agent_node.specs.Seat.{entered};
 ghost use Rattle.agent_node.specs.Turns.{sync_event};
-ghost use Rattle.agent_node.specs.Restarts.{restart_event};
+ghost use Rattle.agent_node.specs.Restarts.{restart_event, restart_events};
 ghost use Rattle.message_retry.specs.Retry.{is_waiting};
 
 use message_retry::is_of;
@@ -199,6 +199,23 @@ impl Events {
     {
         let what = Happening::Restart { count };
         self.items.push(Event { agent, what })?;
+        Ok(())
+    }
+
+    /// Puts a restart behind, and as many more as there were tries before it.
+    pub fn push_restarts(
+        &mut self,
+        agent: AgentNo,
+        count: u64,
+        tries: u64,
+    ) -> Result<(), AllocError>
+        ensures { OnOk result (self.new
+            ≡ self.old ++ restart_event agent count ∷ restart_events tries agent count) }
+    {
+        for _ in 0..tries {
+            self.push_restart(agent, count)?;
+        }
+        self.push_restart(agent, count)?;
         Ok(())
     }
 

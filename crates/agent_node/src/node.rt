@@ -241,7 +241,7 @@ impl<'t, J: Journal + Drop> Node<'t, J> {
         ensures same_faults { OnOk result (B.faults shelf.new ≡ B.faults shelf.old) }
         ensures same_stops { OnOk result (B.stops shelf.new ≡ B.stops shelf.old) }
         ensures cause { IfErr result (HasReopenCause (B.faults shelf.old) (B.faults shelf.new)
-            (B.stops shelf.old) (B.stops shelf.new) (λ place. self.entry.kept ≡ None)) }
+            (λ place. self.entry.kept ≡ None)) }
         ensures faults { B.faults shelf.old ≤ B.faults shelf.new }
         ensures stops { B.stops shelf.old ≤ B.stops shelf.new }
         ensures lost { OnErr result

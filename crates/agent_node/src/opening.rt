@@ -5,7 +5,7 @@ ghost use Rattle.std.specs.List.{list_any};
 ghost use Rattle.journal_entry.specs.Journal.{MayLeaveSynced};
 ghost use Rattle.journal_entry.specs.Journals.{recovers};
 ghost use Rattle.journal_entry.specs.Payloads.{batch_of};
-ghost use Rattle.disk_journal.specs.StartOf.{StartsFor, KeepsCounts, Keeps, ReadsNothing};
+ghost use Rattle.disk_journal.specs.StartOf.{StartsFor, KeepsCounts, Keeps, ReadsNothing, StaysTold};
 ghost use Rattle.agent_link.specs.Plans.{Plan};
 ghost use Rattle.agent_node.specs.Openings.{is_provider_of, asks, are_linked, others_of, Plans, nothing_planned, opened, seat_of};
 ghost use Rattle.agent_node.specs.declared.fault.TurnFault.{TurnFault as AFault};
@@ -214,6 +214,7 @@ impl<'t, D: Disk + Drop> Node<'t, DiskJournal<D>> {
         ensures quiet { IfOk result (λ n. KeepsCounts (D.meter disk) n.meter) }
         ensures cause { IfErr result (λ f. StartsFor (D.meter disk) (D.meter f.disk) None f.cause) }
         ensures unread { IfErr result (λ f. ReadsNothing f.cause) }
+        ensures told { IfErr result (λ f. StaysTold (D.history disk) (D.history f.disk)) }
         ensures ends { IfErr result (λ f. (f.outgoing ≡ outgoing) × (f.incoming ≡ incoming)) }
     {
         let Ok((others, links, core)) = parts(alloc, topology, agent) else {

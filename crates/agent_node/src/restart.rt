@@ -12,39 +12,43 @@ ghost use Rattle.stp_topology.specs.Network.{name_of};
 ghost use Rattle.agent_node.specs.Kept.{kept_with, HasSynced};
 ghost use Rattle.agent_node.specs.Reopening.{HasReopenCause, HasRead, MayRead};
 
-use crate::reopen::{Reopen, ReopenFault};
+use crate::reopen::{Reopen, ReopenFault, Reread};
 use crate::seated::Core;
 use disk_journal::StartCause;
 use journal_entry::Journal;
 use nsi_base::Name;
-use nsi_primitive::Entry;
 use std::alloc::Global;
 
-/// The agent is made anew from these entries. Where memory is wanting for that, its journal is taken back.
+/// The agent is made anew from what was read. Where memory is wanting for that, its journal is taken back.
 fn remake<J: Journal, B: Reopen<J>>(
     alloc: Global,
     core: &mut Core<'_>,
-    journal: J,
-    entries: Vec<Entry>,
+    reread: Reread<J>,
     name: &Name,
     shelf: &mut B,
 ) -> Result<J, ReopenFault>
     requires listed { B.listed shelf.old name.now ≡ true }
-    requires printable { All IsPrintableEntry entries.items }
-    ensures journal { IfOk result (λ j. j ≡ journal) }
+    requires printable { All IsPrintableEntry reread.entries.items }
+    ensures journal { IfOk result (λ j. j ≡ reread.journal) }
     ensures seat { AtSeat core.old
-        (λ h. OnOk result (core.new.seat ≡ reads h 0 entries.items core.old.seat)) }
-    ensures synced { OnOk result (core.new.seat.synced ≡ length entries.items) }
+        (λ h. OnOk result (core.new.seat
+        ≡ reads h reread.tries reread.entries.items core.old.seat)) }
+    ensures synced { OnOk result (core.new.seat.synced ≡ length reread.entries.items) }
     ensures core { IsSameCore core.old core.new }
     ensures same { OnOk result (shelf.new ≡ shelf.old) }
     ensures memory { IfErr result (λ f. f ≡ AFault.GivenBack ACause.NoMemory) }
     ensures faults { B.faults shelf.old ≤ B.faults shelf.new }
     ensures stops { B.stops shelf.old ≤ B.stops shelf.new }
     ensures lost { OnErr result
-        (RaisedFrom (B.stops shelf.old) (J.meter journal).stops (B.stops shelf.new)) }
+        (RaisedFrom (B.stops shelf.old) (J.meter reread.journal).stops (B.stops shelf.new)) }
     ensures stays { (n : List ℕ) → B.listed shelf.old n ≡ true → B.listed shelf.new n ≡ true }
 {
-    let made = core.read_again(alloc, &entries);
+    let Reread {
+        journal,
+        entries,
+        tries,
+    } = reread;
+    let made = core.read_again(alloc, &entries, tries);
     drop(entries);
     match made {
         Ok(()) => Ok(journal),
@@ -73,7 +77,7 @@ pub fn read_again<J: Journal, B: Reopen<J>>(
     ensures same_faults { OnOk result (B.faults shelf.new ≡ B.faults shelf.old) }
     ensures same_stops { OnOk result (B.stops shelf.new ≡ B.stops shelf.old) }
     ensures cause { IfErr result (HasReopenCause (B.faults shelf.old) (B.faults shelf.new)
-        (B.stops shelf.old) (B.stops shelf.new) (λ place. MayRead J.reading (Err place) (J.history journal))) }
+        (λ place. MayRead J.reading (Err place) (J.history journal))) }
     ensures faults { B.faults shelf.old ≤ B.faults shelf.new }
     ensures stops { B.stops shelf.old ≤ B.stops shelf.new }
     ensures lost { OnErr result
@@ -82,7 +86,7 @@ pub fn read_again<J: Journal, B: Reopen<J>>(
 {
     let name = core.name();
     match shelf.reopen(alloc, name, journal) {
-        Ok((journal, entries)) => remake(alloc, core, journal, entries, name, shelf),
+        Ok(reread) => remake(alloc, core, reread, name, shelf),
         Err(fault) => Err(fault),
     }
 }

@@ -320,11 +320,17 @@ impl<'t> Core<'t> {
         Ok(())
     }
 
-    /// It has read these entries, which are all that it has taken; what they cause and isn't acknowledged is queued.
-    pub fn read_again(&mut self, alloc: Global, entries: &[Entry]) -> Result<(), AllocError>
+    /// It has read these entries, behind so many tries at which its disk stopped. They are all that it has taken; what they cause and
+    /// isn't acknowledged is queued.
+    pub fn read_again(
+        &mut self,
+        alloc: Global,
+        entries: &[Entry],
+        tries: u64,
+    ) -> Result<(), AllocError>
         requires { All IsPrintableEntry entries.now }
         ensures ok { AtSeat self.old
-            (λ h. OnOk result (self.new.seat ≡ reads h 0 entries.now self.old.seat)) }
+            (λ h. OnOk result (self.new.seat ≡ reads h tries entries.now self.old.seat)) }
         ensures synced { OnOk result (self.new.seat.synced ≡ length entries.now) }
         ensures same { IsSameCore self.old self.new }
     {
@@ -332,7 +338,7 @@ impl<'t> Core<'t> {
         let agent = read_all(alloc, self.topology, self.agent.number(), entries)?;
         self.begin_again(agent, entries.len() as u64);
         let waiting = copy_waiting(alloc, &self.agent)?;
-        self.tell_restart(waiting)?;
+        self.tell_restart(waiting, tries)?;
         Ok(())
     }
 
@@ -350,15 +356,16 @@ impl<'t> Core<'t> {
         self.links.drop_queues();
     }
 
-    /// That it has begun again is told, and these messages are queued.
-    fn tell_restart(&mut self, waiting: Vec<Message>) -> Result<(), AllocError>
+    /// That it has begun again is told, as often as it was tried, and these messages are queued.
+    fn tell_restart(&mut self, waiting: Vec<Message>, tries: u64) -> Result<(), AllocError>
         requires { All IsPrintable waiting.items }
         ensures ok { AtSeat self.old
-            (λ h. OnOk result (self.new.seat ≡ tells_restart h waiting.items self.old.seat)) }
+            (λ h. OnOk result
+            (self.new.seat ≡ tells_restart h waiting.items tries self.old.seat)) }
         ensures stays { Stays self.old self.new }
     {
         let agent = self.agent.number();
-        self.events.push_restart(agent, self.synced)?;
+        self.events.push_restarts(agent, self.synced, tries)?;
         self.links.say_all(self.topology, waiting)?;
         Ok(())
     }

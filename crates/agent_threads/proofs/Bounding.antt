@@ -16,9 +16,9 @@ use Rattle.agent_node.specs.Doors.{Door}
 use Rattle.agent_threads.specs.Nets.{seats, EachIs, AreOf}
 use Rattle.agent_threads.specs.Made.{DoesAct, RestartsAt}
 use Rattle.agent_threads.proofs.Same.{at_home}
-use Rattle.agent_threads.proofs.Draining.{act_seen}
+use Rattle.agent_threads.proofs.Draining.{part_acted}
 use Rattle.std.specs.List.{All}
-use Rattle.std.proofs.lemmas.Bool.{cases_eq, false≢true}
+use Rattle.std.proofs.lemmas.Bool.{cases_eq}
 use Rattle.std.proofs.lemmas.List.Elements.{All-cons, All-head, All-tail}
 use Rattle.quiet_rounds.specs.Left.{left}
 use Rattle.quiet_rounds.specs.Laws.{StepsKeepBounds, LeftFalls, TellingLeaves}
@@ -55,9 +55,9 @@ bare_dropped : (ds : List Door) → map bare (map drops ds) ≡ map bare ds
 bare_dropped [] = refl
 bare_dropped (d ∷ ds) = ap (λ (es : List Door). bare d ∷ es) (bare_dropped ds)
 
-pub same_reads : (h : Home) (es : List Entry) (s : Seat) → HasSameEnds s (reads h 0 es s)
+pub same_reads : (h : Home) (tries : ℕ) (es : List Entry) (s : Seat) → HasSameEnds s (reads h tries es s)
 unfolding reads
-same_reads h es s = record { number = refl; ends = bare_said h.agent_of (told h es).state.base.waiting (map drops s.doors) ∙ bare_dropped s.doors }
+same_reads h tries es s = record { number = refl; ends = bare_said h.agent_of (told h es).state.base.waiting (map drops s.doors) ∙ bare_dropped s.doors }
 
 restarts_same : (a : ℕ) (xs ys : List Kept) → EachIs (RestartsAt a) xs ys → (t : Network) → AreOf t xs → (routes : Routes) → AreRoutes t routes → EachIs SameEnds xs ys
 restarts_same a [] [] p t o routes r = tt
@@ -69,7 +69,7 @@ restarts_same a (x ∷ xs) (y ∷ ys) p t o routes r = (one (cases_eq x.seat.num
     one (inl e) =
         let q = (p.0.here e).reread in
         let h = home_in t routes x.seat.number in
-        subst (λ (s : Seat). HasSameEnds x.seat s) (sym (at_home t x (λ z. y.seat ≡ reads z 0 q.entries x.seat) o.0 q.seat routes r)) (same_reads h q.entries x.seat)
+        subst (λ (s : Seat). HasSameEnds x.seat s) (sym (at_home t x (λ z. y.seat ≡ reads z q.tries q.entries x.seat) o.0 q.seat routes r)) (same_reads h q.tries q.entries x.seat)
     one (inr m) = subst (λ (k : Kept). HasSameEnds x.seat k.seat) (sym (p.0.there m)) (same_ends x.seat)
 
 stopped_same : RoutesExist → (xs ys : List Kept) → EachIs RestartsStopped xs ys → MayAllGoOn xs → EachIs SameEnds xs ys
@@ -86,7 +86,7 @@ stopped_same exist (x ∷ xs) (y ∷ ys) p u = (one u.0, stopped_same exist xs y
     one (inr f) =
         let q : IsReopened x y = (p.0.here f).reopened in
         let r = exist x.network in
-        subst (λ (s : Seat). HasSameEnds x.seat s) (sym (q.seat r.0 r.1)) (same_reads (home_in x.network r.0 x.seat.number) q.entries x.seat)
+        subst (λ (s : Seat). HasSameEnds x.seat s) (sym (q.seat r.0 r.1)) (same_reads (home_in x.network r.0 x.seat.number) q.tries q.entries x.seat)
 
 emptied_ends : (xs ys : List Kept) → EachIs Emptied xs ys → EachIs SameEnds xs ys
 emptied_ends [] [] e = tt
@@ -102,10 +102,10 @@ reopened_bounded exist xs ys zs p u e h = ends_bounded ys zs (emptied_ends ys zs
 pub act_bounded : StepsKeepBounds → (act : Act) (n : ℕ) (xs ys : List Kept) → EachIs (DoesAct act n) xs ys → (t : Network) → AreOf t xs → (routes : Routes) → AreRoutes t routes → IsBounded (seats xs) → IsBounded (seats ys)
 act_bounded keep (Act.Ask a ask) n xs ys p t o routes r h =
     let homes = home_in t routes in
-    subst (λ (net : Net). IsBounded net) (sym (act_seen (Act.Ask a ask) n false xs ys p t o routes r (λ e. absurd (false≢true e)) tt)) ((keep homes (seats xs) h).acts (Act.Ask a ask) n)
+    subst (λ (net : Net). IsBounded net) (sym (part_acted (Act.Ask a ask) tt n false xs ys p t o routes r)) ((keep homes (seats xs) h).acts (Act.Ask a ask) n)
 act_bounded keep (Act.Force a k) n xs ys p t o routes r h =
     let homes = home_in t routes in
-    subst (λ (net : Net). IsBounded net) (sym (act_seen (Act.Force a k) n false xs ys p t o routes r (λ e. absurd (false≢true e)) tt)) ((keep homes (seats xs) h).acts (Act.Force a k) n)
+    subst (λ (net : Net). IsBounded net) (sym (part_acted (Act.Force a k) tt n false xs ys p t o routes r)) ((keep homes (seats xs) h).acts (Act.Force a k) n)
 act_bounded keep (Act.Restart a) n xs ys p t o routes r h = ends_bounded xs ys (restarts_same a xs ys p t o routes r) h
 
 ---- Rounds in which nothing happens

@@ -2,12 +2,11 @@
 use Rattle.std.proofs.Common.{ℕ, ◌≡◌, ◌∙◌, Bool, true, List, [], ◌∷◌, inl, inr, refl, sym, ap₂, subst, arith, Result, Ok, Err, IfErr}
 use Rattle.stp_topology.specs.declared.network.Network.{Network}
 use Rattle.stp_topology.specs.Network.{name_of}
-use Rattle.agent_node.specs.Kept.{Kept, IsSameAgent}
+use Rattle.agent_node.specs.Kept.{Kept}
 use Rattle.agent_node.specs.Reopening.{HasRisen as HasCountRisen}
-use Rattle.agent_threads.specs.declared.fault.RoundFault.{RoundFault}
 use Rattle.agent_threads.specs.declared.fault.RunFault.{RunFault}
-use Rattle.agent_threads.specs.Made.{HasRisen, HasFailed, HasCause, HasRunCause, HasMetCause, HasGoOnCause, HasSettleCause, ShelfCounts, HaveRisen, KeepsShelf, AreUntold, IsOfRestart, IsOfAgent, IsOfWriting}
-use Rattle.agent_threads.specs.Nets.{seats, numbers, EachIs, IsOneOf, AreSame, AreAmong, AreListed}
+use Rattle.agent_threads.specs.Made.{HasRisen, HasFailed, faults_in, HasRunCause, HasMetCause, HasGoOnCause, HasSettleCause, ShelfCounts, HaveRisen, KeepsShelf, AreUntold, IsOfRestart, IsOfAgent, IsOfWriting}
+use Rattle.agent_threads.specs.Nets.{seats, numbers, EachIs, IsOneOf, IsAsPlanned, AreSame, AreAmong, AreListed}
 use Rattle.agent_threads.specs.Leaving.{StayOwned}
 use Rattle.agent_threads.specs.Promise.{Shows}
 use Rattle.agent_threads.specs.Stopping.{AtOwned, WereOwned, NoneCounted}
@@ -23,18 +22,11 @@ same_error r y e k p q h = cc
 pub if_err : {T E : Type 0} (r : Result T E) (P : E → Type 0) (y : E) → r ≡ Err y → P y → IfErr r P
 if_err r P y e p = subst (λ z. IfErr z P) (sym e) p
 
-pub failed : (a : ℕ) (os ns : List Kept) → HasRisen a os ns → HasFailed a ns
+pub failed : (a : ℕ) (os ns : List Kept) → HasRisen faults_in a os ns → HasFailed a ns
 failed a [] ns h = absurd h
 failed a (o ∷ os) [] h = absurd h
 failed a (o ∷ os) (n ∷ ns) (inl p) = inl (p.0, omega (arith, p.1))
 failed a (o ∷ os) (n ∷ ns) (inr q) = inr (failed a os ns q)
-
--- a round's faults have their causes
-pub cause_of : (f : RoundFault) (os ns : List Kept) → ((a : ℕ) → f ≡ RoundFault.DiskFault a → HasRisen a os ns) → ((a : ℕ) → f ≡ RoundFault.Stopped a → HasRisen a os ns) → HasCause f ns
-cause_of RoundFault.Long os ns d s = tt
-cause_of (RoundFault.DiskFault a) os ns d s = failed a os ns (d a refl)
-cause_of (RoundFault.Stopped a) os ns d s = failed a os ns (s a refl)
-cause_of RoundFault.NoMemory os ns d s = tt
 
 pub no_agent : (e : RunFault) → IsOfWriting e → IsOfAgent e → ⊥
 no_agent RunFault.Long w a = a
@@ -70,13 +62,13 @@ among_twice xs ys zs p q a h = p a (q a h)
 among_by : (ns ms : List ℕ) → ms ≡ ns → (a : ℕ) → IsOneOf a ms → IsOneOf a ns
 among_by ns ms e a h = subst (IsOneOf a) e h
 
-same_numbers : (xs ys : List Kept) → EachIs IsSameAgent xs ys → numbers (seats ys) ≡ numbers (seats xs)
+same_numbers : (xs ys : List Kept) → EachIs IsAsPlanned xs ys → numbers (seats ys) ≡ numbers (seats xs)
 same_numbers [] [] p = refl
 same_numbers [] (y ∷ ys) p = absurd p
 same_numbers (x ∷ xs) [] p = absurd p
-same_numbers (x ∷ xs) (y ∷ ys) p = ap₂ ◌∷◌ p.0.number (same_numbers xs ys p.1)
+same_numbers (x ∷ xs) (y ∷ ys) p = ap₂ ◌∷◌ p.0.same.number (same_numbers xs ys p.1)
 
-pub among_same : (xs ys : List Kept) → EachIs IsSameAgent xs ys → AreAmong xs ys
+pub among_same : (xs ys : List Kept) → EachIs IsAsPlanned xs ys → AreAmong xs ys
 among_same xs ys p a h = among_by (numbers (seats xs)) (numbers (seats ys)) (same_numbers xs ys p) a h
 
 ---- Restarts
@@ -98,11 +90,7 @@ pub cause_before : (acts more : List Act) (olds mids news : List Kept) (b c d : 
 cause_before acts more olds mids news b c d RunFault.Long same owned among p q h = tt
 cause_before acts more olds mids news b c d RunFault.WriteFault same owned among p q h = tt
 cause_before acts more olds mids news b c d (RunFault.DiskFault a) same owned among p q (inl h) = inl h
-cause_before acts more olds mids news b c d (RunFault.DiskFault a) same owned among p q (inr h) = inr (among_same olds mids (same_agents olds mids same) a h.0, risen h.1)
-  where
-    risen : HaveRisen c d → HaveRisen b d
-    risen (inl x) = inl (subst (λ (n : ℕ). HasCountRisen n d.faults) p x)
-    risen (inr x) = inr (subst (λ (n : ℕ). HasCountRisen n d.stops) q x)
+cause_before acts more olds mids news b c d (RunFault.DiskFault a) same owned among p q (inr h) = inr (among_same olds mids (same_agents olds mids same) a h.0, subst (λ (n : ℕ). HasCountRisen n d.faults) p h.1)
 cause_before acts more olds mids news b c d (RunFault.NotAJournal a place) same owned among p q h = (
   among_same olds mids (same_agents olds mids same) a h.0,
   untold_before acts more olds mids same owned among h.1,
@@ -147,9 +135,8 @@ go_settle acts olds lefts news c d (RunFault.NotAJournal a place) same were stop
 go_settle acts olds lefts news c d RunFault.NoMemory same were stop h = tt
 
 -- a count of a shelf that rose, seen from where the counts were the same
-risen_before : (b c d : ShelfCounts) → c.faults ≡ b.faults → c.stops ≡ b.stops → HaveRisen c d → HaveRisen b d
-risen_before b c d p q (inl x) = inl (subst (λ (n : ℕ). HasCountRisen n d.faults) p x)
-risen_before b c d p q (inr x) = inr (subst (λ (n : ℕ). HasCountRisen n d.stops) q x)
+risen_before : (b c d : ShelfCounts) → c.faults ≡ b.faults → HaveRisen c d → HaveRisen b d
+risen_before b c d p h = subst (λ (n : ℕ). HasCountRisen n d.faults) p h
 
 -- seen from before the rounds that were made
 pub settle_before : (acts more : List Act) (olds mids news : List Kept) (b c d : ShelfCounts) (e : RunFault) → AreSame olds mids → StayOwned olds mids → ((z : Bool) → All (Shows z) acts → All (Shows z) more) → (NoneCounted olds news b d → NoneCounted mids news c d)
@@ -157,7 +144,7 @@ pub settle_before : (acts more : List Act) (olds mids news : List Kept) (b c d :
 settle_before acts more olds mids news b c d RunFault.Long same owned among later p q h = tt
 settle_before acts more olds mids news b c d RunFault.WriteFault same owned among later p q h = tt
 settle_before acts more olds mids news b c d (RunFault.DiskFault a) same owned among later p q (inl h) = inl h
-settle_before acts more olds mids news b c d (RunFault.DiskFault a) same owned among later p q (inr h) = inr (among_same olds mids (same_agents olds mids same) a h.0, risen_before b c d p q h.1)
+settle_before acts more olds mids news b c d (RunFault.DiskFault a) same owned among later p q (inr h) = inr (among_same olds mids (same_agents olds mids same) a h.0, risen_before b c d p h.1)
 settle_before acts more olds mids news b c d (RunFault.NotAJournal a place) same owned among later p q h = (
   among_same olds mids (same_agents olds mids same) a h.0,
   record {

@@ -1,5 +1,5 @@
 -- What has happened is told, and taken away.
-use Rattle.std.proofs.Common.{Bool, true, false, Option, ℕ, ◌+◌, ◌<◌, ◌≤◌, ◌≡◌, List, [], ◌∷◌, ◌++◌, inl, inr, cond, refl, sym, ap, ap₂, ◌∙◌, length, map, drop, get_or, append_assoc, append-nil, add-one, drop-cons, ne_eqb}
+use Rattle.std.proofs.Common.{arith, Bool, true, false, Option, ℕ, ◌+◌, ◌<◌, ◌≤◌, ◌≡◌, List, [], ◌∷◌, ◌++◌, inl, inr, cond, refl, sym, ap, ap₂, ◌∙◌, length, map, drop, get_or, append_assoc, append-nil, add-one, drop-cons, ne_eqb}
 use Rattle.std.proofs.lemmas.Bool.{cases_eq, false≢true}
 use Rattle.std.proofs.lemmas.List.{drop_all}
 use Rattle.nsi_primitive.specs.declared.entry.Event.{Event}
@@ -13,12 +13,13 @@ use Rattle.journal_entry.specs.Journal.{Kept as Journaled}
 use Rattle.nsi_agent.specs.Homes.{Routes, AreRoutes, home_in}
 use Rattle.nsi_play.specs.Rounds.{Net, Homes, events_of, emptied, tells}
 use Rattle.nsi_play.specs.Play.{changes, does, acted, RestartsNone}
-use Rattle.agent_threads.specs.Nets.{seats, seats_by, seen, synced_in, EachIs, IsUnstopped, AreOf, AreOwned, AreSame, AreNet}
-use Rattle.agent_threads.specs.Stopping.{Emptied}
+use Rattle.agent_threads.specs.Nets.{seats, seats_by, seen, synced_in, EachIs, IsUnstopped, AreOf, AreOwned, AreApart, AreSame, AreNet}
+use Rattle.agent_threads.specs.Stopping.{Emptied, more_stops}
 use Rattle.agent_threads.specs.Made.{Does, DoesAct, Drained, tells_at, part_in}
 use Rattle.agent_threads.specs.Coming.{IsTold}
 use Rattle.agent_threads.proofs.Same.{does_net, does_same}
 use Rattle.agent_threads.proofs.Seen.{seen_events, does_seen, part_needs, restarts_seen}
+use Rattle.stopped_play.specs.Play.{acted_by}
 use Rattle.agent_threads.specs.Promise.{Shows}
 use Rattle.stp_topology.specs.declared.network.Network.{Network}
 
@@ -39,6 +40,7 @@ emptied_unstopped a b e = record {
     others = ap (λ (k : Kept). others k.seat.doors) e;
   };
   stops = ap (λ (k : Kept). k.meter.stops) e;
+  planned = ap (λ (k : Kept). k.meter.planned) e;
 }
 
 drained_does : (os ns : List Kept) → EachIs Drained os ns → EachIs (Does tells_at) os ns
@@ -95,12 +97,15 @@ pub parts_acted : (act : Act) → RestartsNone act → (n : ℕ) (homes : Homes)
 parts_acted act none n homes [] = refl
 parts_acted act none n homes (s ∷ ss) = ap₂ ◌∷◌ (part_does act none n homes s) (parts_acted act none n homes ss)
 
--- what an act does is the definition's, where it shows
-pub act_seen : (act : Act) (n : ℕ) (b : Bool) (xs ys : List Kept) → EachIs (DoesAct act n) xs ys → (t : Network) → AreOf t xs → (routes : Routes) → AreRoutes t routes → (b ≡ true → AreOwned (home_in t routes) xs) → Shows b act
+-- what an act does that restarts nobody is the definition's
+pub part_acted : (act : Act) → RestartsNone act → (n : ℕ) (b : Bool) (xs ys : List Kept) → EachIs (Does (part_in act n)) xs ys → (t : Network) → AreOf t xs → (routes : Routes) → AreRoutes t routes
     → seats_by b ys ≡ acted act n (home_in t routes) (seats_by b xs)
-act_seen (Act.Ask a ask) n b xs ys p t o routes r w shows =
-    does_seen (part_in (Act.Ask a ask) n) (part_needs (Act.Ask a ask) tt n) b xs ys p t o routes r ∙ parts_acted (Act.Ask a ask) tt n (home_in t routes) (seats_by b xs)
-act_seen (Act.Force a k) n b xs ys p t o routes r w shows =
-    does_seen (part_in (Act.Force a k) n) (part_needs (Act.Force a k) tt n) b xs ys p t o routes r ∙ parts_acted (Act.Force a k) tt n (home_in t routes) (seats_by b xs)
-act_seen (Act.Restart a) n true xs ys p t o routes r w shows = restarts_seen a n xs ys p t o routes r (w refl)
-act_seen (Act.Restart a) n false xs ys p t o routes r w shows = absurd (false≢true shows)
+part_acted act none n b xs ys p t o routes r = does_seen (part_in act n) (part_needs act none n) b xs ys p t o routes r ∙ parts_acted act none n (home_in t routes) (seats_by b xs)
+
+-- so is what any does, where it shows, behind so many tries as stops were counted at most
+pub act_seen : (act : Act) (n : ℕ) (b : Bool) (xs ys : List Kept) → EachIs (DoesAct act n) xs ys → AreApart (seats xs) → (t : Network) → AreOf t xs → (routes : Routes) → AreRoutes t routes → (b ≡ true → AreOwned (home_in t routes) xs) → Shows b act
+    → (tries : ℕ) × (tries ≤ more_stops xs ys) × (seats_by b ys ≡ acted_by act tries n (home_in t routes) (seats_by b xs))
+act_seen (Act.Ask a ask) n b xs ys p apart t o routes r w shows = (0, omega arith, part_acted (Act.Ask a ask) tt n b xs ys p t o routes r)
+act_seen (Act.Force a k) n b xs ys p apart t o routes r w shows = (0, omega arith, part_acted (Act.Force a k) tt n b xs ys p t o routes r)
+act_seen (Act.Restart a) n true xs ys p apart t o routes r w shows = restarts_seen a n xs ys p apart t o routes r (w refl)
+act_seen (Act.Restart a) n false xs ys p apart t o routes r w shows = absurd (false≢true shows)

@@ -43,7 +43,7 @@ emptied_drained (o ∷ os) (n ∷ ns) e u = (one_drained o n e.0 u.0, emptied_dr
 ---- The same links
 
 links_without : (o n : Kept) → n ≡ without_events o → KeepsLinks o n
-links_without o n e = subst (λ (k : Kept). KeepsLinks o k) (sym e) (record { same = record { network = refl; number = refl; others = refl; faults = refl; stops = omega arith }; plugs = refl })
+links_without o n e = subst (λ (k : Kept). KeepsLinks o k) (sym e) (record { same = record { network = refl; number = refl; others = refl; faults = refl; stops = omega arith; planned = refl }; plugs = refl })
 
 pub emptied_links : (os ns : List Kept) → EachIs Emptied os ns → EachIs KeepsLinks os ns
 emptied_links [] [] e = tt

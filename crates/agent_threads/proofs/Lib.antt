@@ -22,4 +22,5 @@ pub mod Reopening
 pub mod Showing
 pub mod Emptying
 pub mod Stepping
+pub mod Acting
 pub mod Playing

@@ -218,22 +218,22 @@ met_owned xs ys e f = meets_owned (seats xs) xs ys e f
 
 ---- Restarts
 
-pub read_state : (h : Home) (es : List Entry) (s : Seat) → (reads h 0 es s).state ≡ (told h es).state
+pub read_state : (h : Home) (tries : ℕ) (es : List Entry) (s : Seat) → (reads h tries es s).state ≡ (told h es).state
 unfolding reads
-read_state h es s = refl
+read_state h tries es s = refl
 
-pub read_fresh : (h : Home) (es : List Entry) (s : Seat) → (reads h 0 es s).fresh ≡ []
+pub read_fresh : (h : Home) (tries : ℕ) (es : List Entry) (s : Seat) → (reads h tries es s).fresh ≡ []
 unfolding reads
-read_fresh h es s = refl
+read_fresh h tries es s = refl
 
-restart_owned : (homes : Homes) (x y : Kept) (es : List Entry) → y.seat.number ≡ x.seat.number → y.seat ≡ reads (homes x.seat.number) 0 es x.seat → IfSome x.kept (λ k. es ≡ k.synced) → IfSome x.kept (λ k. y.kept ≡ x.kept)
+restart_owned : (homes : Homes) (x y : Kept) (tries : ℕ) (es : List Entry) → y.seat.number ≡ x.seat.number → y.seat ≡ reads (homes x.seat.number) tries es x.seat → IfSome x.kept (λ k. es ≡ k.synced) → IfSome x.kept (λ k. y.kept ≡ x.kept)
     → IsOwned homes x → IsOwned homes y
-restart_owned homes x y es n is same kept (j, e, s) =
+restart_owned homes x y tries es n is same kept (j, e, s) =
     let h : Home = homes x.seat.number in
     let these : es ≡ j.synced = subst (λ (o : Option Journaled). IfSome o (λ k. es ≡ k.synced)) e same in
     let still : y.kept ≡ x.kept = subst (λ (o : Option Journaled). IfSome o (λ k. y.kept ≡ x.kept)) e kept in
-    let fresh : y.seat.fresh ≡ [] = ap (λ (u : Seat). u.fresh) is ∙ read_fresh h es x.seat in
-    let state : y.seat.state ≡ (told h es).state = ap (λ (u : Seat). u.state) is ∙ read_state h es x.seat in (
+    let fresh : y.seat.fresh ≡ [] = ap (λ (u : Seat). u.fresh) is ∙ read_fresh h tries es x.seat in
+    let state : y.seat.state ≡ (told h es).state = ap (λ (u : Seat). u.state) is ∙ read_state h tries es x.seat in (
       j,
       still ∙ e,
       ap₂ (λ (m : ℕ) (xs : List Entry). (told (homes m) (j.synced ++ xs)).state) n fresh
@@ -249,7 +249,7 @@ restarts_owned a (x ∷ xs) (y ∷ ys) p t o routes r w = (one (cases_eq x.seat.
     one : (x.seat.number ≡ a) ⊎ (x.seat.number ≡ a → ⊥) → IsOwned (home_in t routes) y
     one (inl e) =
         let q = (p.0.here e).reread in
-        restart_owned (home_in t routes) x y q.entries q.same.number (at_home t x (λ h. y.seat ≡ reads h 0 q.entries x.seat) o.0 q.seat routes r) q.synced q.kept w.0
+        restart_owned (home_in t routes) x y q.tries q.entries q.same.number (at_home t x (λ h. y.seat ≡ reads h q.tries q.entries x.seat) o.0 q.seat routes r) q.synced q.kept w.0
     one (inr m) = subst (λ (k : Kept). IsOwned (home_in t routes) k) (sym (p.0.there m)) w.0
 
 -- what an act does

@@ -1,93 +1,60 @@
 -- Groups and plays, in which disks stop as some tapes say, or none does.
-use Rattle.std.proofs.Common.{ℕ, ◌≡◌, ◌≤◌, ◌<◌, ◌+◌, ◌⊎◌, inl, inr, Bool, true, List, [], ◌∷◌, ◌++◌, refl, sym, ap, ◌∙◌, subst, arith, length, length-append, map}
+use Rattle.std.proofs.Common.{ℕ, ◌≡◌, ◌≤◌, ◌<◌, ◌+◌, ◌⊎◌, inl, inr, Bool, true, List, [], ◌∷◌, ◌++◌, refl, sym, ap, ◌∙◌, subst, arith, length, length-append, append-nil, map}
+use Rattle.std.specs.Prelude.{sum}
 use Rattle.nsi_primitive.specs.declared.entry.Event.{Event}
-use Rattle.nsi_script.specs.declared.script.Act.{Act}
 use Rattle.nsi_script.specs.declared.script.Group.{Group}
 use Rattle.agent_node.specs.Kept.{Kept}
-use Rattle.nsi_play.specs.Rounds.{Net, Homes, events_of, emptied, all_quiet}
-use Rattle.nsi_play.specs.Play.{Played, behind, after_round, acted, acts, asks_in, asks_among, ticked_in, begins}
-use Rattle.nsi_play.proofs.Settling.{acts_cons, acts_none}
+use Rattle.nsi_play.specs.Rounds.{Net, Homes, events_of, all_quiet}
+use Rattle.nsi_play.specs.Play.{Played, behind, asks_among, ticked_in, ended}
 use Rattle.stopped_play.specs.Tapes.{Cuts, Tape}
 use Rattle.stopped_play.specs.Rounds.{settles_by}
-use Rattle.stopped_play.specs.Play.{acted_by, acts_by, begins_by, group_by, plays_from, remade, IsPlayBy}
-use Rattle.stopped_play.specs.Coming.{behind_cuts, events_by, IsSettledBy as IsSettledByTape, IsGroupOver as IsOverByTape, IsPlayedBy as IsPlayedByTape}
+use Rattle.stopped_play.specs.Play.{group_by, plays_from, remade, IsPlayBy}
+use Rattle.stopped_play.specs.Coming.{behind_cuts, events_by, IsPlayedBy as IsPlayedByTape}
 use Rattle.stopped_play.specs.Counts.{stops_among as cut_stops, round_stops, tape_stops, play_stops}
-use Rattle.stopped_play.proofs.Calm.{begins_by_is, group_by_is}
-use Rattle.stopped_play.proofs.Coming.{settled_more as settled_more_by, settled_end, played_none as played_none_by, played_more as played_more_by, played_all as played_all_by, play_passes as play_passes_by}
+use Rattle.stopped_play.proofs.Calm.{group_by_is}
+use Rattle.stopped_play.proofs.Coming.{settled_more as settled_more_by, begun_by, group_over as group_over_by, begins_passes as begins_passes_by, played_none as played_none_by, played_more as played_more_by, played_all as played_all_by, play_passes as play_passes_by}
+use Rattle.agent_threads.specs.Coming.{IsSettledBy, OverrunsBy, IsGroupOver}
 use Rattle.agent_threads.specs.Nets.{numbers, AreSame}
 use Rattle.agent_threads.specs.Promise.{NoRestart}
-use Rattle.agent_threads.specs.Stopping.{stops_among, NoneStopped, AreSettled, OverrunsWithin, Overrun, IsOver, Passes, ArePlayed, none_making, on_tapes, IsPlayed, PlayPasses}
+use Rattle.agent_threads.specs.Stopping.{stops_among, NoneStopped, IsBegunBy, HasBegun, BeginsPast, AreSettled, OverrunsWithin, Overrun, IsOver, Passes, ArePlayed, none_making, on_tapes, IsPlayed, PlayPasses}
 use Rattle.agent_threads.proofs.Coming.{group_over, group_passes, begins_passes, played_none, played_more, played_all, play_passes}
 use Rattle.agent_threads.proofs.Showing.{restarts_append}
 use Rattle.agent_threads.proofs.Stepping.{rounds_append}
 use Rattle.agent_threads.proofs.Same.{stops_up}
 
----- Acts at which no disk stops
-
-act_calm : (a : Act) (count : ℕ) (homes : Homes) (net : Net) → acted_by a 0 count homes net ≡ acted a count homes net
-act_calm (Act.Ask a ask) count homes net = refl
-act_calm (Act.Force a n) count homes net = refl
-act_calm (Act.Restart a) count homes net = refl
-
-acts_calm : (todo : List Act) (count : ℕ) (homes : Homes) (net : Net) → acts_by todo [] count homes net ≡ acts todo count homes net
-unfolding acts_by
-acts_calm [] count homes net = sym (acts_none count homes net)
-acts_calm (a ∷ rest) count homes net =
-    let n : ℕ = count + asks_in a in
-    ap (λ (x : Net). after_round x (acts_by rest [] n homes)) (act_calm a count homes net)
-    ∙ (ap (behind (events_of (acted a count homes net))) (acts_calm rest n homes (emptied (acted a count homes net))) ∙ sym (acts_cons a rest count homes net))
-
-begins_is : (g : Group) (count : ℕ) (homes : Homes) (x : Net) → begins g count homes x ≡ after_round (map (ticked_in g.at homes) x) (acts g.acts count homes)
-unfolding begins
-begins_is g count homes x = refl
-
--- only rounds have stops
-abbrev of_rounds : List Cuts → Tape
-of_rounds rounds = record { acts = []; rounds = rounds }
-
-begins_calm : (rounds : List Cuts) (g : Group) (count : ℕ) (homes : Homes) (x : Net) → begins_by (of_rounds rounds) g count homes x ≡ begins g count homes x
-begins_calm rounds g count homes x =
-    let y : Net = map (ticked_in g.at homes) x in
-    begins_by_is (of_rounds rounds) g count homes x ∙ (ap (behind (events_of y)) (acts_calm g.acts count homes (emptied y)) ∙ sym (begins_is g count homes x))
-
-group_after : (rounds : List Cuts) (g : Group) (count : ℕ) (homes : Homes) (x : Net) → group_by (of_rounds rounds) g count homes x ≡ behind (begins g count homes x).events (settles_by rounds homes (begins g count homes x).net)
-group_after rounds g count homes x = group_by_is (of_rounds rounds) g count homes x ∙ ap (λ (b : Played). behind b.events (settles_by rounds homes b.net)) (begins_calm rounds g count homes x)
-
 ---- A group
 
-over_by : (homes : Homes) (g : Group) (count : ℕ) (x : Net) (own : List Event) (y : Net) → (s : IsSettledByTape homes (begins g count homes x).net own y) → all_quiet homes y ≡ true
-    → (o : IsOverByTape homes g count x ((begins g count homes x).events ++ own) y) × (o.tape ≡ of_rounds s.rounds)
-over_by homes g count x own y s q = (
-  record {
-    tape = of_rounds s.rounds;
-    goes = group_after s.rounds g count homes x ∙ ap (behind (begins g count homes x).events) (settled_end homes (begins g count homes x).net own y s q);
-  },
-  refl,
-)
-
 -- where all are quiet, the group is over
-pub are_over : (homes : Homes) (b : Bool) (Calm Later : Type 0) (most all : ℕ) → (Later → Calm) → most ≤ all → (g : Group) (next : ℕ) (x : Net) (own : List Event) (y : Net) → numbers (begins g next homes x).net ≡ numbers x
-    → AreSettled homes b Calm most (begins g next homes x).net own y → all_quiet homes y ≡ true → IsOver homes b Later all g next x ((begins g next homes x).events ++ own) y
-are_over homes b Calm Later most all f le g next x own y same s q = record {
+pub are_over : (homes : Homes) (b : Bool) (Here Calm Later : Type 0) (here most all : ℕ) → (Later → Here × Calm) → here + most ≤ all → (g : Group) (next : ℕ) (x : Net) (first : List Event) (m : Net) (own : List Event) (y : Net)
+    → numbers m ≡ numbers x → HasBegun homes b Here here g next x first m → AreSettled homes b Calm most m own y → all_quiet homes y ≡ true → IsOver homes b Later all g next x (first ++ own) y
+are_over homes b Here Calm Later here most all f le g next x first m own y same a s q = record {
   told = λ e.
-      let u = s.told e in
-      let o = over_by homes g next x own y u.0 q in
-      (o.0, let m = u.1 in omega (arith, le, m, ap (λ (tape : Tape). tape_stops (numbers x) tape) o.1, ap (λ (ns : List ℕ). round_stops ns u.0.rounds) same));
-  calm = λ l. group_over homes g next x own y (s.calm (f l)) q;
+      let u = a.told e in
+      let v = s.told e in
+      let o = group_over_by homes g next x u.acted u.next m own y u.goes v.0 q in (
+        record { tape = o.tape; goes = o.goes ∙ ap (λ (es : List Event). ended (es ++ own) y) (sym u.told) },
+        let m = u.few in let n = v.1 in omega (arith, le, m, n, ap (λ (ns : List ℕ). round_stops ns v.0.rounds) same),
+      );
+  calm = λ l.
+      let h = f l in
+      let u = a.calm h.0 in
+      subst (λ (es : List Event). IsGroupOver homes g next x (es ++ own) y) (sym u.told) (group_over homes g next x own y (subst (λ (z : Net). IsSettledBy homes z own y) u.rest (s.calm h.1)) q);
 }
 
-round_passes_by : (homes : Homes) (g : Group) (count : ℕ) (x : Net) (room most : ℕ) → numbers (begins g count homes x).net ≡ numbers x → OverrunsWithin most homes (begins g count homes x).net (length (begins g count homes x).events) room
-    → (tape : Tape) × (tape_stops (numbers x) tape ≤ most) × (room < 0 + length (group_by tape g count homes x).events)
-round_passes_by homes g count x room most same o =
-    let b : Played = begins g count homes x in
-    let more = settled_more_by homes b.net o.0 o.1 o.2 o.3 o.5 in
+round_passes_by : (homes : Homes) (g : Group) (count : ℕ) (x : Net) (first : List Event) (m : Net) (here room most : ℕ) → numbers m ≡ numbers x → IsBegunBy here homes g count x first m → OverrunsWithin most homes m (length first) room
+    → (tape : Tape) × (tape_stops (numbers x) tape ≤ here + most) × (room < 0 + length (group_by tape g count homes x).events)
+round_passes_by homes g count x first m here room most same u o =
+    let more = settled_more_by homes m o.0 o.1 o.2 o.3 o.5 in
     let rounds : List Cuts = o.3.rounds ++ o.2 ∷ [] in
+    let tape : Tape = record { acts = u.goes.tries; rounds = rounds ++ [] } in
     let rest : Played = settles_by [] homes (behind_cuts o.2 homes o.1) in
-    let all : List Event = o.0 ++ events_by o.2 homes o.1 in (
-      of_rounds (rounds ++ []),
-      (let few = o.4 in omega (
+    let all : List Event = o.0 ++ events_by o.2 homes o.1 in
+    let begun : List Event = events_of (map (ticked_in g.at homes) x) ++ u.acted in (
+      tape,
+      (let few = o.4 in let acts = u.few in omega (
         arith,
         few,
+        acts,
         ap (λ (ns : List ℕ). round_stops ns o.3.rounds) same,
         ap (λ (ns : List ℕ). cut_stops o.2 ns) same,
         rounds_append (numbers x) rounds [],
@@ -96,31 +63,35 @@ round_passes_by homes g count x room most same o =
       let long = o.6 in omega (
         arith,
         long,
-        ap (λ (p : Played). length p.events) (group_after (rounds ++ []) g count homes x ∙ ap (behind b.events) (more.goes [])),
-        length-append b.events (all ++ rest.events),
+        ap length u.told,
+        ap (λ (p : Played). length p.events)
+            (group_by_is tape g count homes x ∙ (ap (λ (p : Played). behind p.events (settles_by (rounds ++ []) homes p.net)) (begun_by homes g count x u.acted u.next m u.goes (rounds ++ [])) ∙ ap (behind begun) (more.goes []))),
+        length-append begun (all ++ rest.events),
         length-append all rest.events,
         length-append o.0 (events_by o.2 homes o.1),
       ),
     )
 
 -- where a round passes the limit, the group does
-pub group_overruns : (homes : Homes) (b : Bool) (Calm Later : Type 0) (most all : ℕ) → (Later → Calm) → most ≤ all → (g : Group) (next : ℕ) (x : Net) (room : ℕ) → numbers (begins g next homes x).net ≡ numbers x
-    → Overrun homes b Calm most (begins g next homes x).net (length (begins g next homes x).events) room → Passes homes b Later all room 0 g next x
-group_overruns homes b Calm Later most all f le g next x room same o = record {
-  told = λ e. let p = round_passes_by homes g next x room most same (o.told e) in (p.0, (let few = p.1 in omega (arith, few, le)), p.2);
-  calm = λ l. let p = o.calm (f l) in group_passes homes g next x p.0 p.1 room 0 p.2 p.3 (let long = p.4 in omega (arith, long));
+pub group_overruns : (homes : Homes) (b : Bool) (Here Calm Later : Type 0) (here most all : ℕ) → (Later → Here × Calm) → here + most ≤ all → (g : Group) (next : ℕ) (x : Net) (first : List Event) (m : Net) (room : ℕ) → numbers m ≡ numbers x
+    → HasBegun homes b Here here g next x first m → Overrun homes b Calm most m (length first) room → Passes homes b Later all room 0 g next x
+group_overruns homes b Here Calm Later here most all f le g next x first m room same a o = record {
+  told = λ e. let p = round_passes_by homes g next x first m here room most same (a.told e) (o.told e) in (p.0, (let few = p.1 in omega (arith, few, le)), p.2);
+  calm = λ l.
+      let h = f l in
+      let u = a.calm h.0 in
+      let p : OverrunsBy homes m (length first) room = o.calm h.1 in
+      group_passes homes g next x p.0 p.1 room 0 (subst (λ (z : Net). IsSettledBy homes z p.0 p.1) u.rest p.2) p.3 (let long = p.4 in omega (arith, long, ap length u.told));
 }
 
 -- where the ticks and acts pass it already
-pub begun_passes : (homes : Homes) (b : Bool) (Later : Type 0) (most : ℕ) (g : Group) (next : ℕ) (x : Net) (room : ℕ) → room < length (begins g next homes x).events → Passes homes b Later most room 0 g next x
-begun_passes homes b Later most g next x room long = record {
-  told = λ e. (
-    of_rounds [],
-    omega arith,
-    let p : Played = begins g next homes x in
-        omega (arith, long, ap (λ (z : Played). length z.events) (group_after [] g next homes x), length-append p.events (settles_by [] homes p.net).events),
-  );
-  calm = λ l. begins_passes homes g next x room 0 (omega (arith, long));
+pub begun_passes : (homes : Homes) (b : Bool) (Calm : Type 0) (most : ℕ) (g : Group) (next : ℕ) (x : Net) (room : ℕ) → BeginsPast homes b Calm most room g next x → Passes homes b Calm most room 0 g next x
+begun_passes homes b Calm most g next x room p = record {
+  told = λ e.
+      let v = p.told e in
+      let q = begins_passes_by homes g next x v.acted v.left v.next v.now room 0 v.goes (let long = v.long in omega (arith, long)) in
+      (q.0, (let few = v.few in omega (arith, few, ap sum (append-nil v.goes.tries))), q.1);
+  calm = λ l. begins_passes homes g next x room 0 (let long = p.calm l in omega (arith, long));
 }
 
 -- with what was told before it

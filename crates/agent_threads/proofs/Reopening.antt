@@ -83,9 +83,8 @@ few_more ks ms k olds news e f h = omega (arith, h, more_length ks k olds e, mor
 
 ---- Why they don't go on
 
-risen_before : (b c d : ShelfCounts) → c.faults ≡ b.faults → c.stops ≡ b.stops → HaveRisen c d → HaveRisen b d
-risen_before b c d p q (inl h) = inl (subst (λ (n : ℕ). HasCountRisen n d.faults) p h)
-risen_before b c d p q (inr h) = inr (subst (λ (n : ℕ). HasCountRisen n d.stops) q h)
+risen_before : (b c d : ShelfCounts) → c.faults ≡ b.faults → HaveRisen c d → HaveRisen b d
+risen_before b c d p h = subst (λ (n : ℕ). HasCountRisen n d.faults) p h
 
 untold_behind : (ks : List Kept) (k : Kept) (olds : List Kept) → olds ≡ ks ++ k ∷ [] → ((routes : Routes) → AreRoutes k.network routes → WasOwned (home_in k.network routes) k → ⊥) → AtOwnedBefore olds (λ homes. ⊥)
 untold_behind ks k olds e none t o routes r w =
@@ -120,7 +119,7 @@ cause_again (Err x) ks k olds b c d is e f h = cause_last ks k olds b d x is (re
     restart_before : (k : Kept) (b c d : ShelfCounts) (e : RunFault) → c.faults ≡ b.faults → c.stops ≡ b.stops → HasRestartCause k c d e → HasRestartCause k b d e
     restart_before k b c d RunFault.Long p q h = h
     restart_before k b c d RunFault.WriteFault p q h = h
-    restart_before k b c d (RunFault.DiskFault a) p q h = (h.0, risen_before b c d p q h.1)
+    restart_before k b c d (RunFault.DiskFault a) p q h = (h.0, risen_before b c d p h.1)
     restart_before k b c d (RunFault.NotAJournal a place) p q h = h
     restart_before k b c d RunFault.NoMemory p q h = h
 
@@ -147,13 +146,13 @@ stopped_links (x ∷ xs) [] p u = absurd p
 stopped_links (x ∷ xs) (y ∷ ys) p u = (one u.0, stopped_links xs ys p.1 u.1)
   where
     self : KeepsLinks x x
-    self = record { same = record { network = refl; number = refl; others = refl; faults = refl; stops = omega arith }; plugs = refl }
+    self = record { same = record { network = refl; number = refl; others = refl; faults = refl; stops = omega arith; planned = refl }; plugs = refl }
 
     one : MayGoOn x → KeepsLinks x y
     one (inl f) = subst (λ (k : Kept). KeepsLinks x k) (sym (p.0.there (usable_not_stopped x.fault f))) self
     one (inr f) =
         let q : IsReopened x y = (p.0.here f).reopened in
-        record { same = record { network = q.same.network; number = q.same.number; others = q.same.others; faults = q.counts.faults; stops = let n = q.counts.stops in omega (arith, n) }; plugs = q.plugs }
+        record { same = record { network = q.same.network; number = q.same.number; others = q.same.others; faults = q.counts.faults; stops = let n = q.counts.stops in omega (arith, n); planned = q.counts.planned }; plugs = q.plugs }
 
 pub stopped_usable : (xs ys : List Kept) → EachIs RestartsStopped xs ys → AreUsable ys
 stopped_usable [] [] p = tt
@@ -189,7 +188,7 @@ stopped_ends exist (x ∷ xs) (y ∷ ys) p u = (one u.0, stopped_ends exist xs y
     one (inr f) =
         let q : IsReopened x y = (p.0.here f).reopened in
         let r = exist x.network in
-        subst (λ (s : Seat). HasSameEnds x.seat s) (sym (q.seat r.0 r.1)) (same_reads (home_in x.network r.0 x.seat.number) q.entries x.seat)
+        subst (λ (s : Seat). HasSameEnds x.seat s) (sym (q.seat r.0 r.1)) (same_reads (home_in x.network r.0 x.seat.number) q.tries q.entries x.seat)
 
 emptied_ends : (xs ys : List Kept) → EachIs Emptied xs ys → EachIs SameEnds xs ys
 emptied_ends [] [] e = tt

@@ -1,5 +1,5 @@
 -- Agents that go on from their journals.
-use Rattle.std.proofs.Common.{ℕ, ◌+◌, ◌≤◌, ◌≡◌, ◌&&◌, nat_le, Bool, true, false, List, [], ◌∷◌, ◌++◌, ◌⊎◌, Option, Some, None, inl, inr, refl, sym, ap, ◌∙◌, subst, arith, length, length-append}
+use Rattle.std.proofs.Common.{ℕ, zero, suc, ◌+◌, ◌≤◌, ◌≡◌, ◌&&◌, nat_le, Bool, true, false, List, [], ◌∷◌, ◌++◌, ◌⊎◌, Option, Some, None, inl, inr, refl, sym, ap, ◌∙◌, subst, arith, length, length-append}
 use Rattle.std.specs.Prelude.{IfSome, Result, Ok, Err, OnOk, OnErr}
 use Rattle.std.proofs.lemmas.Bool.Decides.{nat_tests}
 use Rattle.std.proofs.lemmas.Bool.{cases_eq}
@@ -16,14 +16,14 @@ use Rattle.nsi_agent.specs.Told.{Told, told, goes_on}
 use Rattle.nsi_agent.proofs.Staying.{entries_are_taken, others_are_left_out}
 use Rattle.nsi_agent.proofs.Telling.{telling_is_in_parts, clocks_rise}
 use Rattle.agent_node.specs.Seat.{Seat}
-use Rattle.agent_node.specs.Restarts.{reads, restart_event}
+use Rattle.agent_node.specs.Restarts.{reads, restart_event, restart_events}
 use Rattle.agent_node.specs.declared.fault.TurnFault.{TurnFault}
 use Rattle.agent_node.specs.Reopening.{IsReread, IsReopened, AreEither}
 use Rattle.agent_node.specs.Kept.{Kept, first_kept}
 use Rattle.agent_node.specs.Made.{AtHome}
 use Rattle.agent_threads.specs.declared.fault.RunFault.{RunFault}
-use Rattle.agent_threads.specs.Nets.{seats, numbers, EachIs, AreOf, AtHomes, AreSame, AreUsable, AreNet, IsOwned, AreOwned, IsAbsent, IsOneOf, AreAmong, AreListed, IsUnstopped}
-use Rattle.agent_threads.specs.Bounds.{MovesOn}
+use Rattle.agent_threads.specs.Nets.{seats, numbers, EachIs, AreOf, AtHomes, AreSame, AreUsable, AreNet, IsOwned, AreOwned, IsAbsent, IsOneOf, AreAmong, AreListed, HasAsMany}
+use Rattle.agent_threads.specs.Bounds.{MovesOn, AreBy}
 use Rattle.agent_threads.specs.Promise.{Shows}
 use Rattle.std.proofs.lemmas.List.Elements.{All-head}
 use Rattle.agent_threads.specs.Made.{Does, DoesAct, IsRestarted, RestartsAt, part_in, PutsBack, LosesOne, ShelfCounts, HasFailed, AreUntold, IsUntold, HasRestartCause, HasRunCause}
@@ -68,20 +68,20 @@ goes_later h s (e ∷ es) =
 front_later : (h : Home) (es fs : List Entry) → IsLater (told h es).state (told h (es ++ fs)).state
 front_later h es fs = subst (λ (u : AgentState). IsLater (told h es).state u) (sym (ap (λ (x : Told). x.state) (telling_is_in_parts h blank_agent es fs))) (goes_later h (told h es).state fs)
 
-pub read_events : (h : Home) (es : List Entry) (s : Seat) → (reads h 0 es s).events ≡ s.events ++ restart_event s.number (length es) ∷ []
+pub read_events : (h : Home) (tries : ℕ) (es : List Entry) (s : Seat) → (reads h tries es s).events ≡ s.events ++ restart_event s.number (length es) ∷ restart_events tries s.number (length es)
 unfolding reads
-read_events h es s = refl
+read_events h tries es s = refl
 
 later_self : (s : AgentState) → IsLater s s
 later_self s = record { taken = omega arith; now = omega arith }
 
 -- what its journal tells is no more than the agent took
-own_later : (h : Home) (x y : Kept) (j : Journaled) (es : List Entry) → (es ≡ j.synced) ⊎ (es ≡ j.synced ++ x.seat.fresh) → (told h (j.synced ++ x.seat.fresh)).state ≡ x.seat.state → y.seat ≡ reads h 0 es x.seat → IsLater y.seat.state x.seat.state
-own_later h x y j es (inl same) state is =
-    let now : y.seat.state ≡ (told h j.synced).state = ap (λ (s : Seat). s.state) is ∙ (read_state h es x.seat ∙ ap (λ (xs : List Entry). (told h xs).state) same) in
+own_later : (h : Home) (x y : Kept) (j : Journaled) (tries : ℕ) (es : List Entry) → (es ≡ j.synced) ⊎ (es ≡ j.synced ++ x.seat.fresh) → (told h (j.synced ++ x.seat.fresh)).state ≡ x.seat.state → y.seat ≡ reads h tries es x.seat → IsLater y.seat.state x.seat.state
+own_later h x y j tries es (inl same) state is =
+    let now : y.seat.state ≡ (told h j.synced).state = ap (λ (s : Seat). s.state) is ∙ (read_state h tries es x.seat ∙ ap (λ (xs : List Entry). (told h xs).state) same) in
     subst (λ (u : AgentState). IsLater y.seat.state u) state (subst (λ (u : AgentState). IsLater u (told h (j.synced ++ x.seat.fresh)).state) (sym now) (front_later h j.synced x.seat.fresh))
-own_later h x y j es (inr same) state is =
-    let now : y.seat.state ≡ x.seat.state = ap (λ (s : Seat). s.state) is ∙ (read_state h es x.seat ∙ (ap (λ (xs : List Entry). (told h xs).state) same ∙ state)) in
+own_later h x y j tries es (inr same) state is =
+    let now : y.seat.state ≡ x.seat.state = ap (λ (s : Seat). s.state) is ∙ (read_state h tries es x.seat ∙ (ap (λ (xs : List Entry). (told h xs).state) same ∙ state)) in
     subst (λ (u : AgentState). IsLater y.seat.state u) now (later_self y.seat.state)
 
 -- what a journal told before a stop, with the entries that were being synced or without
@@ -93,13 +93,13 @@ untold_more : (x y : Kept) → x.fault ≡ None → IsReread x y → (nat_le y.s
 untold_more x y f q more routes r (j, e, state) =
     let kept : x.kept ≡ Some j = sym (ap (λ (z : Option TurnFault). kept_before z x.seat.synced x.kept) f) ∙ e in
     let same : q.entries ≡ j.synced = subst (λ (o : Option Journaled). IfSome o (λ k. q.entries ≡ k.synced)) kept q.synced in
-    let later = own_later (home_in x.network routes x.seat.number) x y j q.entries (inl same) state (q.seat routes r) in
+    let later = own_later (home_in x.network routes x.seat.number) x y j q.tries q.entries (inl same) state (q.seat routes r) in
     not_within y.seat.state.base.taken x.seat.state.base.taken y.seat.state.base.now x.seat.state.base.now more later.taken later.now
 
 untold_again : (x y : Kept) → x.fault ≡ Some TurnFault.Stopped → IsReopened x y → (nat_le y.seat.state.base.taken x.seat.state.base.taken && nat_le y.seat.state.base.now x.seat.state.base.now) ≡ false → IsUntold x
 untold_again x y f q more routes r (j, e, state) =
     let either : (q.entries ≡ j.synced) ⊎ (q.entries ≡ j.synced ++ x.seat.fresh) = subst (λ (o : Option Journaled). AreEither x.seat.fresh o q.entries) (first_told x j f e) q.read in
-    let later = own_later (home_in x.network routes x.seat.number) x y j q.entries either state (q.seat routes r) in
+    let later = own_later (home_in x.network routes x.seat.number) x y j q.tries q.entries either state (q.seat routes r) in
     not_within y.seat.state.base.taken x.seat.state.base.taken y.seat.state.base.now x.seat.state.base.now more later.taken later.now
 
 pub untold : (x y : Kept) → MayGoOn x → (x.fault ≡ None → IsReread x y) → (x.fault ≡ Some TurnFault.Stopped → IsReopened x y)
@@ -107,34 +107,39 @@ pub untold : (x y : Kept) → MayGoOn x → (x.fault ≡ None → IsReread x y) 
 untold x y (inl f) p q more = untold_more x y f (p f) more
 untold x y (inr f) p q more = untold_again x y f (q f) more
 
-pub same_again : (x y : Kept) → MayGoOn x → (x.fault ≡ None → IsReread x y) → (x.fault ≡ Some TurnFault.Stopped → IsReopened x y) → IsUnstopped x y
-same_again x y (inl f) p q = record { same = (p f).same; stops = (p f).counts.stops }
-same_again x y (inr f) p q = record { same = (q f).same; stops = (q f).counts.stops }
+pub same_again : (x y : Kept) → MayGoOn x → (x.fault ≡ None → IsReread x y) → (x.fault ≡ Some TurnFault.Stopped → IsReopened x y) → HasAsMany x y
+same_again x y (inl f) p q = let c = (p f).counts in let more = c.stops in record { same = (p f).same; stops = omega (arith, more); planned = c.planned }
+same_again x y (inr f) p q = let c = (q f).counts in let more = c.stops in record { same = (q f).same; stops = omega (arith, more); planned = c.planned }
 
 -- an agent that has read its journal and taken no more
-read_moves : RoutesExist → (x y : Kept) (es : List Entry) → AtHome x (λ h. y.seat ≡ reads h 0 es x.seat) → y.seat.number ≡ x.seat.number
+all_by : (times a count : ℕ) → AreBy a (restart_events times a count)
+all_by zero a count = tt
+all_by (suc times) a count = (refl, all_by times a count)
+
+read_moves : RoutesExist → (x y : Kept) (tries : ℕ) (es : List Entry) → AtHome x (λ h. y.seat ≡ reads h tries es x.seat) → y.seat.number ≡ x.seat.number
     → (nat_le y.seat.state.base.taken x.seat.state.base.taken && nat_le y.seat.state.base.now x.seat.state.base.now) ≡ true → MovesOn 0 x y
-read_moves exist x y es is number within =
+read_moves exist x y tries es is number within =
     let r = exist x.network in
     let h = home_in x.network r.0 x.seat.number in
-    let events : y.seat.events ≡ x.seat.events ++ restart_event x.seat.number (length es) ∷ [] = ap (λ (s : Seat). s.events) (is r.0 r.1) ∙ read_events h es x.seat in
+    let own = restart_event x.seat.number (length es) ∷ restart_events tries x.seat.number (length es) in
+    let events : y.seat.events ≡ x.seat.events ++ own = ap (λ (s : Seat). s.events) (is r.0 r.1) ∙ read_events h tries es x.seat in
     let both = within_both y.seat.state.base.taken x.seat.state.base.taken y.seat.state.base.now x.seat.state.base.now within in
     record {
       number = number;
-      more = restart_event x.seat.number (length es) ∷ [];
+      more = own;
       events = events;
-      own = (refl, tt);
-      taken = let t = both.0 in omega (arith, t, ap length events, length-append x.seat.events (restart_event x.seat.number (length es) ∷ []));
+      own = (refl, all_by tries x.seat.number (length es));
+      taken = let t = both.0 in omega (arith, t, ap length events, length-append x.seat.events own);
       clock = λ second a b. let n = both.1 in omega (arith, n, b);
     }
 
 -- an agent that has taken no more was restarted
 pub is_restarted : RoutesExist → (x y : Kept) → IsReread x y → (nat_le y.seat.state.base.taken x.seat.state.base.taken && nat_le y.seat.state.base.now x.seat.state.base.now) ≡ true → IsRestarted x y
-is_restarted exist x y q within = record { reread = q; moves = read_moves exist x y q.entries q.seat q.same.number within }
+is_restarted exist x y q within = record { reread = q; moves = read_moves exist x y q.tries q.entries q.seat q.same.number within }
 
 -- or goes on behind a stop
 pub goes_again : RoutesExist → (x y : Kept) → IsReopened x y → (nat_le y.seat.state.base.taken x.seat.state.base.taken && nat_le y.seat.state.base.now x.seat.state.base.now) ≡ true → GoesOnAgain x y
-goes_again exist x y q within = record { reopened = q; moves = read_moves exist x y q.entries q.seat q.same.number within }
+goes_again exist x y q within = record { reopened = q; moves = read_moves exist x y q.tries q.entries q.seat q.same.number within }
 
 ---- A list with one more behind it
 
@@ -269,12 +274,12 @@ restarts_links a (x ∷ xs) [] p = absurd p
 restarts_links a (x ∷ xs) (y ∷ ys) p = (one (cases_eq x.seat.number a), restarts_links a xs ys p.1)
   where
     self : KeepsLinks x x
-    self = record { same = record { network = refl; number = refl; others = refl; faults = refl; stops = omega arith }; plugs = refl }
+    self = record { same = record { network = refl; number = refl; others = refl; faults = refl; stops = omega arith; planned = refl }; plugs = refl }
 
     one : (x.seat.number ≡ a) ⊎ (x.seat.number ≡ a → ⊥) → KeepsLinks x y
     one (inl e) =
         let q = (p.0.here e).reread in
-        record { same = record { network = q.same.network; number = q.same.number; others = q.same.others; faults = q.counts.faults; stops = let n = q.counts.stops in omega (arith, n) }; plugs = q.plugs }
+        record { same = record { network = q.same.network; number = q.same.number; others = q.same.others; faults = q.counts.faults; stops = let n = q.counts.stops in omega (arith, n); planned = q.counts.planned }; plugs = q.plugs }
     one (inr m) = subst (λ (k : Kept). KeepsLinks x k) (sym (p.0.there m)) self
 
 restarts_usable : (a : ℕ) (xs ys : List Kept) → EachIs (RestartsAt a) xs ys → AreUsable ys
@@ -330,7 +335,7 @@ more_length ks k olds e = omega (arith, ap length e, length-append ks (k ∷ [])
 
 pub lost_length : (ks : List Kept) (k : Kept) (news : List Kept) (c d : ShelfCounts) → LosesOne k ks news c d → length news ≤ length ks + 1
 lost_length ks k news c d (inl f) = omega (arith, ap length f.0)
-lost_length ks k news c d (inr p) = omega (arith, put_length IsUnstopped ks k news p.0)
+lost_length ks k news c d (inr p) = omega (arith, put_length HasAsMany ks k news p.0)
 
 -- and no more of them
 pub few_either : {T : Type 0} (r : Result T RunFault) (ks : List Kept) (k : Kept) (olds news : List Kept) (c d : ShelfCounts) → olds ≡ ks ++ k ∷ [] → OnOk r (PutsBack IsRestarted k ks news) → OnErr r (LosesOne k ks news c d) → length news ≤ length olds

@@ -7,7 +7,7 @@ use Rattle.agent_node.specs.Seat.{Seat}
 use Rattle.agent_node.specs.Kept.{Kept, AreLinked, IsSameAgent}
 use Rattle.agent_node.specs.Made.{AtHome}
 use Rattle.nsi_disk.specs.Disk.{Meter}
-use Rattle.agent_threads.specs.Nets.{seats, numbers, EachIs, AreOf, IsSteady, IsUnstopped, AreSame, AreCalm, AreUsable, IsAbsent, AreApart, IsLinkedToAll, AreWired, AreNet}
+use Rattle.agent_threads.specs.Nets.{seats, numbers, EachIs, AreOf, IsSteady, IsAsPlanned, IsUnstopped, AreSame, AreCalm, AreUsable, IsAbsent, AreApart, IsLinkedToAll, AreWired, AreNet}
 use Rattle.agent_threads.specs.Made.{Does, Stays}
 use Rattle.agent_threads.specs.Stopping.{stops_among}
 use Rattle.agent_threads.proofs.Places.{each_map}
@@ -23,14 +23,21 @@ pub same_self : (a : Kept) → IsSameAgent a a
 same_self a = record { network = refl; number = refl; others = refl }
 
 steady_trans : (a b c : Kept) → IsSteady a b → IsSteady b c → IsSteady a c
-steady_trans a b c p q = record { network = q.network ∙ p.network; number = q.number ∙ p.number; others = q.others ∙ p.others; faults = q.faults ∙ p.faults; stops = let u = p.stops in let v = q.stops in omega (arith, u, v) }
+steady_trans a b c p q = record { network = q.network ∙ p.network; number = q.number ∙ p.number; others = q.others ∙ p.others; faults = q.faults ∙ p.faults; stops = let u = p.stops in let v = q.stops in omega (arith, u, v); planned = q.planned ∙ p.planned }
 
 steady_self : (a : Kept) → IsSteady a a
-steady_self a = record { network = refl; number = refl; others = refl; faults = refl; stops = omega arith }
+steady_self a = record { network = refl; number = refl; others = refl; faults = refl; stops = omega arith; planned = refl }
 
 -- with the counts of its disk
-pub steady_of : (a b : Kept) → IsSameAgent a b → b.meter.faults ≡ a.meter.faults → b.meter.stops ≡ a.meter.stops → IsSteady a b
-steady_of a b s f q = record { network = s.network; number = s.number; others = s.others; faults = f; stops = omega (arith, q) }
+pub steady_of : (a b : Kept) → IsSameAgent a b → b.meter ≡ a.meter → IsSteady a b
+steady_of a b s e = record {
+  network = s.network;
+  number = s.number;
+  others = s.others;
+  faults = ap (λ (m : Meter). m.faults) e;
+  stops = let same = ap (λ (m : Meter). m.stops) e in omega (arith, same);
+  planned = ap (λ (m : Meter). m.planned) e;
+}
 
 pub are_calm : (xs ys : List Kept) → AreSame xs ys → AreCalm xs ys
 are_calm [] [] p = tt
@@ -52,31 +59,34 @@ same_twice (x ∷ xs) (y ∷ ys) (z ∷ zs) p q = (steady_trans x y z p.0 q.0, s
 
 ---- Only the same agents
 
-pub same_agents_twice : (xs ys zs : List Kept) → EachIs IsSameAgent xs ys → EachIs IsSameAgent ys zs → EachIs IsSameAgent xs zs
+as_planned_trans : (a b c : Kept) → IsAsPlanned a b → IsAsPlanned b c → IsAsPlanned a c
+as_planned_trans a b c p q = record { same = same_trans a b c p.same q.same; planned = q.planned ∙ p.planned }
+
+pub same_agents_twice : (xs ys zs : List Kept) → EachIs IsAsPlanned xs ys → EachIs IsAsPlanned ys zs → EachIs IsAsPlanned xs zs
 same_agents_twice [] [] [] p q = tt
 same_agents_twice [] [] (z ∷ zs) p q = absurd q
 same_agents_twice [] (y ∷ ys) zs p q = absurd p
 same_agents_twice (x ∷ xs) [] zs p q = absurd p
 same_agents_twice (x ∷ xs) (y ∷ ys) [] p q = absurd q
-same_agents_twice (x ∷ xs) (y ∷ ys) (z ∷ zs) p q = (same_trans x y z p.0 q.0, same_agents_twice xs ys zs p.1 q.1)
+same_agents_twice (x ∷ xs) (y ∷ ys) (z ∷ zs) p q = (as_planned_trans x y z p.0 q.0, same_agents_twice xs ys zs p.1 q.1)
 
-steady_agent : (a b : Kept) → IsSteady a b → IsSameAgent a b
-steady_agent a b s = record { network = s.network; number = s.number; others = s.others }
+steady_agent : (a b : Kept) → IsSteady a b → IsAsPlanned a b
+steady_agent a b s = record { same = record { network = s.network; number = s.number; others = s.others }; planned = s.planned }
 
-pub same_agents : (xs ys : List Kept) → AreSame xs ys → EachIs IsSameAgent xs ys
-same_agents xs ys p = each_map IsSteady IsSameAgent xs ys steady_agent p
+pub same_agents : (xs ys : List Kept) → AreSame xs ys → EachIs IsAsPlanned xs ys
+same_agents xs ys p = each_map IsSteady IsAsPlanned xs ys steady_agent p
 
-stays_agent : (a b : Kept) → Stays a b → IsSameAgent a b
-stays_agent a b s = s.same
+stays_agent : (a b : Kept) → Stays a b → IsAsPlanned a b
+stays_agent a b s = record { same = s.same; planned = ap (λ (m : Meter). m.planned) s.journal.meter }
 
-pub stays_agents : (xs ys : List Kept) → EachIs Stays xs ys → EachIs IsSameAgent xs ys
-stays_agents xs ys p = each_map Stays IsSameAgent xs ys stays_agent p
+pub stays_agents : (xs ys : List Kept) → EachIs Stays xs ys → EachIs IsAsPlanned xs ys
+stays_agents xs ys p = each_map Stays IsAsPlanned xs ys stays_agent p
 
 pub unstopped_self : (a : Kept) → IsUnstopped a a
-unstopped_self a = record { same = same_self a; stops = refl }
+unstopped_self a = record { same = same_self a; stops = refl; planned = refl }
 
 unstopped_trans : (a b c : Kept) → IsUnstopped a b → IsUnstopped b c → IsUnstopped a c
-unstopped_trans a b c p q = record { same = same_trans a b c p.same q.same; stops = q.stops ∙ p.stops }
+unstopped_trans a b c p q = record { same = same_trans a b c p.same q.same; stops = q.stops ∙ p.stops; planned = q.planned ∙ p.planned }
 
 pub unstopped_twice : (xs ys zs : List Kept) → EachIs IsUnstopped xs ys → EachIs IsUnstopped ys zs → EachIs IsUnstopped xs zs
 unstopped_twice [] [] [] p q = tt
@@ -87,7 +97,7 @@ unstopped_twice (x ∷ xs) (y ∷ ys) [] p q = absurd q
 unstopped_twice (x ∷ xs) (y ∷ ys) (z ∷ zs) p q = (unstopped_trans x y z p.0 q.0, unstopped_twice xs ys zs p.1 q.1)
 
 pub does_unstopped : (f : Home → Seat → Seat) (a b : Kept) → Does f a b → IsUnstopped a b
-does_unstopped f a b d = record { same = d.same; stops = ap (λ (m : Meter). m.stops) d.journal.meter }
+does_unstopped f a b d = record { same = d.same; stops = ap (λ (m : Meter). m.stops) d.journal.meter; planned = ap (λ (m : Meter). m.planned) d.journal.meter }
 
 pub stops_up : (xs ys : List Kept) → AreSame xs ys → stops_among xs ≤ stops_among ys
 stops_up [] [] s = omega arith
@@ -154,7 +164,7 @@ pub stays_same : (xs ys : List Kept) → EachIs Stays xs ys → AreSame xs ys
 stays_same [] [] p = tt
 stays_same [] (y ∷ ys) p = absurd p
 stays_same (x ∷ xs) [] p = absurd p
-stays_same (x ∷ xs) (y ∷ ys) p = (steady_of x y p.0.same (ap (λ (m : Meter). m.faults) p.0.journal.meter) (ap (λ (m : Meter). m.stops) p.0.journal.meter), stays_same xs ys p.1)
+stays_same (x ∷ xs) (y ∷ ys) p = (steady_of x y p.0.same p.0.journal.meter, stays_same xs ys p.1)
 
 pub stays_usable : (xs ys : List Kept) → EachIs Stays xs ys → AreUsable xs → AreUsable ys
 stays_usable [] [] p u = tt
@@ -168,7 +178,7 @@ pub does_links : (f : Home → Seat → Seat) (xs ys : List Kept) → EachIs (Do
 does_links f [] [] p = tt
 does_links f [] (y ∷ ys) p = absurd p
 does_links f (x ∷ xs) [] p = absurd p
-does_links f (x ∷ xs) (y ∷ ys) p = (record { same = steady_of x y p.0.same (ap (λ (m : Meter). m.faults) p.0.journal.meter) (ap (λ (m : Meter). m.stops) p.0.journal.meter); plugs = p.0.plugs }, does_links f xs ys p.1)
+does_links f (x ∷ xs) (y ∷ ys) p = (record { same = steady_of x y p.0.same p.0.journal.meter; plugs = p.0.plugs }, does_links f xs ys p.1)
 
 pub does_usable : (f : Home → Seat → Seat) (xs ys : List Kept) → EachIs (Does f) xs ys → AreUsable ys
 does_usable f [] [] p = tt

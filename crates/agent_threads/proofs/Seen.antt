@@ -1,5 +1,5 @@
 -- Agents with their synced entries as their journals tell them.
-use Rattle.std.proofs.Common.{ℕ, ◌≡◌, ◌==◌, ◌⊎◌, Bool, true, false, cond, List, [], ◌∷◌, ◌++◌, Option, Some, None, inl, inr, refl, sym, ap, ap₂, ◌∙◌, subst, map, eq-eqb, ne_eqb}
+use Rattle.std.proofs.Common.{ℕ, arith, ◌≤◌, ◌≡◌, ◌==◌, ◌⊎◌, Bool, true, false, cond, List, [], ◌∷◌, ◌++◌, Option, Some, None, inl, inr, refl, sym, ap, ap₂, ◌∙◌, subst, map, eq-eqb, ne_eqb}
 use Rattle.std.specs.Prelude.{IfSome}
 use Rattle.std.proofs.lemmas.Bool.{cases_eq}
 use Rattle.nsi_primitive.specs.declared.entry.Entry.{Entry}
@@ -12,15 +12,17 @@ use Rattle.agent_node.specs.Seat.{Seat, now_at}
 use Rattle.agent_node.specs.Acts.{asked, forced, is_quiet}
 use Rattle.agent_node.specs.Turns.{turned}
 use Rattle.agent_node.specs.Meetings.{met}
-use Rattle.agent_node.specs.Restarts.{reads, restarted}
+use Rattle.agent_node.specs.Restarts.{reads}
 use Rattle.agent_node.specs.Kept.{Kept}
 use Rattle.agent_node.specs.Made.{IsTurn, keeps}
 use Rattle.agent_node.proofs.Pasts.{with_past, past_enters, past_turned, past_ticked, past_met, past_of_other}
 use Rattle.nsi_script.specs.declared.script.Act.{Act}
 use Rattle.nsi_play.specs.Rounds.{Net, Homes, events_of, turned_all, meets_each, meets_all, met_all}
-use Rattle.nsi_play.specs.Play.{changes, acted, RestartsNone}
-use Rattle.agent_threads.specs.Nets.{seats, seats_by, numbers, seen, synced_in, EachIs, AreOf, IsOwned, AreOwned, AreUsable}
+use Rattle.nsi_play.specs.Play.{changes, RestartsNone}
+use Rattle.stopped_play.specs.Play.{read_again, acted_by}
+use Rattle.agent_threads.specs.Nets.{seats, seats_by, numbers, seen, synced_in, EachIs, AreOf, IsOwned, AreOwned, AreUsable, IsAbsent, AreApart}
 use Rattle.agent_threads.specs.Made.{Does, RestartsAt, Stays, tick_to, part_in}
+use Rattle.agent_threads.specs.Stopping.{stops_among, more_stops}
 use Rattle.agent_threads.proofs.Same.{at_home}
 
 -- the events are the same
@@ -127,9 +129,9 @@ met_seen false xs ys e f = f
 ---- Restarts
 
 -- it reads what is synced, where this is told
-read_past : (es : List Entry) (h : Home) (s : Seat) → reads h 0 es (with_past (Some es) s) ≡ with_past (Some es) (reads h 0 es s)
+read_past : (es : List Entry) (h : Home) (tries : ℕ) (s : Seat) → reads h tries es (with_past (Some es) s) ≡ with_past (Some es) (reads h tries es s)
 unfolding reads
-read_past es h s = refl
+read_past es h tries s = refl
 
 same_entries : (es : List Entry) (j : Journaled) (o : Option Journaled) → o ≡ Some j → IfSome o (λ k. es ≡ k.synced) → es ≡ j.synced
 same_entries es j o e p = subst (λ (z : Option Journaled). IfSome z (λ k. es ≡ k.synced)) e p
@@ -137,32 +139,61 @@ same_entries es j o e p = subst (λ (z : Option Journaled). IfSome z (λ k. es �
 still_kept : (j : Journaled) (o new : Option Journaled) → o ≡ Some j → IfSome o (λ k. new ≡ o) → new ≡ o
 still_kept j o new e p = subst (λ (z : Option Journaled). IfSome z (λ k. new ≡ o)) e p
 
-restart_seen : (h : Home) (x y : Kept) (j : Journaled) (es : List Entry) → x.kept ≡ Some j → es ≡ j.synced → y.kept ≡ x.kept → y.seat ≡ reads h 0 es x.seat → seen true y ≡ restarted h (seen true x)
-restart_seen h x y j es e same kept is =
-    ap₂ (λ (o : Option Journaled) (s : Seat). with_past (synced_in o) s) (kept ∙ e) (is ∙ ap (λ (xs : List Entry). reads h 0 xs x.seat) same)
-    ∙ (sym (read_past j.synced h x.seat) ∙ ap (λ (o : Option Journaled). restarted h (with_past (synced_in o) x.seat)) (sym e))
+restart_seen : (h : Home) (x y : Kept) (j : Journaled) (tries : ℕ) (es : List Entry) → x.kept ≡ Some j → es ≡ j.synced → y.kept ≡ x.kept → y.seat ≡ reads h tries es x.seat → seen true y ≡ read_again tries h (seen true x)
+restart_seen h x y j tries es e same kept is =
+    ap₂ (λ (o : Option Journaled) (s : Seat). with_past (synced_in o) s) (kept ∙ e) (is ∙ ap (λ (xs : List Entry). reads h tries xs x.seat) same)
+    ∙ (sym (read_past j.synced h tries x.seat) ∙ ap (λ (o : Option Journaled). read_again tries h (with_past (synced_in o) x.seat)) (sym e))
 
-pub restarts_seen : (a n : ℕ) (xs ys : List Kept) → EachIs (RestartsAt a) xs ys → (t : Network) → AreOf t xs → (routes : Routes) → AreRoutes t routes → AreOwned (home_in t routes) xs
-    → seats_by true ys ≡ acted (Act.Restart a) n (home_in t routes) (seats_by true xs)
-restarts_seen a n [] [] p t o routes r w = refl
-restarts_seen a n [] (y ∷ ys) p t o routes r w = absurd p
-restarts_seen a n (x ∷ xs) [] p t o routes r w = absurd p
-restarts_seen a n (x ∷ xs) (y ∷ ys) p t o routes r w = ap₂ ◌∷◌ (one (cases_eq x.seat.number a)) (restarts_seen a n xs ys p.1 t o.1 routes r w.1)
+-- an agent with another number is as it was, however often was tried
+other_stays : (homes : Homes) (a tries : ℕ) (x y : Kept) → RestartsAt a x y → (x.seat.number ≡ a → ⊥) → seen true y ≡ changes a (read_again tries (homes a)) (seen true x)
+other_stays homes a tries x y p m = ap (seen true) (p.there m) ∙ sym (ap (λ (b : Bool). cond b (read_again tries (homes a) (seen true x)) (seen true x)) (ne_eqb x.seat.number a m))
+
+others_seen : (a tries n : ℕ) (homes : Homes) (xs ys : List Kept) → EachIs (RestartsAt a) xs ys → IsAbsent a (numbers (seats xs)) → seats_by true ys ≡ acted_by (Act.Restart a) tries n homes (seats_by true xs)
+others_seen a tries n homes [] [] p m = refl
+others_seen a tries n homes [] (y ∷ ys) p m = absurd p
+others_seen a tries n homes (x ∷ xs) [] p m = absurd p
+others_seen a tries n homes (x ∷ xs) (y ∷ ys) p m = ap₂ ◌∷◌ (other_stays homes a tries x y p.0 (λ e. m.0 (sym e))) (others_seen a tries n homes xs ys p.1 m.1)
+
+others_still : (a : ℕ) (xs ys : List Kept) → EachIs (RestartsAt a) xs ys → stops_among xs ≤ stops_among ys
+others_still a [] [] p = omega arith
+others_still a [] (y ∷ ys) p = absurd p
+others_still a (x ∷ xs) [] p = absurd p
+others_still a (x ∷ xs) (y ∷ ys) p = let one = by_number (cases_eq x.seat.number a) in let rest = others_still a xs ys p.1 in omega (arith, one, rest)
+  where
+    by_number : (x.seat.number ≡ a) ⊎ (x.seat.number ≡ a → ⊥) → x.meter.stops ≤ y.meter.stops
+    by_number (inl e) = let more = (p.0.here e).reread.counts.stops in omega (arith, more)
+    by_number (inr m) = omega (arith, ap (λ (k : Kept). k.meter.stops) (p.0.there m))
+
+-- the agent with that number was restarted, behind no more tries than stops were counted
+pub restarts_seen : (a n : ℕ) (xs ys : List Kept) → EachIs (RestartsAt a) xs ys → AreApart (seats xs) → (t : Network) → AreOf t xs → (routes : Routes) → AreRoutes t routes → AreOwned (home_in t routes) xs
+    → (tries : ℕ) × (tries ≤ more_stops xs ys) × (seats_by true ys ≡ acted_by (Act.Restart a) tries n (home_in t routes) (seats_by true xs))
+restarts_seen a n [] [] p apart t o routes r w = (0, omega arith, refl)
+restarts_seen a n [] (y ∷ ys) p apart t o routes r w = absurd p
+restarts_seen a n (x ∷ xs) [] p apart t o routes r w = absurd p
+restarts_seen a n (x ∷ xs) (y ∷ ys) p apart t o routes r w = one (cases_eq x.seat.number a) (restarts_seen a n xs ys p.1 apart.1.1 t o.1 routes r w.1)
   where
     homes : Homes
     homes = home_in t routes
 
-    here : x.seat.number ≡ a → seen true y ≡ changes a (restarted (homes a)) (seen true x)
-    here e =
+    Goes : ℕ → Type 0
+    Goes tries = seats_by true (y ∷ ys) ≡ acted_by (Act.Restart a) tries n homes (seats_by true (x ∷ xs))
+
+    one : (x.seat.number ≡ a) ⊎ (x.seat.number ≡ a → ⊥) → ((tries : ℕ) × (tries ≤ more_stops xs ys) × (seats_by true ys ≡ acted_by (Act.Restart a) tries n homes (seats_by true xs)))
+        → (tries : ℕ) × (tries ≤ more_stops (x ∷ xs) (y ∷ ys)) × Goes tries
+    one (inl e) rest =
         let q = (p.0.here e).reread in
         let j = w.0.0 in
-        let is = at_home t x (λ h. y.seat ≡ reads h 0 q.entries x.seat) o.0 q.seat routes r in
-        restart_seen (homes x.seat.number) x y j q.entries w.0.1 (same_entries q.entries j x.kept w.0.1 q.synced) (still_kept j x.kept y.kept w.0.1 q.kept) is
-        ∙ (ap (λ (m : ℕ). restarted (homes m) (seen true x)) e ∙ sym (ap (λ (b : Bool). cond b (restarted (homes a) (seen true x)) (seen true x)) (eq-eqb x.seat.number a e)))
-
-    there : (x.seat.number ≡ a → ⊥) → seen true y ≡ changes a (restarted (homes a)) (seen true x)
-    there m = ap (seen true) (p.0.there m) ∙ sym (ap (λ (b : Bool). cond b (restarted (homes a) (seen true x)) (seen true x)) (ne_eqb x.seat.number a m))
-
-    one : (x.seat.number ≡ a) ⊎ (x.seat.number ≡ a → ⊥) → seen true y ≡ changes a (restarted (homes a)) (seen true x)
-    one (inl e) = here e
-    one (inr m) = there m
+        let is = at_home t x (λ h. y.seat ≡ reads h q.tries q.entries x.seat) o.0 q.seat routes r in
+        let seen_so : seen true y ≡ changes a (read_again q.tries (homes a)) (seen true x) =
+        restart_seen (homes x.seat.number) x y j q.tries q.entries w.0.1 (same_entries q.entries j x.kept w.0.1 q.synced) (still_kept j x.kept y.kept w.0.1 q.kept) is
+        ∙ (ap (λ (m : ℕ). read_again q.tries (homes m) (seen true x)) e ∙ sym (ap (λ (b : Bool). cond b (read_again q.tries (homes a) (seen true x)) (seen true x)) (eq-eqb x.seat.number a e))) in
+        let few = q.counts.stops in
+        let more = others_still a xs ys p.1 in (
+          q.tries,
+          omega (arith, few, more),
+          ap₂ ◌∷◌ seen_so (others_seen a q.tries n homes xs ys p.1 (subst (λ (m : ℕ). IsAbsent m (numbers (seats xs))) e apart.0)),
+        )
+    one (inr m) rest =
+        let few = rest.1 in
+        let still = ap (λ (k : Kept). k.meter.stops) (p.0.there m) in
+        (rest.0, omega (arith, few, still), ap₂ ◌∷◌ (other_stays homes a rest.0 x y p.0 m) rest.2)

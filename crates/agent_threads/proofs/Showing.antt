@@ -9,7 +9,7 @@ use Rattle.nsi_agent.specs.Homes.{Home, Routes, AreRoutes, home_in}
 use Rattle.agent_node.specs.declared.fault.TurnFault.{TurnFault}
 use Rattle.agent_node.specs.Seat.{Seat}
 use Rattle.agent_node.specs.Turns.{turned, halted}
-use Rattle.agent_node.specs.Restarts.{restart_event}
+use Rattle.agent_node.specs.Restarts.{restart_event, restart_events}
 use Rattle.agent_node.specs.Reopening.{IsReopened}
 use Rattle.agent_node.specs.Kept.{Kept}
 use Rattle.agent_node.specs.Made.{IsTurn}
@@ -20,10 +20,10 @@ use Rattle.stopped_play.specs.Counts.{restarts_in}
 use Rattle.agent_threads.specs.declared.fault.RoundFault.{RoundFault}
 use Rattle.agent_threads.specs.declared.fault.RunFault.{RunFault}
 use Rattle.agent_threads.specs.Nets.{seats, EachIs, AreOf}
-use Rattle.agent_threads.specs.Made.{Stays, stop_at, first_failure, first_stop, fault_of, answer, behind_fault, HasRisen, HasMetCause}
-use Rattle.agent_threads.specs.Stopping.{is_stopped, MayGoOn, MayAllGoOn, AgreesWith, RestartsStopped, IsStop, stopped_in, stops_among}
+use Rattle.agent_threads.specs.Made.{Stays, stop_at, first_failure, first_stop, fault_of, answer, behind_fault, HasRisen, faults_in, HasMetCause}
+use Rattle.agent_threads.specs.Stopping.{is_stopped, one_stop, MayGoOn, MayAllGoOn, AgreesWith, RestartsStopped, IsStop, stopped_in, stops_among}
 use Rattle.agent_threads.proofs.Same.{at_home}
-use Rattle.agent_threads.proofs.Stopping.{usable_not_stopped, none_of, some_turn, cut_is_stop, agrees_met, by_cuts}
+use Rattle.agent_threads.proofs.Stopping.{none_of, some_turn, agrees_met, by_cuts}
 use Rattle.agent_threads.proofs.Causes.{failed}
 use Rattle.agent_threads.proofs.Turning.{one_of, failure_is_no_stop}
 use Rattle.agent_threads.proofs.Going.{both_none}
@@ -146,13 +146,13 @@ long_behind RoundFault.NoMemory e = absurd (cc)
 pub was_long : (f : RoundFault) (r : Result Bool RunFault) → r ≡ behind_fault f → r ≡ Err RunFault.Long → f ≡ RoundFault.Long
 was_long f r e h = long_behind f (sym e ∙ h)
 
-cause_behind : (f : RoundFault) (os ns : List Kept) → ((a : ℕ) → f ≡ RoundFault.DiskFault a → HasRisen a os ns) → IfErr (behind_fault f) (HasMetCause ns)
+cause_behind : (f : RoundFault) (os ns : List Kept) → ((a : ℕ) → f ≡ RoundFault.DiskFault a → HasRisen faults_in a os ns) → IfErr (behind_fault f) (HasMetCause ns)
 cause_behind RoundFault.Long os ns risen = tt
 cause_behind (RoundFault.DiskFault a) os ns risen = failed a os ns (risen a refl)
 cause_behind (RoundFault.Stopped a) os ns risen = tt
 cause_behind RoundFault.NoMemory os ns risen = tt
 
-pub met_cause : (f : RoundFault) (r : Result Bool RunFault) (os ns : List Kept) → r ≡ behind_fault f → ((a : ℕ) → f ≡ RoundFault.DiskFault a → HasRisen a os ns) → IfErr r (HasMetCause ns)
+pub met_cause : (f : RoundFault) (r : Result Bool RunFault) (os ns : List Kept) → r ≡ behind_fault f → ((a : ℕ) → f ≡ RoundFault.DiskFault a → HasRisen faults_in a os ns) → IfErr r (HasMetCause ns)
 met_cause f r os ns e risen = subst (λ (z : Result Bool RunFault). IfErr z (HasMetCause ns)) (sym e) (cause_behind f os ns risen)
 
 ---- Where journals tell nothing
@@ -174,7 +174,7 @@ turns_plain room (k ∷ ks) (n ∷ ns) e u t o routes r cuts g = ap₂ ◌∷◌
     h = home_in t routes k.seat.number
 
     agrees : is_some (cuts k.seat.number) ≡ is_stopped n.fault
-    agrees = ap (λ (m : ℕ). is_some (cuts m)) (sym e.0.same.number) ∙ cut_is_stop (cuts n.seat.number) n.fault g.0
+    agrees = ap (λ (m : ℕ). is_some (cuts m)) (sym e.0.same.number) ∙ g.0
 
     by_fault : MayGoOn n → n.seat ≡ turned_or (cuts k.seat.number) h k.seat
     by_fault (inl f) = whole_plain h (cuts k.seat.number) k n f (at_home t k (λ z. n.fault ≡ None → n.seat ≡ turned z k.seat) o.0 e.0.ok routes r f) agrees
@@ -192,28 +192,28 @@ pub restarts_append : (es fs : List Event) → restarts_in (es ++ fs) ≡ restar
 restarts_append [] fs = omega arith
 restarts_append (e ∷ es) fs = let rest = restarts_append es fs in omega (arith, rest)
 
-one_shows : RoutesExist → (x y : Kept) → RestartsStopped x y → MayGoOn x → x.seat.events ≡ [] → restarts_in y.seat.events ≡ (if is_stopped x.fault then 1 else 0)
-one_shows exist x y p (inl f) none =
-    ap (λ (k : Kept). restarts_in k.seat.events) (p.there (usable_not_stopped x.fault f)) ∙ (ap restarts_in none ∙ sym (ap (λ (z : Option TurnFault). if is_stopped z then 1 else 0) f))
+one_shows : RoutesExist → (x y : Kept) → RestartsStopped x y → MayGoOn x → x.seat.events ≡ [] → (if is_stopped x.fault then 1 else 0) ≤ restarts_in y.seat.events
+one_shows exist x y p (inl f) none = omega (arith, ap one_stop f)
 one_shows exist x y p (inr f) none =
     let q : IsReopened x y = (p.here f).reopened in
     let r = exist x.network in
     let h : Home = home_in x.network r.0 x.seat.number in
-    let more : List Event = restart_event x.seat.number (length q.entries) ∷ [] in
-    let events : y.seat.events ≡ x.seat.events ++ more = ap (λ (s : Seat). s.events) (q.seat r.0 r.1) ∙ read_events h q.entries x.seat in
-    ap restarts_in (events ∙ ap (λ (es : List Event). es ++ more) none) ∙ sym (ap (λ (z : Option TurnFault). if is_stopped z then 1 else 0) f)
+    let again : List Event = restart_events q.tries x.seat.number (length q.entries) in
+    let more : List Event = restart_event x.seat.number (length q.entries) ∷ again in
+    let events : y.seat.events ≡ x.seat.events ++ more = ap (λ (s : Seat). s.events) (q.seat r.0 r.1) ∙ read_events h q.tries q.entries x.seat in
+    omega (arith, ap restarts_in (events ∙ ap (λ (es : List Event). es ++ more) none), ap one_stop f)
 
-each_shows : RoutesExist → (xs ys : List Kept) → EachIs RestartsStopped xs ys → MayAllGoOn xs → events_of (seats xs) ≡ [] → restarts_in (events_of (seats ys)) ≡ stopped_in xs
-each_shows exist [] [] p u none = refl
+each_shows : RoutesExist → (xs ys : List Kept) → EachIs RestartsStopped xs ys → MayAllGoOn xs → events_of (seats xs) ≡ [] → stopped_in xs ≤ restarts_in (events_of (seats ys))
+each_shows exist [] [] p u none = omega arith
 each_shows exist [] (y ∷ ys) p u none = absurd p
 each_shows exist (x ∷ xs) [] p u none = absurd p
 each_shows exist (x ∷ xs) (y ∷ ys) p u none =
     let q = both_none x.seat.events (events_of (seats xs)) none in
     let one = one_shows exist x y p.0 u.0 q.0 in
     let rest = each_shows exist xs ys p.1 u.1 q.1 in
-    restarts_append y.seat.events (events_of (seats ys)) ∙ ap₂ ◌+◌ one rest
+    omega (arith, restarts_append y.seat.events (events_of (seats ys)), one, rest)
 
--- each whose disk had stopped tells one restart
+-- each whose disk had stopped tells a restart
 pub reopened_shows : RoutesExist → (xs ys : List Kept) (before events : List Event) → EachIs RestartsStopped xs ys → MayAllGoOn xs → events_of (seats xs) ≡ [] → events ≡ before ++ events_of (seats ys)
-    → restarts_in events ≡ restarts_in before + stopped_in xs
-reopened_shows exist xs ys before events p u none e = ap restarts_in e ∙ (restarts_append before (events_of (seats ys)) ∙ ap (λ (n : ℕ). restarts_in before + n) (each_shows exist xs ys p u none))
+    → restarts_in before + stopped_in xs ≤ restarts_in events
+reopened_shows exist xs ys before events p u none e = omega (arith, ap restarts_in e, restarts_append before (events_of (seats ys)), each_shows exist xs ys p u none)

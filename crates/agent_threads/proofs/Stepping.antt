@@ -1,5 +1,5 @@
 -- Rounds with the restarts behind them, one after another.
-use Rattle.std.proofs.Common.{ℕ, ◌≡◌, ◌≤◌, ◌<◌, ◌+◌, ◌⊎◌, inl, inr, if◌then◌else◌, Bool, true, false, List, [], ◌∷◌, ◌++◌, None, refl, sym, ap, ◌∙◌, subst, arith, length, length-append, append_assoc}
+use Rattle.std.proofs.Common.{ℕ, ◌≡◌, ◌≤◌, ◌<◌, ◌+◌, ◌⊎◌, inl, inr, if◌then◌else◌, Bool, true, false, List, [], ◌∷◌, ◌++◌, None, is_some, refl, sym, ap, ◌∙◌, subst, arith, length, length-append, append_assoc}
 use Rattle.std.proofs.lemmas.Bool.{cases_Bool}
 use Rattle.std.proofs.lemmas.List.{append_cancel_left}
 use Rattle.std.specs.List.{All}
@@ -23,10 +23,10 @@ use Rattle.agent_threads.specs.Bounds.{AreOfOne, MovesOn, GoOn}
 use Rattle.agent_threads.specs.Coming.{IsTold, IsSettledBy}
 use Rattle.agent_threads.specs.Leaving.{LeavesNet}
 use Rattle.agent_threads.specs.Made.{ShelfCounts, AreLeft}
-use Rattle.agent_threads.specs.Stopping.{is_stopped, AreHalted, AgreesWith, seats_before, WereOwned, AtOwned, AtOwnedBefore, Emptied, stopped_in, stops_among, more_stops, NoneCounted, NoneStopped, IsSteppedBy, IsStepped, StepOverruns, AreSettled, Overrun}
+use Rattle.agent_threads.specs.Stopping.{is_stopped, AreHalted, AgreesWith, seats_before, WereOwned, AtOwned, AtOwnedBefore, Emptied, stopped_in, stops_among, more_stops, NoneCounted, NoneStopped, GoOnByCuts, IsSteppedBy, IsStepped, StepOverruns, AreSettled, Overrun}
 use Rattle.agent_threads.proofs.Same.{still_of, same_twice, stops_up, numbers_same}
 use Rattle.agent_threads.proofs.Seen.{seen_numbers}
-use Rattle.agent_threads.proofs.Stopping.{cut_as, agreed_stops, agrees_else}
+use Rattle.agent_threads.proofs.Stopping.{cut_as, agrees_else, stops_else}
 use Rattle.agent_threads.proofs.Showing.{restarts_append}
 use Rattle.agent_threads.proofs.Emptying.{emptied_same, emptied_agrees, emptied_stopped, emptied_stops, emptied_were, emptied_before, emptied_seats, before_events}
 use Rattle.agent_threads.proofs.Coming.{settled_none, settled_more, settled_then, settled_overruns}
@@ -34,28 +34,34 @@ use Rattle.agent_threads.proofs.Going.{anyhow, go_on, go_then}
 
 ---- Cuts
 
--- cuts of those that have stopped, and of no other one
+-- cuts of those that have stopped, one stop each, and of no other one
 pub record Agreeing (ks : List Kept) : Type 0 where
   pub cuts : List (ℕ × Cut)
   pub agrees : AgreesWith (cuts_of cuts) ks
+  pub once : cut_stops (cuts_of cuts) (numbers (seats ks)) ≡ stopped_in ks
   pub only : (a : ℕ) → IsAbsent a (numbers (seats ks)) → cuts_of cuts a ≡ None
 
+abbrev one_where : Bool → ℕ
+one_where b = if b then 1 else 0
+
 pub agreeing : (ks : List Kept) → AreApart (seats ks) → Agreeing ks
-agreeing [] apart = record { cuts = []; agrees = tt; only = λ a n. refl }
+agreeing [] apart = record { cuts = []; agrees = tt; once = refl; only = λ a n. refl }
 agreeing (k ∷ ks) apart = by_fault (agreeing ks apart.1.1) (cases_Bool (is_stopped k.fault))
   where
     c : ℕ × Cut
-    c = (k.seat.number, cut_as false)
+    c = (k.seat.number, cut_as false 0)
 
     by_fault : Agreeing ks → (is_stopped k.fault ≡ true) ⊎ (is_stopped k.fault ≡ false) → Agreeing (k ∷ ks)
     by_fault rest (inl s) = record {
       cuts = c ∷ rest.cuts;
-      agrees = (ap stops_of (cut_here c rest.cuts) ∙ sym (ap (λ (z : Bool). if z then 1 else 0) s), agrees_else c rest.cuts ks apart.0 rest.agrees);
+      agrees = (ap is_some (cut_here c rest.cuts) ∙ sym s, agrees_else c rest.cuts ks apart.0 rest.agrees);
+      once = omega (arith, rest.once, ap stops_of (cut_here c rest.cuts), ap one_where s, stops_else c rest.cuts ks apart.0);
       only = λ a n. cut_else c rest.cuts a n.0 ∙ rest.only a n.1;
     }
     by_fault rest (inr s) = record {
       cuts = rest.cuts;
-      agrees = (ap stops_of (rest.only k.seat.number apart.0) ∙ sym (ap (λ (z : Bool). if z then 1 else 0) s), rest.agrees);
+      agrees = (ap is_some (rest.only k.seat.number apart.0) ∙ sym s, rest.agrees);
+      once = omega (arith, rest.once, ap stops_of (rest.only k.seat.number apart.0), ap one_where s);
       only = λ a n. rest.only a n.1;
     }
 
@@ -103,26 +109,22 @@ pub record IsHalted (homes : Homes) (olds mids lefts : List Kept) (before now : 
   pub emptied : EachIs Emptied mids lefts
   pub told : now ≡ before ++ events_of (seats mids)
 
--- they go on, as some cuts say
-abbrev pub AreReopened : Homes → (lefts news : List Kept) → (now events : List Event) → Type 0
-AreReopened homes lefts news now events = (cuts : Cuts) × AgreesWith cuts lefts × IsTold (reopens cuts homes (seats_before lefts)) now events (seats_by true news)
-
-pub stepped_halted : (most : ℕ) (homes : Homes) (olds mids lefts news : List Kept) (before now events : List Event) → IsHalted homes olds mids lefts before now → AreReopened homes lefts news now events → numbers (seats lefts) ≡ numbers (seats_by true olds)
-    → stopped_in lefts ≤ most → IsSteppedBy most homes (seats_by true olds) before events (seats_by true news)
+pub stepped_halted : (most : ℕ) (homes : Homes) (olds mids lefts news : List Kept) (before now events : List Event) → IsHalted homes olds mids lefts before now → GoOnByCuts lefts news now events homes → numbers (seats lefts) ≡ numbers (seats_by true olds)
+    → stopped_in lefts + stops_among news ≤ most + stops_among lefts → IsSteppedBy most homes (seats_by true olds) before events (seats_by true news)
 stepped_halted most homes olds mids lefts news before now events h r same few =
-    let cuts : Cuts = r.0 in
+    let cuts : Cuts = r.cuts in
     let x : Net = seats_by true olds in
-    let made : seats_before mids ≡ round_by cuts homes x = h.halts cuts (emptied_agrees cuts mids lefts h.emptied r.1) in
+    let made : seats_before mids ≡ round_by cuts homes x = h.halts cuts (emptied_agrees cuts mids lefts h.emptied r.agrees) in
     let left : seats_before lefts ≡ emptied (round_by cuts homes x) = emptied_before mids lefts h.emptied ∙ ap emptied made in
     let first : events_of (seats mids) ≡ events_of (round_by cuts homes x) = sym (before_events mids) ∙ ap events_of made in
     let more : List Event = events_of (reopens cuts homes (emptied (round_by cuts homes x))) in
     record {
       cuts = cuts;
-      few = omega (arith, few, ap (λ (ns : List ℕ). cut_stops cuts ns) same, agreed_stops cuts lefts r.1);
-      told = r.2.told
+      few = let each = r.few in omega (arith, few, each, ap (λ (ns : List ℕ). cut_stops cuts ns) same);
+      told = r.told.told
           ∙ (ap (λ (net : Net). now ++ events_of (reopens cuts homes net)) left
           ∙ (ap (λ (es : List Event). es ++ more) (h.told ∙ ap (λ (es : List Event). before ++ es) first) ∙ append_assoc before (events_of (round_by cuts homes x)) more));
-      rest = r.2.rest ∙ ap (λ (net : Net). emptied (reopens cuts homes net)) left;
+      rest = r.told.rest ∙ ap (λ (net : Net). emptied (reopens cuts homes net)) left;
     }
 
 -- with the round alone there are too many events
@@ -134,7 +136,7 @@ halted_long most homes olds mids lefts before now room apart h same few long =
     let x : Net = seats_by true olds in
     let first : events_of (seats mids) ≡ events_of (round_by cuts homes x) = sym (before_events mids) ∙ ap events_of (h.halts cuts a.agrees) in (
       cuts,
-      omega (arith, few, ap (λ (ns : List ℕ). cut_stops cuts ns) same, agreed_stops cuts mids a.agrees),
+      omega (arith, few, ap (λ (ns : List ℕ). cut_stops cuts ns) same, a.once),
       omega (arith, long, ap length h.told, length-append before (events_of (seats mids)), ap length first, length-append (events_of (round_by cuts homes x)) (events_of (reopens cuts homes (emptied (round_by cuts homes x))))),
     )
 
@@ -154,7 +156,7 @@ pub stop_rises : (olds mids lefts : List Kept) (before now : List Event) → Has
 stop_rises olds mids lefts before now h =
     let a = h.counts in let b = h.some in let c = emptied_stops mids lefts h.emptied in omega (arith, a, b, c)
 
-pub stop_shows : (olds mids lefts news : List Kept) (before now events : List Event) → HasStop olds mids lefts before now → AreSame lefts news → restarts_in events ≡ restarts_in now + stopped_in lefts → NoneStopped olds news before events → ⊥
+pub stop_shows : (olds mids lefts news : List Kept) (before now events : List Event) → HasStop olds mids lefts before now → AreSame lefts news → restarts_in now + stopped_in lefts ≤ restarts_in events → NoneStopped olds news before events → ⊥
 stop_shows olds mids lefts news before now events h s r (inl e) =
     let a = stop_rises olds mids lefts before now h in let b = stops_up lefts news s in omega (arith, a, b, e)
 stop_shows olds mids lefts news before now events h s r (inr e) =
@@ -195,13 +197,17 @@ room_first whole homes b stopped olds mids lefts before now room calm halts stop
         overruns_calm whole homes b (stops_among lefts ≡ stops_among olds) most (seats_by b olds) (length before) room (told_long (round homes (seats_by b olds)) before now (seats_by b lefts) room (calm s) long)
 
 -- a round with stops was made
-pub step_halted : (homes : Homes) (b : Bool) (olds mids lefts news : List Kept) (before now events : List Event) → (b ≡ true → IsHalted homes olds mids lefts before now) → (b ≡ true → AreReopened homes lefts news now events)
-    → HasStop olds mids lefts before now → AreSame olds mids → AreSame lefts news → restarts_in events ≡ restarts_in now + stopped_in lefts
+pub step_halted : (homes : Homes) (b : Bool) (olds mids lefts news : List Kept) (before now events : List Event) → (b ≡ true → IsHalted homes olds mids lefts before now) → (b ≡ true → GoOnByCuts lefts news now events homes)
+    → HasStop olds mids lefts before now → AreSame olds mids → AreSame lefts news → restarts_in now + stopped_in lefts ≤ restarts_in events
     → IsStepped homes b (NoneStopped olds news before events) (more_stops olds news) (seats_by b olds) before events (seats_by b news)
 step_halted homes b olds mids lefts news before now events halts again stop first same shows =
     let left : AreSame olds lefts = same_twice olds mids lefts first (emptied_same mids lefts stop.emptied) in
-    let few : stopped_in lefts ≤ more_stops olds news =
-    let a = stops_counted olds mids lefts before now stop in let b = stops_up lefts news same in let c = emptied_stopped mids lefts stop.emptied in omega (arith, a, b, c) in
+    let few : stopped_in lefts + stops_among news ≤ more_stops olds news + stops_among lefts =
+    let a = stops_counted olds mids lefts before now stop in
+    let b = stops_up lefts news same in
+    let c = emptied_stopped mids lefts stop.emptied in
+    let d = stops_up olds lefts left in
+    omega (arith, a, b, c, d) in
     record {
       told = λ e.
           subst (λ (z : Bool). IsSteppedBy (more_stops olds news) homes (seats_by z olds) before events (seats_by z news)) (sym e)

@@ -1,5 +1,5 @@
 -- A round in which disks stop.
-use Rattle.std.proofs.Common.{ℕ, ◌≡◌, ◌+◌, ◌⊎◌, inl, inr, if◌then◌else◌, Bool, true, false, List, [], ◌∷◌, ◌++◌, Option, Some, None, refl, sym, ap, ap₂, ◌∙◌, subst, arith, map, append-nil}
+use Rattle.std.proofs.Common.{ℕ, ◌≡◌, ◌≤◌, ◌+◌, ◌⊎◌, inl, inr, Bool, true, false, List, [], ◌∷◌, ◌++◌, Option, Some, None, refl, sym, ap, ap₂, ◌∙◌, subst, arith, map, append-nil}
 use Rattle.std.specs.Prelude.{is_some}
 use Rattle.nsi_primitive.specs.declared.entry.Entry.{Entry}
 use Rattle.journal_entry.specs.Journal.{Kept as Journaled, Adds}
@@ -23,8 +23,8 @@ use Rattle.stopped_play.proofs.Counting.{cut_here, cut_else}
 use Rattle.agent_threads.specs.Nets.{seats, seats_by, numbers, seen, synced_in, EachIs, AreOf, IsOwned, AreOwned, IsAbsent, AreApart, AreSame, AreUsable, AreNet}
 use Rattle.agent_threads.specs.Made.{Stays, failure_at, first_failure}
 use Rattle.agent_threads.specs.Bounds.{Moves, MovesOn}
-use Rattle.agent_threads.specs.Stopping.{is_stopped, one_stop, stopped_in, MayGoOn, MayAllGoOn, AreHalted, AgreesWith, kept_before, kept_in, seen_before, seats_before, WasOwned, WereOwned, RestartsStopped, GoOnByCuts}
-use Rattle.agent_threads.proofs.Same.{at_home, KeepsLinks, steady_of}
+use Rattle.agent_threads.specs.Stopping.{is_stopped, one_stop, stopped_in, stops_among, MayGoOn, MayAllGoOn, AreHalted, AgreesWith, kept_before, kept_in, seen_before, seats_before, WasOwned, WereOwned, RestartsStopped}
+use Rattle.agent_threads.proofs.Same.{at_home, KeepsLinks}
 use Rattle.agent_threads.proofs.Turning.{none_both, met_round}
 use Rattle.agent_threads.proofs.Seen.{turn_seen}
 use Rattle.agent_threads.proofs.Moving.{turned_moves, halted_moves}
@@ -77,21 +77,6 @@ cut_seen h cut x y f is front g =
     ∙ (ap₂ (λ (o : Option Journaled) (s : Seat). with_past (synced_in o) s) front is
     ∙ (sym (past_halted (synced_in x.kept) h x.seat) ∙ sym (some_turn cut h (seen true x) (g ∙ ap is_stopped f))))
 
--- a cut is of one that has stopped
-pub cut_is_stop : (o : Option Cut) (f : Option TurnFault) → stops_of o ≡ one_stop f → is_some o ≡ is_stopped f
-cut_is_stop o f e = by_cases o (is_stopped f) e
-  where
-    by_cases : (o : Option Cut) (b : Bool) → stops_of o ≡ (if b then 1 else 0) → is_some o ≡ b
-    by_cases None true e = absurd (omega (arith, e))
-    by_cases None false e = refl
-    by_cases (Some c) true e = refl
-    by_cases (Some c) false e = absurd (omega (arith, e))
-
--- so there is a stop for each of them
-pub agreed_stops : (cuts : Cuts) (ks : List Kept) → AgreesWith cuts ks → cut_stops cuts (numbers (seats ks)) ≡ stopped_in ks
-agreed_stops cuts [] g = refl
-agreed_stops cuts (k ∷ ks) g = ap₂ ◌+◌ g.0 (agreed_stops cuts ks g.1)
-
 pub halts_seen : (room : ℕ) (os ns : List Kept) → EachIs (IsTurn room) os ns → MayAllGoOn ns → (t : Network) → AreOf t os → (routes : Routes) → AreRoutes t routes → AreOwned (home_in t routes) os
     → (cuts : Cuts) → AgreesWith cuts ns → seats_before ns ≡ map (turned_by cuts (home_in t routes)) (seats_by true os)
 halts_seen room [] [] e u t o routes r w cuts g = refl
@@ -103,7 +88,7 @@ halts_seen room (k ∷ ks) (n ∷ ns) e u t o routes r w cuts g = ap₂ ◌∷�
     h = home_in t routes k.seat.number
 
     agrees : is_some (cuts k.seat.number) ≡ is_stopped n.fault
-    agrees = subst (λ (m : ℕ). is_some (cuts m) ≡ is_stopped n.fault) e.0.same.number (cut_is_stop (cuts n.seat.number) n.fault g.0)
+    agrees = subst (λ (m : ℕ). is_some (cuts m) ≡ is_stopped n.fault) e.0.same.number g.0
 
     by_fault : MayGoOn n → seen_before n ≡ turned_or (cuts k.seat.number) h (seen true k)
     by_fault (inl f) =
@@ -120,11 +105,16 @@ halts_links room (o ∷ os) [] e u = absurd e
 halts_links room (o ∷ os) (n ∷ ns) e u = (by_fault u.0, halts_links room os ns e.1 u.1)
   where
     by_fault : MayGoOn n → KeepsLinks o n
-    by_fault (inl f) = record { same = steady_of o n e.0.same (e.0.cause.quiet f) (e.0.cause.calm f); plugs = e.0.plugs }
+    by_fault (inl f) =
+        let still = e.0.cause.calm f in
+        record {
+          same = record { network = e.0.same.network; number = e.0.same.number; others = e.0.same.others; faults = e.0.cause.quiet f; stops = omega (arith, still); planned = e.0.cause.planned };
+          plugs = e.0.plugs;
+        }
     by_fault (inr f) =
         let more = e.0.cause.stopped f in
         record {
-          same = record { network = e.0.same.network; number = e.0.same.number; others = e.0.same.others; faults = e.0.cause.spares f; stops = omega (arith, more) };
+          same = record { network = e.0.same.network; number = e.0.same.number; others = e.0.same.others; faults = e.0.cause.spares f; stops = omega (arith, more); planned = e.0.cause.planned };
           plugs = e.0.plugs;
         }
 
@@ -234,7 +224,7 @@ agrees_met cuts [] [] e g = tt
 agrees_met cuts [] (y ∷ ys) e g = absurd e
 agrees_met cuts (x ∷ xs) [] e g = absurd e
 agrees_met cuts (x ∷ xs) (y ∷ ys) e g = (
-  ap (λ (n : ℕ). stops_of (cuts n)) (sym e.0.same.number) ∙ (g.0 ∙ ap one_stop e.0.fault),
+  ap (λ (n : ℕ). is_some (cuts n)) (sym e.0.same.number) ∙ (g.0 ∙ ap is_stopped e.0.fault),
   agrees_met cuts xs ys e.1 g.1,
 )
 
@@ -282,7 +272,7 @@ calm_turned homes cuts (x ∷ xs) [] s u g = absurd s
 calm_turned homes cuts (x ∷ xs) (y ∷ ys) s u g = ap₂ ◌∷◌ (sym (ap (λ (o : Option Cut). turned_or o (homes x.seat.number) (seen true x)) none)) (calm_turned homes cuts xs ys s.1 u.1 g.1)
   where
     none : cuts x.seat.number ≡ None
-    none = none_of (cuts x.seat.number) (subst (λ (m : ℕ). is_some (cuts m) ≡ is_stopped y.fault) s.0.number (cut_is_stop (cuts y.seat.number) y.fault g.0) ∙ ap is_stopped u.0)
+    none = none_of (cuts x.seat.number) (subst (λ (m : ℕ). is_some (cuts m) ≡ is_stopped y.fault) s.0.number g.0 ∙ ap is_stopped u.0)
 
 calm_seats : (ks : List Kept) → AreUsable ks → seats_before ks ≡ seats_by true ks
 calm_seats [] u = refl
@@ -300,9 +290,9 @@ abbrev cut_by : (keeps : Bool) → List Entry → Option (List Entry) → Option
 cut_by true batch past = adds batch past
 cut_by false batch past = past
 
--- what was read: the synced entries, or these with the batch
-abbrev pub cut_as : (keeps : Bool) → Cut
-cut_as keeps = record { keeps = keeps; again = 0 }
+-- what was read, behind so many tries: the synced entries, or these with the batch
+abbrev pub cut_as : (keeps : Bool) → (tries : ℕ) → Cut
+cut_as keeps tries = record { keeps = keeps; again = tries }
 
 is_kept : (j : Journaled) (batch : List Entry) (o : Option Journaled) (es : List Entry) → o ≡ Some j → AreEither batch o es → (keeps : Bool) × (Some es ≡ cut_by keeps batch (Some j.synced))
 is_kept j batch o es e p = by_case (subst (λ (z : Option Journaled). AreEither batch z es) e p)
@@ -311,21 +301,21 @@ is_kept j batch o es e p = by_case (subst (λ (z : Option Journaled). AreEither 
     by_case (inl q) = (false, ap (λ (xs : List Entry). Some xs) q)
     by_case (inr q) = (true, ap (λ (xs : List Entry). Some xs) q)
 
-read_with : (h : Home) (es : List Entry) (p : List Entry) (s : Seat) → reads h 0 es (with_past (Some p) s) ≡ with_past (Some es) (reads h 0 es s)
+read_with : (h : Home) (tries : ℕ) (es : List Entry) (p : List Entry) (s : Seat) → reads h tries es (with_past (Some p) s) ≡ with_past (Some es) (reads h tries es s)
 unfolding reads
-read_with h es p s = refl
+read_with h tries es p s = refl
 
 -- an agent whose disk had stopped has read what the cut leaves, where it is told
-pub one_reopened : (h : Home) (x y : Kept) (j : Journaled) → kept_in x ≡ Some j → x.fault ≡ Some TurnFault.Stopped → (r : IsReopened x y) → y.seat ≡ reads h 0 r.entries x.seat
-    → (keeps : Bool) × (seen true y ≡ reopened (Some (cut_as keeps)) h (seen_before x))
+pub one_reopened : (h : Home) (x y : Kept) (j : Journaled) → kept_in x ≡ Some j → x.fault ≡ Some TurnFault.Stopped → (r : IsReopened x y) → y.seat ≡ reads h r.tries r.entries x.seat
+    → (keeps : Bool) × (seen true y ≡ reopened (Some (cut_as keeps r.tries)) h (seen_before x))
 one_reopened h x y j e f r is =
     let front : first_kept x.seat.synced x.kept ≡ Some j = sym (ap (λ (z : Option TurnFault). kept_before z x.seat.synced x.kept) f) ∙ e in
     let k = is_kept j x.seat.fresh (first_kept x.seat.synced x.kept) r.entries front r.read in
     let kept : y.kept ≡ Some (record { synced = r.entries; waiting = [] }) = told_kept x.seat.synced x.kept j front r.entries y.kept r.kept in (
       k.0,
       ap₂ (λ (o : Option Journaled) (s : Seat). with_past (synced_in o) s) kept is
-          ∙ (sym (read_with h r.entries j.synced x.seat)
-          ∙ (ap (λ (o : Option (List Entry)). reads_past o h 0 (with_past (Some j.synced) x.seat)) k.1
+          ∙ (sym (read_with h r.tries r.entries j.synced x.seat)
+          ∙ (ap (λ (o : Option (List Entry)). reads_past o h r.tries (with_past (Some j.synced) x.seat)) k.1
           ∙ by_keeps k.0)),
     )
   where
@@ -333,22 +323,28 @@ one_reopened h x y j e f r is =
     told_kept n None j p es new q = absurd (cc)
     told_kept n (Some k) j p es new q = q
 
-    by_keeps : (b : Bool) → reads_past (cut_by b x.seat.fresh (Some j.synced)) h 0 (with_past (Some j.synced) x.seat) ≡ reopened (Some (cut_as b)) h (seen_before x)
-    by_keeps true = ap (λ (o : Option Journaled). reads_past (adds x.seat.fresh (synced_in o)) h 0 (with_past (synced_in o) x.seat)) (sym e)
-    by_keeps false = ap (λ (o : Option Journaled). reads_past (synced_in o) h 0 (with_past (synced_in o) x.seat)) (sym e)
+    by_keeps : (b : Bool) → reads_past (cut_by b x.seat.fresh (Some j.synced)) h r.tries (with_past (Some j.synced) x.seat) ≡ reopened (Some (cut_as b r.tries)) h (seen_before x)
+    by_keeps true = ap (λ (o : Option Journaled). reads_past (adds x.seat.fresh (synced_in o)) h r.tries (with_past (synced_in o) x.seat)) (sym e)
+    by_keeps false = ap (λ (o : Option Journaled). reads_past (synced_in o) h r.tries (with_past (synced_in o) x.seat)) (sym e)
 
 ---- Each by a cut of its own
 
 -- what is seen of them is made by these cuts, which are of those that had stopped
-record ByCuts (homes : Homes) (olds news : List Kept) : Type 0 where
-  cuts : List (ℕ × Cut)
-  agrees : AgreesWith (cuts_of cuts) olds
-  only : (a : ℕ) → IsAbsent a (numbers (seats olds)) → cuts_of cuts a ≡ None
-  is : seats_by true news ≡ reopens (cuts_of cuts) homes (seats_before olds)
+pub record ByCuts (homes : Homes) (olds news : List Kept) : Type 0 where
+  pub cuts : List (ℕ × Cut)
+  pub agrees : AgreesWith (cuts_of cuts) olds
+  pub only : (a : ℕ) → IsAbsent a (numbers (seats olds)) → cuts_of cuts a ≡ None
+  pub few : cut_stops (cuts_of cuts) (numbers (seats olds)) + stops_among olds ≤ stopped_in olds + stops_among news
+  pub is : seats_by true news ≡ reopens (cuts_of cuts) homes (seats_before olds)
 
 pub agrees_else : (x : ℕ × Cut) (cs : List (ℕ × Cut)) (ks : List Kept) → IsAbsent x.0 (numbers (seats ks)) → AgreesWith (cuts_of cs) ks → AgreesWith (cuts_of (x ∷ cs)) ks
 agrees_else x cs [] n g = tt
-agrees_else x cs (k ∷ ks) n g = (ap stops_of (cut_else x cs k.seat.number (λ e. n.0 (sym e))) ∙ g.0, agrees_else x cs ks n.1 g.1)
+agrees_else x cs (k ∷ ks) n g = (ap is_some (cut_else x cs k.seat.number (λ e. n.0 (sym e))) ∙ g.0, agrees_else x cs ks n.1 g.1)
+
+-- a cut of another one counts no stop of these
+pub stops_else : (x : ℕ × Cut) (cs : List (ℕ × Cut)) (ks : List Kept) → IsAbsent x.0 (numbers (seats ks)) → cut_stops (cuts_of (x ∷ cs)) (numbers (seats ks)) ≡ cut_stops (cuts_of cs) (numbers (seats ks))
+stops_else x cs [] n = refl
+stops_else x cs (k ∷ ks) n = ap₂ ◌+◌ (ap stops_of (cut_else x cs k.seat.number (λ e. n.0 (sym e)))) (stops_else x cs ks n.1)
 
 reopens_none : (cuts : Cuts) (homes : Homes) → [] ≡ reopens cuts homes []
 unfolding reopens
@@ -365,7 +361,7 @@ reopens_else x cs homes (k ∷ ks) n =
     ap₂ ◌∷◌ (ap (λ (o : Option Cut). reopened o (homes k.seat.number) (seen_before k)) (cut_else x cs k.seat.number (λ e. n.0 (sym e)))) (reopens_else x cs homes ks n.1)
 
 restarts_cut : (xs ys : List Kept) → EachIs RestartsStopped xs ys → MayAllGoOn xs → AreApart (seats xs) → (t : Network) → AreOf t xs → (routes : Routes) → AreRoutes t routes → WereOwned (home_in t routes) xs → ByCuts (home_in t routes) xs ys
-restarts_cut [] [] p u apart t o routes r w = record { cuts = []; agrees = tt; only = λ a n. refl; is = reopens_none (cuts_of []) (home_in t routes) }
+restarts_cut [] [] p u apart t o routes r w = record { cuts = []; agrees = tt; only = λ a n. refl; few = omega arith; is = reopens_none (cuts_of []) (home_in t routes) }
 restarts_cut [] (y ∷ ys) p u apart t o routes r w = absurd p
 restarts_cut (x ∷ xs) [] p u apart t o routes r w = absurd p
 restarts_cut (x ∷ xs) (y ∷ ys) p u apart t o routes r w = by_fault u.0 (restarts_cut xs ys p.1 u.1 apart.1.1 t o.1 routes r w.1)
@@ -382,8 +378,9 @@ restarts_cut (x ∷ xs) (y ∷ ys) p u apart t o routes r w = by_fault u.0 (rest
         let same : y ≡ x = p.0.there (usable_not_stopped x.fault f) in
         record {
           cuts = rest.cuts;
-          agrees = (ap stops_of none ∙ sym (ap one_stop f), rest.agrees);
+          agrees = (ap is_some none ∙ sym (ap is_stopped f), rest.agrees);
           only = λ a n. rest.only a n.1;
+          few = let a = rest.few in omega (arith, a, ap stops_of none, ap one_stop f, ap (λ (k : Kept). k.meter.stops) same);
           is = ap₂ ◌∷◌
               (ap (seen true) same
               ∙ (sym (ap (λ (z : Option TurnFault). with_past (synced_in (kept_before z x.seat.synced x.kept)) x.seat) f) ∙ sym (ap (λ (c : Option Cut). reopened c h (seen_before x)) none)))
@@ -392,34 +389,33 @@ restarts_cut (x ∷ xs) (y ∷ ys) p u apart t o routes r w = by_fault u.0 (rest
         }
     by_fault (inr f) rest =
         let again : IsReopened x y = (p.0.here f).reopened in
-        let is : y.seat ≡ reads h 0 again.entries x.seat = at_home t x (λ z. y.seat ≡ reads z 0 again.entries x.seat) o.0 again.seat routes r in
+        let is : y.seat ≡ reads h again.tries again.entries x.seat = at_home t x (λ z. y.seat ≡ reads z again.tries again.entries x.seat) o.0 again.seat routes r in
         let k = one_reopened h x y w.0.0 w.0.1 f again is in
-        let c : ℕ × Cut = (x.seat.number, cut_as k.0) in
+        let c : ℕ × Cut = (x.seat.number, cut_as k.0 again.tries) in
         record {
           cuts = c ∷ rest.cuts;
-          agrees = (ap stops_of (cut_here c rest.cuts) ∙ sym (ap one_stop f), agrees_else c rest.cuts xs apart.0 rest.agrees);
+          agrees = (ap is_some (cut_here c rest.cuts) ∙ sym (ap is_stopped f), agrees_else c rest.cuts xs apart.0 rest.agrees);
           only = λ a n. cut_else c rest.cuts a n.0 ∙ rest.only a n.1;
+          few = let a = rest.few in let b = again.counts.stops in omega (arith, a, b, ap stops_of (cut_here c rest.cuts), ap one_stop f, stops_else c rest.cuts xs apart.0);
           is = ap₂ ◌∷◌ (k.1 ∙ sym (ap (λ (z : Option Cut). reopened z h (seen_before x)) (cut_here c rest.cuts))) (rest.is ∙ sym (reopens_else c rest.cuts homes xs apart.0))
               ∙ sym (reopens_cons (cuts_of (c ∷ rest.cuts)) homes (seen_before x) (seats_before xs));
         }
 
 -- they go on by some cuts, which are of those that had stopped
-pub restarts_by_cuts : (xs ys : List Kept) → EachIs RestartsStopped xs ys → AreHalted xs → (t : Network) → AreOf t xs → (routes : Routes) → AreRoutes t routes → WereOwned (home_in t routes) xs → GoOnByCuts xs ys (home_in t routes)
-restarts_by_cuts xs ys p u t o routes r w =
-    let b = restarts_cut xs ys p u.going u.apart t o routes r w in
-    (cuts_of b.cuts, b.agrees, b.is)
+pub restarts_by_cuts : (xs ys : List Kept) → EachIs RestartsStopped xs ys → AreHalted xs → (t : Network) → AreOf t xs → (routes : Routes) → AreRoutes t routes → WereOwned (home_in t routes) xs → ByCuts (home_in t routes) xs ys
+restarts_by_cuts xs ys p u t o routes r w = restarts_cut xs ys p u.going u.apart t o routes r w
 
 ---- Their journals tell it again
 
-reopened_owned : (homes : Homes) (x y : Kept) (j : Journaled) → kept_in x ≡ Some j → x.fault ≡ Some TurnFault.Stopped → (r : IsReopened x y) → y.seat ≡ reads (homes x.seat.number) 0 r.entries x.seat → IsOwned homes y
+reopened_owned : (homes : Homes) (x y : Kept) (j : Journaled) → kept_in x ≡ Some j → x.fault ≡ Some TurnFault.Stopped → (r : IsReopened x y) → y.seat ≡ reads (homes x.seat.number) r.tries r.entries x.seat → IsOwned homes y
 reopened_owned homes x y j e f r is =
     let h : Home = homes x.seat.number in
     let es : List Entry = r.entries in (
       record { synced = es; waiting = [] },
       kept_told x.kept (sym (ap (λ (z : Option TurnFault). kept_before z x.seat.synced x.kept) f) ∙ e) r.kept,
       ap (λ (m : ℕ). (told (homes m) (es ++ y.seat.fresh)).state) r.same.number
-          ∙ (ap (λ (fs : List Entry). (told h (es ++ fs)).state) (ap (λ (s : Seat). s.fresh) is ∙ read_fresh h es x.seat)
-          ∙ (ap (λ (zs : List Entry). (told h zs).state) (append-nil es) ∙ sym (ap (λ (s : Seat). s.state) is ∙ read_state h es x.seat))),
+          ∙ (ap (λ (fs : List Entry). (told h (es ++ fs)).state) (ap (λ (s : Seat). s.fresh) is ∙ read_fresh h r.tries es x.seat)
+          ∙ (ap (λ (zs : List Entry). (told h zs).state) (append-nil es) ∙ sym (ap (λ (s : Seat). s.state) is ∙ read_state h r.tries es x.seat))),
     )
   where
     kept_told : (o : Option Journaled) → first_kept x.seat.synced o ≡ Some j → KeepsRead r.entries o y.kept → y.kept ≡ Some (record { synced = r.entries; waiting = [] })
@@ -441,4 +437,4 @@ restarts_owned_again (x ∷ xs) (y ∷ ys) p u t o routes r w = (by_fault u.0, r
         subst (λ (k : Kept). IsOwned homes k) (sym same) (w.0.0, sym (ap (λ (z : Option TurnFault). kept_before z x.seat.synced x.kept) f) ∙ w.0.1, w.0.2)
     by_fault (inr f) =
         let again : IsReopened x y = (p.0.here f).reopened in
-        reopened_owned homes x y w.0.0 w.0.1 f again (at_home t x (λ z. y.seat ≡ reads z 0 again.entries x.seat) o.0 again.seat routes r)
+        reopened_owned homes x y w.0.0 w.0.1 f again (at_home t x (λ z. y.seat ≡ reads z again.tries again.entries x.seat) o.0 again.seat routes r)

@@ -1,5 +1,5 @@
 -- What has been written.
-use Rattle.std.proofs.Common.{Bool, ℕ, zero, suc, ◌+◌, ◌<◌, ◌≡◌, ◌⊎◌, List, [], ◌∷◌, ◌++◌, inl, Option, Some, None, Result, Ok, Err, IfSome, refl, sym, ap, ◌∙◌, subst, arith, length, length-append, ◌≤◌, take, drop, append_assoc, append-nil, get_or}
+use Rattle.std.proofs.Common.{Bool, ℕ, zero, suc, ◌+◌, ◌<◌, ◌≡◌, ◌⊎◌, List, [], ◌∷◌, ◌++◌, inl, Option, Some, None, Result, Ok, Err, IfSome, refl, sym, ap, ◌∙◌, subst, arith, length, length-append, ◌≤◌, take, drop, append_assoc, append-nil, get_or, ◌-◌}
 use Rattle.std.specs.Result.{OnErr}
 use Rattle.std.proofs.Math.Seq.{take-append-add}
 use Rattle.std.proofs.lemmas.List.{take_all, take_more, drop_more, take-append-drop}
@@ -13,7 +13,7 @@ use Rattle.agent_node.specs.Kept.{Kept}
 use Rattle.nsi_play.specs.Rounds.{Net, Homes}
 use Rattle.nsi_play.specs.Play.{asks_among}
 use Rattle.agent_threads.specs.Nets.{seats_by, numbers, AreSame}
-use Rattle.agent_threads.specs.Stopping.{ShelfCounts, more_stops, NoneCounted, NoneStopped, ArePlayed, IsOver, Passes, PlayPasses}
+use Rattle.agent_threads.specs.Stopping.{ShelfCounts, more_stops, NoneCounted, NoneStopped, ArePlayed, IsOver, Passes, PlayPasses, stops_among}
 use Rattle.agent_threads.specs.Made.{AreLeft}
 use Rattle.nsi_disk.specs.ShelfCounts.{Raised}
 use Rattle.run_totals.specs.Totals.{plus, totals_of}
@@ -135,7 +135,7 @@ front_of_play t script i starts nows lasts before mid after events next options 
     subst (λ (n : ℕ). Raised n left.by after.stops) still left.raised,
     λ u o routes r b q shows. (
       seats_by b nows,
-      all_played _ b (NoneStopped starts nows [] events) (NoneCounted starts lasts before after ⊎ NoRestart events) (more_stops starts nows) (left.by + more_stops starts lasts)
+      all_played _ b (NoneStopped starts nows [] events) (NoneCounted starts lasts before after ⊎ NoRestart events) (more_stops starts nows) ((left.by + stops_among lasts) - stops_among starts)
           (none_by starts nows events (none_counted starts nows lasts before mid after same still left)) (let up = left.stops in omega (arith, up)) (take i script) (seats_by b starts) events next (seats_by b nows) (p u o routes r b q shows),
     ),
   ),
@@ -167,7 +167,7 @@ some_of_play t script i d starts nows lasts before mid after events own next opt
         inl (omega (arith, still_then)),
         λ u o routes r b seen shows. (
           seats_by b lasts,
-          all_played _ b Later Later most (0 + most) (λ none. none) (omega arith) (take (i + 1) script) (seats_by b starts) all (next + asks_among (get_or script i d).acts) (seats_by b lasts)
+          all_played _ b Later Later most ((0 + stops_among lasts) - stops_among starts) (λ none. none) (omega arith) (take (i + 1) script) (seats_by b starts) all (next + asks_among (get_or script i d).acts) (seats_by b lasts)
               (group_more _ b (NoneStopped starts nows [] events) (NoneStopped nows lasts [] own) Later (more_stops starts nows) (more_stops nows lasts) most none (omega (arith, a, c)) script i d (seats_by b starts) events next (seats_by b nows) own (seats_by b lasts) h
               (numbers_by b starts nows s) (p u o routes r b seen shows) (over u (still_of u starts nows s o) routes r b (still_seen u starts nows stay o routes r b seen) (shows_at b script i d h shows))),
         ),

@@ -12,14 +12,14 @@ use Rattle.agent_node.specs.declared.fault.TurnFault.{TurnFault}
 use Rattle.agent_node.specs.Seat.{Seat, entered, enters, enters_if, enters_now, now_at}
 use Rattle.agent_node.specs.Turns.{lying, cleared, takes, takes_all, works_off, work_then, worked, sync_event, syncs_if, turn_with, turned}
 use Rattle.agent_node.specs.Meetings.{met}
-use Rattle.agent_node.specs.Kept.{Kept, IsSameAgent}
+use Rattle.agent_node.specs.Kept.{Kept}
 use Rattle.agent_node.specs.Made.{IsTurn}
 use Rattle.nsi_disk.specs.Disk.{Meter}
 use Rattle.agent_node.proofs.Pasts.{past_turned}
 use Rattle.nsi_play.specs.Rounds.{Net, Homes, events_of, turned_in, turned_all, meets_each, meets_all, met_all, round}
 use Rattle.agent_threads.specs.declared.fault.RoundFault.{RoundFault}
-use Rattle.agent_threads.specs.Nets.{seats_by, seen, synced_in, EachIs, AtHomes, AreUsable}
-use Rattle.agent_threads.specs.Made.{HasRoom, HaveRoom, or_else, failure_at, stop_at, first_failure, first_stop, fault_of, answer, HasRisen, Stays}
+use Rattle.agent_threads.specs.Nets.{seats_by, seen, synced_in, EachIs, IsAsPlanned, AtHomes, AreUsable}
+use Rattle.agent_threads.specs.Made.{HasRoom, HaveRoom, or_else, failure_at, stop_at, first_failure, first_stop, fault_of, answer, HasRisen, faults_in, stops_in, Stays}
 use Rattle.agent_threads.specs.Stopping.{IsStop}
 use Rattle.agent_threads.proofs.Places.{each_map}
 use Rattle.agent_threads.proofs.Same.{at_home}
@@ -85,12 +85,12 @@ events_grow homes (s ∷ ss) = omega (arith, events_cons s ss, events_cons (turn
 
 ---- Turns
 
-turn_agent : (room : ℕ) (a b : Kept) → IsTurn room a b → IsSameAgent a b
-turn_agent room a b t = t.same
+turn_agent : (room : ℕ) (a b : Kept) → IsTurn room a b → IsAsPlanned a b
+turn_agent room a b t = record { same = t.same; planned = t.cause.planned }
 
 -- also where some turns failed
-pub turns_agents : (room : ℕ) (os ns : List Kept) → EachIs (IsTurn room) os ns → EachIs IsSameAgent os ns
-turns_agents room os ns e = each_map (IsTurn room) IsSameAgent os ns (turn_agent room) e
+pub turns_agents : (room : ℕ) (os ns : List Kept) → EachIs (IsTurn room) os ns → EachIs IsAsPlanned os ns
+turns_agents room os ns e = each_map (IsTurn room) IsAsPlanned os ns (turn_agent room) e
 
 ---- The fault of a round
 
@@ -208,7 +208,7 @@ turns_long room (o ∷ os) (n ∷ ns) e f t p routes r z w =
     omega arith)
     (one_of (failure_at n.seat.number n.fault) (first_failure ns) RoundFault.Long f)
 
-pub turns_disk : (room a : ℕ) (os ns : List Kept) → EachIs (IsTurn room) os ns → first_failure ns ≡ Some (RoundFault.DiskFault a) → HasRisen a os ns
+pub turns_disk : (room a : ℕ) (os ns : List Kept) → EachIs (IsTurn room) os ns → first_failure ns ≡ Some (RoundFault.DiskFault a) → HasRisen faults_in a os ns
 unfolding first_failure
 turns_disk room a [] [] e f = absurd (cc)
 turns_disk room a [] (n ∷ ns) e f = absurd e
@@ -216,12 +216,11 @@ turns_disk room a (o ∷ os) [] e f = absurd e
 turns_disk room a (o ∷ os) (n ∷ ns) e f = ⊎_elim
     (λ q.
     let p = is_disk n.seat.number a n.fault q in
-    let x = e.0.cause.failed p.0 in
-    inl (p.1, omega (arith, x, e.0.cause.stops)))
+    inl (p.1, e.0.cause.failed p.0))
     (λ q. inr (turns_disk room a os ns e.1 q))
     (one_of (failure_at n.seat.number n.fault) (first_failure ns) (RoundFault.DiskFault a) f)
 
-pub turns_stopped : (room a : ℕ) (os ns : List Kept) → EachIs (IsTurn room) os ns → first_stop ns ≡ Some (RoundFault.Stopped a) → HasRisen a os ns
+pub turns_stopped : (room a : ℕ) (os ns : List Kept) → EachIs (IsTurn room) os ns → first_stop ns ≡ Some (RoundFault.Stopped a) → HasRisen stops_in a os ns
 unfolding first_stop
 turns_stopped room a [] [] e f = absurd (cc)
 turns_stopped room a [] (n ∷ ns) e f = absurd e
@@ -229,8 +228,7 @@ turns_stopped room a (o ∷ os) [] e f = absurd e
 turns_stopped room a (o ∷ os) (n ∷ ns) e f = ⊎_elim
     (λ q.
     let p = is_stop n.seat.number a n.fault q in
-    let x = e.0.cause.stopped p.0 in
-    inl (p.1, omega (arith, x, e.0.cause.faults)))
+    inl (p.1, e.0.cause.stopped p.0))
     (λ q. inr (turns_stopped room a os ns e.1 q))
     (one_of (stop_at n.seat.number n.fault) (first_stop ns) (RoundFault.Stopped a) f)
 
@@ -261,12 +259,12 @@ stops_met [] (y ∷ ys) e = absurd e
 stops_met (x ∷ xs) [] e = absurd e
 stops_met (x ∷ xs) (y ∷ ys) e = ap₂ or_else (ap₂ stop_at e.0.same.number e.0.fault) (stops_met xs ys e.1)
 
-pub risen_met : (a : ℕ) (os xs ys : List Kept) → EachIs Stays xs ys → HasRisen a os xs → HasRisen a os ys
-risen_met a [] xs ys e h = absurd h
-risen_met a (o ∷ os) [] ys e h = absurd h
-risen_met a (o ∷ os) (x ∷ xs) [] e h = absurd e
-risen_met a (o ∷ os) (x ∷ xs) (y ∷ ys) e (inl p) = inl (e.0.same.number ∙ p.0, subst (λ (m : Meter). o.meter.faults + o.meter.stops < m.faults + m.stops) (sym e.0.journal.meter) p.1)
-risen_met a (o ∷ os) (x ∷ xs) (y ∷ ys) e (inr q) = inr (risen_met a os xs ys e.1 q)
+pub risen_met : (count : Meter → ℕ) (a : ℕ) (os xs ys : List Kept) → EachIs Stays xs ys → HasRisen count a os xs → HasRisen count a os ys
+risen_met count a [] xs ys e h = absurd h
+risen_met count a (o ∷ os) [] ys e h = absurd h
+risen_met count a (o ∷ os) (x ∷ xs) [] e h = absurd e
+risen_met count a (o ∷ os) (x ∷ xs) (y ∷ ys) e (inl p) = inl (e.0.same.number ∙ p.0, subst (λ (m : Meter). count o.meter < count m) (sym e.0.journal.meter) p.1)
+risen_met count a (o ∷ os) (x ∷ xs) (y ∷ ys) e (inr q) = inr (risen_met count a os xs ys e.1 q)
 
 ---- The fault that is answered
 

@@ -11,6 +11,7 @@ use Rattle.agent_node.specs.declared.reopen.ReopenFault.{ReopenFault}
 use Rattle.disk_journal.specs.declared.opening.StartCause.{StartCause}
 use Rattle.nsi_disk.specs.ShelfCounts.{Raised, RaisedFrom}
 use Rattle.nsi_disk.specs.declared.shelf.ShelfError.{ShelfError}
+use Rattle.nsi_disk.specs.Disk.{Meter}
 use Rattle.agent_node.specs.Meetings.{met}
 use Rattle.agent_node.specs.Kept.{Kept, IsSameAgent, HasSameJournal}
 use Rattle.agent_node.specs.Made.{AtHome}
@@ -18,8 +19,8 @@ use Rattle.nsi_primitive.specs.declared.ask.Ask.{Ask}
 use Rattle.nsi_script.specs.declared.script.Act.{Act}
 use Rattle.nsi_play.specs.Play.{changes}
 use Rattle.nsi_play.specs.Rounds.{tells}
-use Rattle.agent_threads.specs.Nets.{seats, numbers, IsOneOf, AreAmong, IsUnstopped}
-use Rattle.agent_threads.specs.Stopping.{WasOwned, AtOwned, AtOwnedBefore, stops_among, NoneCounted}
+use Rattle.agent_threads.specs.Nets.{seats, numbers, IsOneOf, AreAmong, HasAsMany}
+use Rattle.agent_threads.specs.Stopping.{WasOwned, AtOwned, AtOwnedBefore, stops_among, planned_among, NoneCounted}
 pub use Rattle.agent_threads.specs.Stopping.{ShelfCounts, counted}
 use Rattle.agent_threads.specs.Promise.{AtShown}
 use Rattle.agent_threads.specs.Bounds.{MovesOn}
@@ -116,23 +117,22 @@ abbrev pub answer : Option RoundFault → Result (Unit {0}) RoundFault
 answer None = Ok tt
 answer (Some e) = Err e
 
--- a round has failed as a turn of the agent with that number: a count of its disk rose
-abbrev pub HasRisen : ℕ → List Kept → List Kept → Type 0
-HasRisen a [] ns = ⊥
-HasRisen a (o ∷ os) [] = ⊥
-HasRisen a (o ∷ os) (n ∷ ns) = ((n.seat.number ≡ a) × (o.meter.faults + o.meter.stops < n.meter.faults + n.meter.stops)) ⊎ HasRisen a os ns
+-- a round has failed as a turn of the agent with that number: this count of its disk rose
+abbrev pub HasRisen : (Meter → ℕ) → ℕ → List Kept → List Kept → Type 0
+HasRisen count a [] ns = ⊥
+HasRisen count a (o ∷ os) [] = ⊥
+HasRisen count a (o ∷ os) (n ∷ ns) = ((n.seat.number ≡ a) × (count o.meter < count n.meter)) ⊎ HasRisen count a os ns
 
--- a disk of the agent with that number has failed or stopped
+abbrev pub faults_in : Meter → ℕ
+faults_in m = m.faults
+
+abbrev pub stops_in : Meter → ℕ
+stops_in m = m.stops
+
+-- calls of the disk of the agent with that number have failed
 abbrev pub HasFailed : ℕ → List Kept → Type 0
 HasFailed a [] = ⊥
-HasFailed a (k ∷ ks) = ((k.seat.number ≡ a) × (0 < k.meter.faults + k.meter.stops)) ⊎ HasFailed a ks
-
--- why a round has failed
-abbrev pub HasCause : RoundFault → List Kept → Type 0
-HasCause RoundFault.Long ks = Unit {0}
-HasCause (RoundFault.DiskFault a) ks = HasFailed a ks
-HasCause (RoundFault.Stopped a) ks = HasFailed a ks
-HasCause RoundFault.NoMemory ks = Unit {0}
+HasFailed a (k ∷ ks) = ((k.seat.number ≡ a) × (0 < k.meter.faults)) ⊎ HasFailed a ks
 
 ---- Runs
 
@@ -145,9 +145,9 @@ reopen_fault a (ReopenFault.GivenBack StartCause.NoMemory) = RunFault.NoMemory
 reopen_fault a (ReopenFault.Lost ShelfError.Failed) = RunFault.DiskFault a
 reopen_fault a (ReopenFault.Lost ShelfError.NoMemory) = RunFault.NoMemory
 
--- a count rose, as far as its type reaches
+-- the count of faults rose, as far as its type reaches
 abbrev pub HaveRisen : ShelfCounts → ShelfCounts → Type 0
-HaveRisen old new = HasCountRisen old.faults new.faults ⊎ HasCountRisen old.stops new.stops
+HaveRisen old new = HasCountRisen old.faults new.faults
 
 -- the counts don't fall, and rise only where a call fails
 pub record KeepsShelf {T : Type 0} (old new : ShelfCounts) (result : Result T RunFault) : Type 0 where
@@ -164,7 +164,7 @@ AreUntold acts ks = AtShown ks acts (λ homes tells. ⊥)
 abbrev pub IsUntold : Kept → Type 0
 IsUntold k = (routes : Routes) → AreRoutes k.network routes → WasOwned (home_in k.network routes) k → ⊥
 
--- why an agent wasn't restarted: a count of where its disk went rose, or its journal has no reading, and doesn't tell what made the agent
+-- why an agent wasn't restarted: a call has failed where its disk went, or its journal has no reading, and doesn't tell what made the agent
 abbrev pub HasRestartCause : Kept → (before after : ShelfCounts) → RunFault → Type 0
 HasRestartCause k before after (RunFault.DiskFault a) = (a ≡ k.seat.number) × HaveRisen before after
 HasRestartCause k before after (RunFault.NotAJournal a place) = (a ≡ k.seat.number) × IsUntold k
@@ -183,23 +183,25 @@ PutsBack R old before after = (new : Kept) × (after ≡ before ++ new ∷ []) �
 
 -- the others are left, and its stops are counted where its disk went; or it stands behind them
 abbrev pub LosesOne : Kept → (before after : List Kept) → (c d : ShelfCounts) → Type 0
-LosesOne old before after c d = ((after ≡ before) × RaisedFrom c.stops old.meter.stops d.stops) ⊎ (PutsBack IsUnstopped old before after × (d.stops ≡ c.stops))
+LosesOne old before after c d = ((after ≡ before) × RaisedFrom c.stops old.meter.stops d.stops) ⊎ (PutsBack HasAsMany old before after × (d.stops ≡ c.stops))
 
--- These are left of those agents. No stop that was counted at one is lost: it is counted at these, or where their disks went.
+-- These are left of those agents, and no more stops are planned for their disks. No stop that was counted at one is lost: it is counted at
+-- these, or where their disks went.
 pub record AreLeft (olds news : List Kept) (before after : ShelfCounts) : Type 0 where
   pub among : AreAmong olds news
   pub by : ℕ
   pub raised : Raised before.stops by after.stops
   pub stops : stops_among olds ≤ by + stops_among news
+  pub planned : planned_among news ≤ planned_among olds
 
--- Why acts of these agents have failed, which are those then: a disk of one of them has failed or stopped, or where it went when it was read
+-- Why acts of these agents have failed, which are those then: a disk of one of them has failed, or where it went when it was read
 -- again; a journal has no reading, and the acts aren't shown.
 abbrev pub HasRunCause : List Act → (olds news : List Kept) → (before after : ShelfCounts) → RunFault → Type 0
 HasRunCause acts olds news before after (RunFault.DiskFault a) = HasFailed a news ⊎ (IsOneOf a (numbers (seats olds)) × HaveRisen before after)
 HasRunCause acts olds news before after (RunFault.NotAJournal a place) = IsOneOf a (numbers (seats olds)) × AreUntold acts olds
 HasRunCause acts olds news before after _ = Unit {0}
 
--- Why those whose disks had stopped don't go on: a disk has failed or stopped where it went, or a journal has no reading, and they didn't all
+-- Why those whose disks had stopped don't go on: a disk has failed where it went, or a journal has no reading, and they didn't all
 -- tell what made them.
 abbrev pub HasGoOnCause : (olds : List Kept) → (before after : ShelfCounts) → RunFault → Type 0
 HasGoOnCause olds before after (RunFault.DiskFault a) = IsOneOf a (numbers (seats olds)) × HaveRisen before after
@@ -226,7 +228,7 @@ pub record HasUnread (acts : List Act) (olds news : List Kept) (before after : S
   pub untold : AtOwned olds (λ homes. ⊥)
   pub restarted : NoneCounted olds news before after → AreUntold acts olds
 
--- Why these acts and rounds have failed: a disk has failed, or has failed or stopped where it went when it was read again; a journal has no
+-- Why these acts and rounds have failed: a disk has failed, or has failed where it went when it was read again; a journal has no
 -- reading.
 abbrev pub HasSettleCause : List Act → (olds news : List Kept) → (before after : ShelfCounts) → RunFault → Type 0
 HasSettleCause acts olds news before after (RunFault.DiskFault a) = HasFailed a news ⊎ (IsOneOf a (numbers (seats olds)) × HaveRisen before after)

@@ -70,6 +70,7 @@ pub record IsSteady (old new : Kept) : Type 0 where
   pub others : others new.seat.doors ≡ others old.seat.doors
   pub faults : new.meter.faults ≡ old.meter.faults
   pub stops : old.meter.stops ≤ new.meter.stops
+  pub planned : new.meter.planned ≡ old.meter.planned
 
 abbrev pub AreSame : List Kept → List Kept → Type 0
 AreSame olds news = EachIs IsSteady olds news
@@ -82,10 +83,22 @@ pub record IsCalm (old new : Kept) : Type 0 where
 abbrev pub AreCalm : List Kept → List Kept → Type 0
 AreCalm olds news = EachIs IsCalm olds news
 
+-- the same agent, for whose disk as many stops are planned
+pub record IsAsPlanned (old new : Kept) : Type 0 where
+  pub same : IsSameAgent old new
+  pub planned : new.meter.planned ≡ old.meter.planned
+
+-- and no fewer were counted
+pub record HasAsMany (old new : Kept) : Type 0 where
+  pub same : IsSameAgent old new
+  pub stops : old.meter.stops ≤ new.meter.stops
+  pub planned : new.meter.planned ≡ old.meter.planned
+
 -- the same agent, whose disk no call has stopped
 pub record IsUnstopped (old new : Kept) : Type 0 where
   pub same : IsSameAgent old new
   pub stops : new.meter.stops ≡ old.meter.stops
+  pub planned : new.meter.planned ≡ old.meter.planned
 
 ---- Nets
 

@@ -1,5 +1,5 @@
 -- What a run promises.
-use Rattle.std.specs.Prelude.{ℕ, ◌≤◌, ◌+◌, ◌≡◌, ◌⊎◌, Bool, true, List, [], ◌∷◌, length, take, Option}
+use Rattle.std.specs.Prelude.{ℕ, ◌≤◌, ◌+◌, ◌-◌, ◌≡◌, ◌⊎◌, Bool, true, List, [], ◌∷◌, length, take, Option}
 use Rattle.std.specs.List.{All}
 use Rattle.nsi_primitive.specs.Printable.{IsPrintableAsk}
 use Rattle.nsi_primitive.specs.declared.entry.Event.{Event}
@@ -93,7 +93,7 @@ WritesTooLong t options script start last old new =
 -- Some groups are played, behind which these agents are left. Their disks have stopped no more often than is counted at these, and where others went.
 abbrev pub PlaysFirst : List Group → (start last : List Kept) → (before after : ShelfCounts) → (groups : ℕ) → List Event → Type 0
 PlaysFirst script start last before after groups events =
-    (by : ℕ) × Raised before.stops by after.stops × Plays (NoneCounted start last before after ⊎ NoRestart events) (by + more_stops start last) start script (take groups script) events
+    (by : ℕ) × Raised before.stops by after.stops × Plays (NoneCounted start last before after ⊎ NoRestart events) ((by + stops_among last) - stops_among start) start script (take groups script) events
 
 -- a front of what is wanted of some groups of the play was written, behind which these agents are left
 abbrev pub WritesSomeOfPlay : Network → RunOptions → List Group → (start last : List Kept) → (before after : ShelfCounts) → Option (List ℕ) → Option (List ℕ) → Type 0

@@ -1,5 +1,5 @@
 -- Agents whose disks have stopped in a round, and how they go on behind it.
-use Rattle.std.specs.Prelude.{ℕ, ◌+◌, ◌-◌, ◌<◌, ◌≤◌, ◌≡◌, ◌⊎◌, Bool, true, false, if◌then◌else◌, List, [], ◌∷◌, ◌++◌, length, map, Option, Some, None}
+use Rattle.std.specs.Prelude.{ℕ, ◌+◌, ◌-◌, ◌<◌, ◌≤◌, ◌≡◌, ◌⊎◌, Bool, true, false, if◌then◌else◌, List, [], ◌∷◌, ◌++◌, length, map, sum, Option, Some, None, is_some}
 use Rattle.nsi_disk.specs.ShelfCounts.{Raised}
 use Rattle.journal_entry.specs.Journal.{Kept as Journaled}
 use Rattle.stp_topology.specs.declared.network.Network.{Network}
@@ -9,18 +9,19 @@ use Rattle.agent_node.specs.declared.fault.TurnFault.{TurnFault}
 use Rattle.agent_node.specs.Reopening.{IsReopened}
 use Rattle.agent_node.specs.Seat.{Seat}
 use Rattle.agent_node.specs.Kept.{Kept, first_kept}
+use Rattle.nsi_script.specs.declared.script.Act.{Act}
 use Rattle.nsi_script.specs.declared.script.Group.{Group}
-use Rattle.nsi_play.specs.Play.{IsPlayFrom, PassesFrom}
-use Rattle.nsi_play.specs.Rounds.{Net, Homes, round, events_of, all_quiet}
+use Rattle.nsi_play.specs.Play.{IsPlayFrom, PassesFrom, acted, begins, ticked_in}
+use Rattle.nsi_play.specs.Rounds.{Net, Homes, round, events_of, emptied, all_quiet}
 use Rattle.stopped_play.specs.Tapes.{Cuts, Tape, Stops}
-use Rattle.stopped_play.specs.Play.{group_by, plays_from, IsPlayBy}
+use Rattle.stopped_play.specs.Play.{acted_by, group_by, plays_from, IsPlayBy}
 use Rattle.stopped_play.specs.Rounds.{reopens}
-use Rattle.stopped_play.specs.Coming.{behind_cuts, events_by, IsSettledBy as IsSettledByTape, IsGroupOver as IsOverByTape, IsPlayedBy as IsPlayedByTape}
-use Rattle.stopped_play.specs.Counts.{restarts_in, stops_of, stops_among as cut_stops, round_stops, tape_stops, play_stops}
+use Rattle.stopped_play.specs.Coming.{behind_cuts, events_by, IsSettledBy as IsSettledByTape, IsActedBy, IsGroupOver as IsOverByTape, IsPlayedBy as IsPlayedByTape}
+use Rattle.stopped_play.specs.Counts.{restarts_in, stops_among as cut_stops, round_stops, tape_stops, play_stops}
 use Rattle.nsi_primitive.specs.declared.entry.Event.{Event}
 use Rattle.agent_threads.specs.Nets.{seats, seats_by, numbers, synced_in, AreOf, AreApart, AreWired, AreOwned}
 use Rattle.agent_threads.specs.Bounds.{MovesOn}
-use Rattle.agent_threads.specs.Coming.{IsTold, IsSettledBy, OverrunsBy, IsGroupOver, GroupPasses, IsPlayedBy}
+use Rattle.agent_threads.specs.Coming.{IsTold, IsBegun, IsSettledBy, OverrunsBy, IsGroupOver, GroupPasses, IsPlayedBy}
 use Rattle.agent_threads.specs.declared.fault.RoundFault.{RoundFault}
 
 ---- Who has stopped
@@ -46,10 +47,10 @@ pub record AreHalted (ks : List Kept) : Type 0 where
 abbrev pub one_stop : Option TurnFault → ℕ
 one_stop fault = if is_stopped fault then 1 else 0
 
--- these cuts are of those agents that have stopped, one stop each, and of no other one of these
+-- these cuts are of those agents that have stopped, and of no other one of these
 abbrev pub AgreesWith : Cuts → List Kept → Type 0
 AgreesWith cuts [] = Unit {0}
-AgreesWith cuts (k ∷ ks) = (stops_of (cuts k.seat.number) ≡ one_stop k.fault) × AgreesWith cuts ks
+AgreesWith cuts (k ∷ ks) = (is_some (cuts k.seat.number) ≡ is_stopped k.fault) × AgreesWith cuts ks
 
 ---- What their journals tell
 
@@ -97,10 +98,6 @@ pub record RestartsStopped (old new : Kept) : Type 0 where
   pub there : (old.fault ≡ Some TurnFault.Stopped → ⊥) → new ≡ old
   pub usable : new.fault ≡ None
 
--- they go on as some cuts say, which are of those that had stopped
-abbrev pub GoOnByCuts : List Kept → List Kept → Homes → Type 0
-GoOnByCuts olds news homes = (cuts : Cuts) × AgreesWith cuts olds × (seats_by true news ≡ reopens cuts homes (seats_before olds))
-
 -- what happened was taken away, and nothing else
 abbrev pub Emptied : Kept → Kept → Type 0
 Emptied old new = new ≡ record old { seat = record old.seat { events = [] } }
@@ -121,6 +118,11 @@ stopped_in (k ∷ ks) = one_stop k.fault + stopped_in ks
 abbrev pub stops_among : List Kept → ℕ
 stops_among [] = 0
 stops_among (k ∷ ks) = k.meter.stops + stops_among ks
+
+-- how many are planned for their disks
+abbrev pub planned_among : List Kept → ℕ
+planned_among [] = 0
+planned_among (k ∷ ks) = k.meter.planned + planned_among ks
 
 -- how many more they are than before
 abbrev pub more_stops : (olds news : List Kept) → ℕ
@@ -159,10 +161,47 @@ pub record IsSteppedBy (most : ℕ) (homes : Homes) (x : Net) (before events : L
 abbrev pub IsStepped : Homes → (tells : Bool) → (Calm : Type 0) → (most : ℕ) → (x : Net) → (before events : List Event) → (y : Net) → Type 0
 IsStepped homes tells Calm most x before events y = ByStops tells Calm (IsSteppedBy most homes x before events y) (IsTold (round homes x) before events y)
 
+-- They have gone on as some cuts say, and what has happened then was told. The cuts are of those that had stopped, one stop each beside those
+-- that were counted since.
+pub record GoOnByCuts (olds news : List Kept) (before events : List Event) (homes : Homes) : Type 0 where
+  pub cuts : Cuts
+  pub agrees : AgreesWith cuts olds
+  pub few : cut_stops cuts (numbers (seats olds)) + stops_among olds ≤ stopped_in olds + stops_among news
+  pub told : IsTold (reopens cuts homes (seats_before olds)) before events (seats_by true news)
+
 -- with a round and its restarts there are too many events
 abbrev pub StepOverruns : Homes → (tells : Bool) → (Calm : Type 0) → (most : ℕ) → Net → (before room : ℕ) → Type 0
 StepOverruns homes tells Calm most x before room =
     ByStops tells Calm ((cuts : Cuts) × (cut_stops cuts (numbers x) ≤ most) × (room < before + length (events_by cuts homes x))) (room < before + length (events_of (round homes x)))
+
+-- An act was done, and what has happened then was told: behind so many tries, where its disk stopped while it was read, or behind none.
+abbrev pub IsDone : Homes → (tells : Bool) → (Calm : Type 0) → (most : ℕ) → Act → (count : ℕ) → (x : Net) → (before events : List Event) → (y : Net) → Type 0
+IsDone homes tells Calm most act count x before events y =
+    ByStops tells Calm ((tries : ℕ) × (tries ≤ most) × IsTold (acted_by act tries count homes x) before events y) (IsTold (acted act count homes x) before events y)
+
+-- ticks and acts that were made, behind tries that are no more than so many
+pub record IsBegunBy (most : ℕ) (homes : Homes) (g : Group) (count : ℕ) (x : Net) (events : List Event) (y : Net) : Type 0 where
+  pub acted : List Event
+  pub next : ℕ
+  pub goes : IsActedBy homes g.acts count (emptied (map (ticked_in g.at homes) x)) acted [] next y
+  pub few : sum goes.tries ≤ most
+  pub told : events ≡ events_of (map (ticked_in g.at homes) x) ++ acted
+
+abbrev pub HasBegun : Homes → (tells : Bool) → (Calm : Type 0) → (most : ℕ) → Group → (count : ℕ) → (x : Net) → (events : List Event) → (y : Net) → Type 0
+HasBegun homes tells Calm most g count x events y = ByStops tells Calm (IsBegunBy most homes g count x events y) (IsBegun homes g count x events y)
+
+-- some ticks and acts of a group, behind tries that are no more than so many, have more events
+pub record BeginsLonger (most room : ℕ) (homes : Homes) (g : Group) (count : ℕ) (x : Net) : Type 0 where
+  pub acted : List Event
+  pub left : List Act
+  pub next : ℕ
+  pub now : Net
+  pub goes : IsActedBy homes g.acts count (emptied (map (ticked_in g.at homes) x)) acted left next now
+  pub few : sum goes.tries ≤ most
+  pub long : room < length (events_of (map (ticked_in g.at homes) x) ++ acted)
+
+abbrev pub BeginsPast : Homes → (tells : Bool) → (Calm : Type 0) → (most room : ℕ) → Group → (count : ℕ) → Net → Type 0
+BeginsPast homes tells Calm most room g count x = ByStops tells Calm (BeginsLonger most room homes g count x) (room < length (begins g count homes x).events)
 
 -- rounds that were made, with their restarts
 abbrev pub AreSettled : Homes → (tells : Bool) → (Calm : Type 0) → (most : ℕ) → (x : Net) → (own : List Event) → (y : Net) → Type 0

@@ -6,18 +6,17 @@ ghost use Rattle.nsi_primitive.specs.Printable.{IsPrintableEvent};
 ghost use Rattle.nsi_primitive.specs.declared.entry.Event.{Event as EventOf};
 ghost use Rattle.nsi_script.specs.Lines.{greatest_asks};
 ghost use Rattle.nsi_play.specs.Rounds.{round, events_of, all_quiet};
-ghost use Rattle.nsi_play.specs.Play.{asks_among, asks_in, acted, begins, ticked_in};
+ghost use Rattle.nsi_play.specs.Play.{asks_among, asks_in, ticked_in};
 ghost use Rattle.quiet_rounds.specs.Bounded.{IsBounded};
-ghost use Rattle.agent_node.specs.Kept.{IsSameAgent};
-ghost use Rattle.agent_threads.specs.Nets.{seats, seats_by, EachIs, AtHomes, AreSame, AreUsable, AreNet, AreListed, AreOwned, IsUnstopped};
+ghost use Rattle.agent_threads.specs.Nets.{seats, seats_by, EachIs, AtHomes, AreSame, AreUsable, AreNet, AreListed, AreOwned, IsAsPlanned, IsUnstopped};
 ghost use Rattle.agent_threads.specs.Made.{Does, tick_to, HasRoom, HaveRoom, behind_fault, HasMetCause, HasSettleCause, HasGoOnCause, counted, KeepsShelf, HasRunCause, IsOfRestart, AreLeft};
 ghost use Rattle.agent_threads.specs.Bounds.{AreUpTo, AreOfOne, MovesOn, GoOn};
 ghost use Rattle.agent_threads.specs.Leaving.{LeavesNet, StayOwned};
 ghost use Rattle.stopped_play.specs.Tapes.{Cuts};
-ghost use Rattle.stopped_play.specs.Rounds.{round_by, reopens};
+ghost use Rattle.stopped_play.specs.Rounds.{round_by};
 ghost use Rattle.stopped_play.specs.Counts.{restarts_in};
-ghost use Rattle.agent_threads.specs.Coming.{IsTold, IsBegun};
-ghost use Rattle.agent_threads.specs.Stopping.{AreHalted, AgreesWith, seats_before, WereOwned, AtOwned, AtOwnedBefore, Emptied, stopped_in, stops_among, more_stops, NoneStopped, IsStepped, StepOverruns, AreSettled, Overrun};
+ghost use Rattle.agent_threads.specs.Coming.{IsTold};
+ghost use Rattle.agent_threads.specs.Stopping.{AreHalted, AgreesWith, seats_before, WereOwned, AtOwned, AtOwnedBefore, Emptied, stopped_in, stops_among, more_stops, NoneStopped, IsDone, HasBegun, BeginsPast, GoOnByCuts, IsStepped, StepOverruns, AreSettled, Overrun};
 ghost use Rattle.agent_threads.specs.Promise.{CanAct, CanDo, Shows, AtShown};
 
 use crate::act::act_all;
@@ -146,7 +145,9 @@ fn act<'t, J: Journal + Drop, B: Reopen<J>>(
     requires listed { AreListed (B.listed shelf.old) nodes.old.items }
     requires printable { All IsPrintableEvent events.old.items }
     ensures ok { AtHomes nodes.old.items (λ homes tells. Shows tells act.now → OnOk result
-        (IsTold (acted act.now number homes (seats_by tells nodes.old.items))
+        (IsDone homes tells
+        (NoneStopped nodes.old.items nodes.new.items events.old.items events.new.items)
+        (more_stops nodes.old.items nodes.new.items) act.now number (seats_by tells nodes.old.items)
         events.old.items events.new.items (seats_by tells nodes.new.items))) }
     ensures leaves { OnOk result (LeavesNet 0 nodes.old.items nodes.new.items
         events.old.items events.new.items) }
@@ -204,17 +205,21 @@ pub fn begin<'t, J: Journal + Drop, B: Reopen<J>>(
     requires later { AreUpTo group.now.at nodes.old.items }
     requires listed { AreListed (B.listed shelf.old) nodes.old.items }
     ensures ok { AtShown nodes.old.items group.now.acts (λ homes tells. OnOk result
-        (IsBegun homes group.now start.number (seats_by tells nodes.old.items)
+        (HasBegun homes tells (NoneStopped nodes.old.items nodes.new.items [] events.new.items)
+        (more_stops nodes.old.items nodes.new.items) group.now start.number (seats_by tells nodes.old.items)
         events.new.items (seats_by tells nodes.new.items))) }
     ensures leaves { OnOk result (LeavesNet group.now.at nodes.old.items nodes.new.items
         events.old.items events.new.items) }
     ensures next { IfOk result (λ n. n ≡ start.number + asks_among group.now.acts) }
     ensures within { OnOk result (length events.new.items ≤ start.room) }
     ensures long { AtShown nodes.old.items group.now.acts (λ homes tells.
-        IsErrOf result RunFault.Long → start.room < length
-        (begins group.now start.number homes (seats_by tells nodes.old.items)).events) }
+        IsErrOf result RunFault.Long →
+        BeginsPast homes tells (stops_among nodes.new.items ≡ stops_among nodes.old.items)
+        (more_stops nodes.old.items nodes.new.items) start.room group.now start.number
+        (seats_by tells nodes.old.items)) }
     ensures rises { IsErrOf result RunFault.Long →
         stops_among nodes.old.items ≤ stops_among nodes.new.items }
+    ensures level { IsErrOf result RunFault.Long → B.stops shelf.new ≡ B.stops shelf.old }
     ensures agents { AreLeft nodes.old.items nodes.new.items
         (counted (B.faults shelf.old) (B.stops shelf.old))
         (counted (B.faults shelf.new) (B.stops shelf.new)) }
@@ -267,7 +272,7 @@ fn meet<'t, R: Threads + Sync, J: Journal + Drop + Send>(
         let before = seats_by tells nodes.old.items in
         length (events_of before) + room < length (events_of (round homes before))) }
     ensures cause { IfErr result (HasMetCause nodes.new.items) }
-    ensures agents { EachIs IsSameAgent nodes.old.items nodes.new.items }
+    ensures agents { EachIs IsAsPlanned nodes.old.items nodes.new.items }
     ensures counts { stops_among nodes.old.items + stopped_in nodes.new.items
         ≤ stops_among nodes.new.items }
     ensures some { IfOk result (λ stopped. stopped ≡ true → 0 < stopped_in nodes.new.items) }
@@ -304,10 +309,8 @@ fn reopen<'t, J: Journal + Drop, B: Reopen<J>>(
     requires told { events_of (seats nodes.old.items) ≡ [] }
     requires listed { AreListed (B.listed shelf.old) nodes.old.items }
     requires printable { All IsPrintableEvent events.old.items }
-    ensures ok { AtOwnedBefore nodes.old.items (λ homes. OnOk result ((cuts : Cuts)
-        × AgreesWith cuts nodes.old.items
-        × IsTold (reopens cuts homes (seats_before nodes.old.items))
-        events.old.items events.new.items (seats_by true nodes.new.items))) }
+    ensures ok { AtOwnedBefore nodes.old.items (λ homes. OnOk result (GoOnByCuts
+        nodes.old.items nodes.new.items events.old.items events.new.items homes)) }
     ensures net { OnOk result (AreNet nodes.new.items) }
     ensures still { OnOk result (AreSame nodes.old.items nodes.new.items) }
     ensures owned { AtOwnedBefore nodes.old.items (λ homes.
@@ -316,8 +319,8 @@ fn reopen<'t, J: Journal + Drop, B: Reopen<J>>(
         (GoOn 0 nodes.old.items nodes.new.items events.old.items events.new.items) }
     ensures told { OnOk result (events_of (seats nodes.new.items) ≡ []) }
     ensures printable { OnOk result (All IsPrintableEvent events.new.items) }
-    ensures shows { OnOk result (restarts_in events.new.items
-        ≡ restarts_in events.old.items + stopped_in nodes.old.items) }
+    ensures shows { OnOk result (restarts_in events.old.items + stopped_in nodes.old.items
+        ≤ restarts_in events.new.items) }
     ensures bounded { OnOk result
         (IsBounded (seats nodes.old.items) → IsBounded (seats nodes.new.items)) }
     ensures agents { AreLeft nodes.old.items nodes.new.items
@@ -365,6 +368,7 @@ fn step<'t, R: Threads + Sync, J: Journal + Drop + Send, B: Reopen<J>>(
         (seats_by tells nodes.old.items) (length events.old.items) room) }
     ensures rises { IsErrOf result RunFault.Long →
         stops_among nodes.old.items ≤ stops_among nodes.new.items }
+    ensures level { IsErrOf result RunFault.Long → B.stops shelf.new ≡ B.stops shelf.old }
     ensures agents { AreLeft nodes.old.items nodes.new.items
         (counted (B.faults shelf.old) (B.stops shelf.old))
         (counted (B.faults shelf.new) (B.stops shelf.new)) }
@@ -428,6 +432,7 @@ fn advance<'t, R: Threads + Sync, J: Journal + Drop + Send, B: Reopen<J>>(
         (seats_by tells nodes.old.items) (length events.old.items) room) }
     ensures rises { IsErrOf result RunFault.Long →
         stops_among nodes.old.items ≤ stops_among nodes.new.items }
+    ensures level { IsErrOf result RunFault.Long → B.stops shelf.new ≡ B.stops shelf.old }
     ensures agents { AreLeft nodes.old.items nodes.new.items
         (counted (B.faults shelf.old) (B.stops shelf.old))
         (counted (B.faults shelf.new) (B.stops shelf.new)) }
@@ -482,6 +487,7 @@ pub fn settle<'t, R: Threads + Sync, J: Journal + Drop + Send, B: Reopen<J>>(
         (seats_by tells nodes.old.items) (length events.old.items) room) }
     ensures rises { IsErrOf result RunFault.Long →
         stops_among nodes.old.items ≤ stops_among nodes.new.items }
+    ensures level { IsErrOf result RunFault.Long → B.stops shelf.new ≡ B.stops shelf.old }
     ensures agents { AreLeft nodes.old.items nodes.new.items
         (counted (B.faults shelf.old) (B.stops shelf.old))
         (counted (B.faults shelf.new) (B.stops shelf.new)) }

@@ -12,7 +12,7 @@ mod rounds;
 mod run;
 
 pub use fault::{RoundFault, RunFault};
-pub use report::RunOptions;
+pub use report::{RunOptions, written};
 pub use resources::Resources;
 pub use rounds::{round, settled};
-pub use run::{Play, play_all};
+pub use run::{Play, play_all, write_text};

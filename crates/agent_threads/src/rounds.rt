@@ -4,14 +4,14 @@ ghost use Rattle.std.specs.Prelude.{◌≡◌, ◌<◌, ◌≤◌, ◌+◌, ℕ,
 ghost use Rattle.std.specs.List.{All, list_all};
 ghost use Rattle.agent_node.specs.Made.{IsTurn};
 ghost use Rattle.nsi_play.specs.Rounds.{round, events_of, all_quiet};
-ghost use Rattle.agent_node.specs.Kept.{Kept, IsSameAgent};
-ghost use Rattle.agent_threads.specs.Nets.{seats, seats_by, EachIs, AtHomes, AreSame, IsUsable, AreUsable, AreNet};
+ghost use Rattle.agent_node.specs.Kept.{Kept};
+ghost use Rattle.agent_threads.specs.Nets.{seats, seats_by, EachIs, AtHomes, AreSame, IsAsPlanned, IsUsable, AreUsable, AreNet};
 ghost use Rattle.agent_threads.specs.Leaving.{StayOwned};
 ghost use Rattle.agent_threads.specs.Bounds.{MovesOn};
 ghost use Rattle.stopped_play.specs.Tapes.{Cuts};
 ghost use Rattle.stopped_play.specs.Rounds.{round_by};
 ghost use Rattle.agent_threads.specs.Stopping.{stopped_in, stops_among, IsStop, AreHalted, AgreesWith, seats_before, WereOwned, AtOwned};
-ghost use Rattle.agent_threads.specs.Made.{HasRoom, HaveRoom, failure_at, stop_at, first_failure, first_stop, fault_of, answer, HasRisen};
+ghost use Rattle.agent_threads.specs.Made.{HasRoom, HaveRoom, failure_at, stop_at, first_failure, first_stop, fault_of, answer, HasRisen, faults_in, stops_in};
 
 use crate::fault::RoundFault;
 use crate::meeting::meet_all;
@@ -133,9 +133,9 @@ pub fn round<'t, R: Threads + Sync, J: Journal + Drop + Send>(
         let before = seats_by tells nodes.old.items in
         length (events_of before) + room < length (events_of (round homes before))) }
     ensures disk { (a : ℕ) → IsErrOf result (RoundFault.DiskFault a) →
-        HasRisen a nodes.old.items nodes.new.items }
+        HasRisen faults_in a nodes.old.items nodes.new.items }
     ensures stopped { (a : ℕ) → IsErrOf result (RoundFault.Stopped a) →
-        HasRisen a nodes.old.items nodes.new.items }
+        HasRisen stops_in a nodes.old.items nodes.new.items }
 
     // Where disks have stopped and no call has failed, it is made as far as the disks go, for whichever cuts are of
     // those that stopped.
@@ -159,7 +159,7 @@ pub fn round<'t, R: Threads + Sync, J: Journal + Drop + Send>(
 
     // Of several faults it is the first agent's that isn't a stop.
     ensures first { OnErr result (result ≡ answer (fault_of nodes.new.items)) }
-    ensures agents { EachIs IsSameAgent nodes.old.items nodes.new.items }
+    ensures agents { EachIs IsAsPlanned nodes.old.items nodes.new.items }
     ensures owned { OnOk result (StayOwned nodes.old.items nodes.new.items) }
     ensures moves { AtHomes nodes.old.items (λ homes tells.
         OnOk result (EachIs (MovesOn 0) nodes.old.items nodes.new.items)) }

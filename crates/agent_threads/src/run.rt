@@ -68,6 +68,7 @@ fn make_group<'t, R: Threads + Sync, J: Journal + Drop + Send, B: Reopen<J>>(
         (more_stops nodes.old.items nodes.new.items) start.room 0 group.now start.number (seats_by tells nodes.old.items)) }
     ensures rises { IsErrOf result RunFault.Long →
         stops_among nodes.old.items ≤ stops_among nodes.new.items }
+    ensures level { IsErrOf result RunFault.Long → B.stops shelf.new ≡ B.stops shelf.old }
     ensures agents { AreLeft nodes.old.items nodes.new.items
         (counted (B.faults shelf.old) (B.stops shelf.old))
         (counted (B.faults shelf.new) (B.stops shelf.new)) }
@@ -142,6 +143,7 @@ fn play_group<'t, R: Threads + Sync, J: Journal + Drop + Send, B: Reopen<J>>(
         (seats_by tells nodes.old.items)) }
     ensures rises { IsErrOf result RunFault.Long →
         stops_among nodes.old.items ≤ stops_among nodes.new.items }
+    ensures level { IsErrOf result RunFault.Long → B.stops shelf.new ≡ B.stops shelf.old }
     ensures agents { AreLeft nodes.old.items nodes.new.items
         (counted (B.faults shelf.old) (B.stops shelf.old))
         (counted (B.faults shelf.new) (B.stops shelf.new)) }
@@ -167,7 +169,8 @@ fn play_group<'t, R: Threads + Sync, J: Journal + Drop + Send, B: Reopen<J>>(
     Ok((text, Progress { totals, asks }))
 }
 
-fn write_text<K: Sink>(out: &mut K, text: &[u8]) -> Result<(), RunFault>
+/// Writes a text whole.
+pub fn write_text<K: Sink>(out: &mut K, text: &[u8]) -> Result<(), RunFault>
     ensures all { OnOk result (WritesAll (K.content out.old) (K.content out.new) text.now) }
     ensures front { OnErr result (WritesFront (K.content out.old) (K.content out.new) text.now) }
     ensures cause { IfErr result IsOfWriting }
@@ -217,6 +220,11 @@ pub fn play_all<'t, R: Threads + Sync, J: Journal + Drop + Send, B: Reopen<J>, K
         (counted (B.faults shelf.old) (B.stops shelf.old))
         (counted (B.faults shelf.new) (B.stops shelf.new))
         (K.content out.old) (K.content out.new)) }
+
+    // Then no agent is lost, and no count of stops has fallen.
+    ensures rises { IsErrOf result RunFault.Long →
+        stops_among nodes.old.items ≤ stops_among nodes.new.items }
+    ensures level { IsErrOf result RunFault.Long → B.stops shelf.new ≡ B.stops shelf.old }
 
     // Where a disk has failed or a journal has no reading, whole groups were written.
     ensures whole { IfErr result (λ e. IsOfAgent e → WritesGroups play.now.topology.now

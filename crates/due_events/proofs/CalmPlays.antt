@@ -14,12 +14,12 @@ use Rattle.nsi_play.specs.Play.{Played, behind, plays}
 use Rattle.nsi_play.specs.Rounds.{Net}
 use Rattle.nsi_world.specs.Laws.{HeardWasSent}
 use Rattle.nsi_world.proofs.Given.{AreLaws}
-use Rattle.stopped_play.specs.Counts.{restarts_in, stops_among, round_stops, play_stops}
+use Rattle.stopped_play.specs.Counts.{restarts_in, stops_among, round_stops, play_stops, all_stops}
 use Rattle.stopped_play.specs.Laws.{played}
 use Rattle.stopped_play.specs.Play.{plays_by, remade}
 use Rattle.stopped_play.specs.Tapes.{none_cut, Stops, copies, calm, calm_stops}
 use Rattle.stopped_play.proofs.Calm.{calm_tapes}
-use Rattle.due_events.specs.Counts.{script_forces, script_restarts, all_stops}
+use Rattle.due_events.specs.Counts.{script_forces, script_restarts}
 use Rattle.due_events.specs.Laws.{IsScripted, RunsCauseNoMore, CalmPlaysAreShort}
 use Rattle.due_events.proofs.Scripted.{plays_are_scripted}
 use Rattle.due_events.proofs.ShortPlays.{plays_are_short}

@@ -25,13 +25,13 @@ use Rattle.nsi_play.proofs.Settling.{then_over, then_stopped}
 use Rattle.nsi_world.specs.Nets.{numbers, AreDistinct, IsTold}
 use Rattle.nsi_world.proofs.NetSteps.{events_met, emptied_told, emptied_numbers}
 use Rattle.nsi_world.proofs.Opening.{numbers_of, opening_stands}
-use Rattle.stopped_play.specs.Counts.{one_restart, restarts_in, stops_of, stops_among, round_stops, tape_stops, play_stops}
+use Rattle.stopped_play.specs.Counts.{one_restart, restarts_in, stops_of, stops_among, round_stops, tape_stops, play_stops, all_stops}
 use Rattle.stopped_play.specs.Laws.{played}
 use Rattle.stopped_play.specs.Tapes.{Cut, Cuts, Tape, no_tape, Stops}
 use Rattle.stopped_play.specs.Rounds.{turned_or, turned_by, round_by, reopened, reopened_by, reopens, after_cuts, settles_by}
 use Rattle.stopped_play.specs.Play.{does_by, acted_by, acts_by, begins_by, group_by, plays_by, remade_at, remade}
 use Rattle.stopped_play.proofs.Calm.{settle_by_none, settle_by_one}
-use Rattle.due_events.specs.Counts.{is_tick, is_ask, is_force, enters, ask_worth, act_worth, is_forcing, is_restarting, all_stops}
+use Rattle.due_events.specs.Counts.{is_tick, is_ask, is_force, enters, ask_worth, act_worth, is_forcing, is_restarting}
 use Rattle.due_events.specs.Laws.{PlaysAreScripted, AsksAreScripted}
 use Rattle.due_events.proofs.Entries.{one_if, weight_at, weight_was_entered}
 use Rattle.due_events.proofs.Outside.{counted, IsOutside, more_events, Makes, makes_none, halted_none, turned_none, restarts_make, past_makes, ticked_makes, made_by, doer, does_makes}

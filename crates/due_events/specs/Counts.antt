@@ -1,5 +1,5 @@
 -- How many entries of a kind there are: in a journal, and among events.
-use Rattle.std.specs.Prelude.{ℕ, Bool, true, false, ◌+◌, List, length, sum_by, count_by}
+use Rattle.std.specs.Prelude.{ℕ, Bool, true, false, List, length, sum_by, count_by}
 use Rattle.nsi_primitive.specs.declared.ask.Ask.{Ask}
 use Rattle.nsi_primitive.specs.declared.entry.Entry.{Entry}
 use Rattle.nsi_primitive.specs.declared.entry.Event.{Event}
@@ -10,8 +10,6 @@ use Rattle.nsi_script.specs.Scripts.{acts_of}
 use Rattle.nsi_script.specs.declared.script.Act.{Act}
 use Rattle.nsi_script.specs.declared.script.Group.{Group}
 use Rattle.nsi_world.specs.Worlds.{Homes, World}
-use Rattle.stopped_play.specs.Counts.{play_stops}
-use Rattle.stopped_play.specs.Tapes.{Stops}
 
 ---- Kinds
 
@@ -107,9 +105,3 @@ is_restarting act = false
 -- how many restarts there are
 abbrev pub script_restarts : List Group → ℕ
 script_restarts script = count_by is_restarting (acts_of script)
-
----- Disks that stop
-
--- how often the disks of these agents stopped in a play: while journals were first made, and in its groups
-abbrev pub all_stops : (agents : List ℕ) → Stops → ℕ
-all_stops agents stops = sum_by stops.making agents + play_stops agents stops.groups

@@ -21,10 +21,10 @@ use Rattle.nsi_world.specs.Runs.{world_after, AreAllowed}
 use Rattle.nsi_world.specs.Seats.{AreFree}
 use Rattle.nsi_world.specs.Nets.{AreDistinct}
 use Rattle.stopped_play.specs.Tapes.{Stops}
-use Rattle.stopped_play.specs.Counts.{restarts_in}
+use Rattle.stopped_play.specs.Counts.{restarts_in, all_stops}
 use Rattle.stopped_play.specs.Laws.{played}
 use Rattle.due_events.specs.Due.{AreDue}
-use Rattle.due_events.specs.Counts.{is_got, is_acked, is_work, is_tick, is_ask, is_force, entries_in, entries_among, held, caused, events_in, asks_worth, act_worth, script_forces, script_restarts, all_stops}
+use Rattle.due_events.specs.Counts.{is_got, is_acked, is_work, is_tick, is_ask, is_force, entries_in, entries_among, held, caused, events_in, asks_worth, act_worth, script_forces, script_restarts}
 
 -- a front of events that are due is due
 abbrev pub FrontsAreDue : Type 0

@@ -1,12 +1,13 @@
 -- The counts of a shelf that disks were given back to.
-use Rattle.std.proofs.Common.{ℕ, zero, suc, ◌+◌, ◌<◌, ◌≤◌, ◌-◌, ◌≡◌, inl, inr, refl, arith, List, [], ◌∷◌}
+use Rattle.std.proofs.Common.{ℕ, ◌+◌, ◌<◌, ◌≤◌, ◌-◌, ◌≡◌, inl, inr, refl, arith, List, [], ◌∷◌}
 use Rattle.nsi_disk.specs.ShelfCounts.{Raised}
 use Rattle.agent_node.specs.Kept.{Kept}
 use Rattle.agent_threads.specs.Nets.{AreCalm}
 use Rattle.agent_threads.specs.Made.{HasFailed}
 use Rattle.agent_threads.specs.declared.fault.RunFault.{RunFault}
-use Rattle.net_run.specs.Begun.{faults_among, stops_among}
-use Rattle.net_run.specs.Shelves.{HasRisen, HasBroken, IsStartFault}
+use Rattle.nsi_disk.specs.declared.shelf.ShelfError.{ShelfError}
+use Rattle.net_run.specs.Begun.{faults_among, refusal_of}
+use Rattle.net_run.specs.Shelves.{HasRisen, IsStartFault}
 
 pub raised_up : (a x b : ℕ) → Raised a x b → a ≤ b
 raised_up a x b (inl p) = omega (arith, p)
@@ -28,8 +29,7 @@ pub start_fault : (most f g h s r q : ℕ) (e : RunFault) → IsStartFault most 
 start_fault most f g h s r q RunFault.Long i x y = i
 start_fault most f g h s r q RunFault.WriteFault i x y = i
 start_fault most f g h s r q (RunFault.NotAJournal a place) i x y = i
-start_fault most f g h s r q (RunFault.DiskFault a) (l, inl b, up) x y = (l, inl (risen_then f g h b x), omega (arith, up, y))
-start_fault most f g h s r q (RunFault.DiskFault a) (l, inr b, up) x y = (l, inr (risen_then s r q b y), omega (arith, up, y))
+start_fault most f g h s r q (RunFault.DiskFault a) (l, b, up) x y = (l, risen_then f g h b x, omega (arith, up, y))
 start_fault most f g h s r q RunFault.NoMemory i x y = (omega (arith, i.0, x), omega (arith, i.1, y))
 
 -- the count of stops doesn't fall
@@ -52,11 +52,12 @@ calm_faults (x ∷ xs) (y ∷ ys) c =
     let there = calm_faults xs ys c.1 in
     omega (arith, here, there)
 
-pub some_failed : (a : ℕ) (ks : List Kept) → HasFailed a ks → 0 < faults_among ks + stops_among ks
+pub some_failed : (a : ℕ) (ks : List Kept) → HasFailed a ks → 0 < faults_among ks
 some_failed a [] h = absurd h
 some_failed a (k ∷ ks) (inl p) = omega (arith, p.1)
 some_failed a (k ∷ ks) (inr p) = omega (arith, some_failed a ks p)
 
-pub broken_by : (x y f g s r : ℕ) → 0 < x + y → Raised f x g → Raised s y r → HasBroken f g s r
-broken_by zero y f g s r h p q = inr (y, omega (arith, h), q)
-broken_by (suc x) y f g s r h p q = inl (suc x, omega arith, p)
+-- why an agent has no disk
+pub refused : (most a f g s r : ℕ) (e : ShelfError) → a < most → (e ≡ ShelfError.Failed → f < g) → f ≤ g → s ≤ r → IsStartFault most f g s r (refusal_of a e)
+refused most a f g s r ShelfError.Failed l b up on = (l, risen_more f g (b refl), on)
+refused most a f g s r ShelfError.NoMemory l b up on = (up, on)

@@ -1,5 +1,5 @@
 -- What is held behind a run reads as the journals of the agents in the world that its events make.
-use Rattle.std.proofs.Common.{ℕ, zero, suc, ◌+◌, ◌<◌, ◌≤◌, ◌≡◌, Bool, true, false, List, [], ◌∷◌, inl, inr, Option, Some, refl, sym, ap, ap₂, ◌∙◌, subst, arith, length, map, take}
+use Rattle.std.proofs.Common.{ℕ, zero, suc, ◌+◌, ◌<◌, ◌≤◌, ◌≡◌, Bool, true, false, List, [], ◌∷◌, ◌++◌, inl, inr, Option, Some, refl, sym, ap, ap₂, ◌∙◌, subst, arith, length, map, take}
 use Rattle.std.specs.Prelude.{Result, Ok, Err, OnOk, IfSome, is_some, bytes_eq}
 use Rattle.std.specs.List.{All, range_with_len}
 use Rattle.std.proofs.lemmas.Bool.{cases_eq, false_from_ne_true}
@@ -32,12 +32,15 @@ use Rattle.stopped_play.specs.Laws.{StoppedPlayStands, StoppedPlayRests}
 use Rattle.stopped_play.specs.Tapes.{Stops}
 use Rattle.run_totals.specs.declared.totals.Totals.{Totals}
 use Rattle.agent_threads.specs.declared.fault.RunFault.{RunFault}
-use Rattle.agent_threads.specs.Nets.{seats, seats_by, seen, synced_in, numbers, EachIs, AreUsable, IsAbsent, AreApart, AreOwned, AreSame}
+use Rattle.agent_threads.specs.Nets.{seats, seats_by, seen, synced_in, numbers, EachIs, IsAsPlanned, AreUsable, IsAbsent, AreApart, AreOwned, AreSame}
 use Rattle.agent_threads.specs.Leaving.{StayOwned}
 use Rattle.agent_threads.specs.Promise.{PlaysTo}
-use Rattle.agent_threads.specs.Stopping.{more_stops, on_tapes, NoneStopped, IsPlayByTapes}
+use Rattle.agent_threads.specs.Stopping.{more_stops, NoneStopped, IsPlayByTapes}
 use Rattle.agent_threads.proofs.Same.{same_agents}
-use Rattle.net_run.specs.Begun.{AreListed}
+use Rattle.nsi_script.specs.declared.script.StopLine.{StopLine}
+use Rattle.stopped_play.specs.Play.{IsPlayBy}
+use Rattle.net_run.specs.Begun.{AreListed, restarts_from}
+use Rattle.net_run.proofs.Remaking.{stops_by, plays_behind}
 use Rattle.net_run.specs.Journals.{AllTell, IsUnnamed, AreNamedApart, AreToReturn, AreRead}
 use Rattle.net_run.specs.Worlds.{KeepsJournals}
 use Rattle.net_run.proofs.Beginning.{listed_same}
@@ -133,6 +136,12 @@ same_numbers (x ∷ xs) (y ∷ ys) s = ap₂ ◌∷◌ s.0.number (same_numbers 
 
 ---- A run
 
+alike : (xs ys : List Kept) → EachIs IsAsPlanned xs ys → EachIs IsSameAgent xs ys
+alike [] [] s = tt
+alike [] (y ∷ ys) s = absurd s
+alike (x ∷ xs) [] s = absurd s
+alike (x ∷ xs) (y ∷ ys) s = (s.0.same, alike xs ys s.1)
+
 -- what laws say of plays in which disks stop
 pub record PlayLaws : Type 0 where
   pub stands : StoppedPlayStands
@@ -145,19 +154,21 @@ pub record IsFit (t : Network) (script : List Group) : Type 0 where
   pub rising : IsRising (seconds_of script)
   pub acts : All (IsActOf t) (acts_of script)
 
-module _ (laws : PlayLaws) (t : Network) (plans : Plans) (old new : List ℕ → Option (List ℕ)) (listed : List ℕ → Bool) (script : List Group) (olds news : List Kept) (fit : IsFit t script) (fresh : AreFresh t plans old olds) (named : AreListed listed t olds)
+module _ (laws : PlayLaws) (t : Network) (plans : Plans) (lines : List StopLine) (tries : List ℕ) (old new : List ℕ → Option (List ℕ)) (listed : List ℕ → Bool) (script : List Group) (olds news : List Kept) (fit : IsFit t script) (fresh : AreFresh t plans lines tries old olds) (named : AreListed listed t olds)
     (usable : AreUsable news) (same : EachIs IsSameAgent olds news) (returned : AreToReturn t news → AreRead t new news) where
-  pub keeps_journals : StayOwned olds news → (events : List Event) → PlaysTo (NoneStopped olds news [] events) (more_stops olds news) olds script events news → KeepsJournals t old new events
-  keeps_journals stay events p = λ told a h.
+  pub keeps_journals : StayOwned olds news → (own : List Event) → PlaysTo (NoneStopped olds news [] own) (more_stops olds news) olds script own news → KeepsJournals t old new (restarts_from 0 tries ++ own)
+  keeps_journals stay own_events p = λ told a h.
+      let events : List Event = restarts_from 0 tries ++ own_events in
       let r = laws.exist t in
       let homes = home_in t r.0 in
       let own : AreOwned homes olds = fresh.owned told r.0 in
       let last : Net = seats_by true news in
       let most : ℕ = more_stops olds news in
-      let made : IsPlayByTapes most script homes (opening t plans) events last = subst (λ (net : Net). IsPlayByTapes most script homes net events last) (fresh.seats told) ((p t fresh.opened.of r.0 r.1 true (λ e. own) (all_told (acts_of script))).told refl) in
-      let stops : Stops = on_tapes made.0 in
-      let stands = laws.stands t r.0 plans stops script events last fit.formed fit.rising fit.acts made.2 in
-      let rests = laws.rests t r.0 plans stops script events last fit.formed fit.rising fit.acts made.2 in
+      let made : IsPlayByTapes most script homes (opening t plans) own_events last = subst (λ (net : Net). IsPlayByTapes most script homes net own_events last) (fresh.seats told) ((p t fresh.opened.of r.0 r.1 true (λ e. own) (all_told (acts_of script))).told refl) in
+      let stops : Stops = stops_by tries made.0 in
+      let plays : IsPlayBy stops script homes (opening t plans) events last = plays_behind t plans tries fresh.opened.all made.0 script homes own_events last made.2 in
+      let stands = laws.stands t r.0 plans stops script events last fit.formed fit.rising fit.acts plays in
+      let rests = laws.rests t r.0 plans stops script events last fit.formed fit.rising fit.acts plays in
       let now : AreOwned homes news = stay t fresh.opened.of r.0 r.1 own in
       let names : AreListed listed t news = listed_same listed t olds news same named in
       let read : AreRead t new news = returned (record { usable = usable; tell = owned_tell homes news now; apart = named_apart t fit.formed listed olds news named same fresh.opened.net.apart }) in
@@ -165,8 +176,8 @@ module _ (laws : PlayLaws) (t : Network) (plans : Plans) (old new : List ℕ →
       let w : World = world_after empty events in
       held_at t new w (length t.agents) 0 a (subst (AllHeld t new w) are (all_held t new listed homes stands.clock w news names now stands.stand.stand rests read)) (omega arith) (omega (arith, h))
 
-pub run_keeps : PlayLaws → (t : Network) (plans : Plans) (old new : List ℕ → Option (List ℕ)) (listed : List ℕ → Bool) (script : List Group) (olds news : List Kept) (r : Result Totals RunFault) → IsFit t script → AreFresh t plans old olds → AreListed listed t olds
+pub run_keeps : PlayLaws → (t : Network) (plans : Plans) (lines : List StopLine) (tries : List ℕ) (old new : List ℕ → Option (List ℕ)) (listed : List ℕ → Bool) (script : List Group) (olds news : List Kept) (r : Result Totals RunFault) → IsFit t script → AreFresh t plans lines tries old olds → AreListed listed t olds
     → (AreToReturn t news → AreRead t new news) → OnOk r (AreSame olds news) → OnOk r (AreUsable news) → OnOk r (StayOwned olds news)
-    → OnOk r ((events : List Event) → PlaysTo (NoneStopped olds news [] events) (more_stops olds news) olds script events news → KeepsJournals t old new events)
-run_keeps laws t plans old new listed script olds news (Ok n) fit fresh named returned same usable own = keeps_journals laws t plans old new listed script olds news fit fresh named usable (same_agents olds news same) returned own
-run_keeps laws t plans old new listed script olds news (Err f) fit fresh named returned same usable own = tt
+    → OnOk r ((own : List Event) → PlaysTo (NoneStopped olds news [] own) (more_stops olds news) olds script own news → KeepsJournals t old new (restarts_from 0 tries ++ own))
+run_keeps laws t plans lines tries old new listed script olds news (Ok n) fit fresh named returned same usable own = keeps_journals laws t plans lines tries old new listed script olds news fit fresh named usable (alike olds news (same_agents olds news same)) returned own
+run_keeps laws t plans lines tries old new listed script olds news (Err f) fit fresh named returned same usable own = tt

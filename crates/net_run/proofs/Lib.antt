@@ -3,6 +3,8 @@ pub mod Ends
 pub mod Splitting
 pub mod Beginning
 pub mod Counting
+pub mod Remaking
+pub mod Telling
 pub mod Readying
 pub mod Running
 pub mod Returning

@@ -16,6 +16,7 @@ use Rattle.agent_state.specs.State.{blank_agent}
 use Rattle.stp_topology.specs.Network.{name_of}
 use Rattle.nsi_agent.specs.Homes.{Home, home_in}
 use Rattle.nsi_agent.specs.Told.{told, goes_on}
+use Rattle.nsi_script.specs.declared.script.StopLine.{StopLine}
 use Rattle.net_run.specs.Begun.{AreOpened, AreListed}
 use Rattle.net_run.specs.Held.{AreTold}
 use Rattle.net_run.specs.Journals.{no_entries, AreEmpty}
@@ -92,8 +93,8 @@ module _ (t : Network) (plans : Plans) (held : List ℕ → Option (List ℕ)) (
       let is : k.seat ≡ untold (seat_of t plans n) = cc in
       (owned_one t plans homes n k is (told_empty (held (name_of t k.seat.number)) (k.kept ≡ Some no_entries) (tells k.seat.number l.0.0) none.0), fresh_owned homes ns ks l.1 none.1 (cc))
 
-pub fresh_of : (t : Network) (plans : Plans) (held : List ℕ → Option (List ℕ)) (listed : List ℕ → Bool) (ks : List Kept) → AreOpened t plans ks → AreListed listed t ks → AreEmpty t held ks → AreFresh t plans held ks
-fresh_of t plans held listed ks o l none = record {
+pub fresh_of : (t : Network) (plans : Plans) (lines : List StopLine) (tries : List ℕ) (held : List ℕ → Option (List ℕ)) (listed : List ℕ → Bool) (ks : List Kept) → AreOpened t plans lines tries ks → AreListed listed t ks → AreEmpty t held ks → AreFresh t plans lines tries held ks
+fresh_of t plans lines tries held listed ks o l none = record {
   opened = o;
   seats = λ tells. fresh_seats t plans held listed tells (agents t) ks l none o.seats;
   owned = λ tells routes. fresh_owned t plans held listed tells (home_in t routes) (agents t) ks l none o.seats;
@@ -101,8 +102,8 @@ fresh_of t plans held listed ks o l none = record {
 
 ---- What a run asks of them
 
-pub ready_of : OpeningsAreBounded → (listed : List ℕ → Bool) (t : Network) (plans : Plans) (ks : List Kept) → AreOpened t plans ks → AreListed listed t ks → AreReady t ks
-ready_of bounded listed t plans ks o l =
+pub ready_of : OpeningsAreBounded → (listed : List ℕ → Bool) (t : Network) (plans : Plans) (lines : List StopLine) (tries : List ℕ) (ks : List Kept) → AreOpened t plans lines tries ks → AreListed listed t ks → AreReady t ks
+ready_of bounded listed t plans lines tries ks o l =
     let blank = blank_seats t plans (agents t) ks o.seats in
     let few : IsBounded (seats ks) = subst (λ (net : Net). IsBounded net) (sym o.seats) (untold_bounded (opening t plans) (bounded t plans)) in
     record { numbers = numbered listed t ks l; none = blank.none; clocks = blank.clocks; told = blank.told; bounded = few }

@@ -1,15 +1,11 @@
 -- The counts of a shelf.
-use Rattle.std.specs.Prelude.{ℕ, ◌≡◌, ◌≤◌, ◌<◌, ◌⊎◌, length}
+use Rattle.std.specs.Prelude.{ℕ, ◌≡◌, ◌≤◌, ◌<◌, length}
 use Rattle.nsi_disk.specs.ShelfCounts.{Raised}
 use Rattle.stp_topology.specs.declared.network.Network.{Network}
 use Rattle.agent_threads.specs.declared.fault.RunFault.{RunFault}
 
 abbrev pub HasRisen : ℕ → ℕ → Type 0
 HasRisen old new = (by : ℕ) × (0 < by) × Raised old by new
-
--- a call failed, or stopped a disk
-abbrev pub HasBroken : (f g s r : ℕ) → Type 0
-HasBroken f g s r = HasRisen f g ⊎ HasRisen s r
 
 -- no disk has stopped, as the count of a shelf says
 abbrev pub HasNoStop : (s r : ℕ) → Type 0
@@ -19,9 +15,9 @@ HasNoStop s r = (by : ℕ) → Raised s by r → by ≡ 0
 abbrev pub IsQuiet : (f g s r : ℕ) → Type 0
 IsQuiet f g s r = (s ≤ r) × Raised f 0 g
 
--- Why agents weren't begun: the disk of that agent failed or stopped, or for want of memory.
+-- Why agents weren't begun: the disk of that agent failed, or for want of memory.
 abbrev pub IsStartFault : ℕ → (f g s r : ℕ) → RunFault → Type 0
-IsStartFault most f g s r (RunFault.DiskFault a) = (a < most) × HasBroken f g s r × (s ≤ r)
+IsStartFault most f g s r (RunFault.DiskFault a) = (a < most) × HasRisen f g × (s ≤ r)
 IsStartFault most f g s r RunFault.NoMemory = (f ≤ g) × (s ≤ r)
 IsStartFault most f g s r _ = ⊥
 
@@ -30,9 +26,9 @@ pub record IsUnread (Told Shown : Type 0) (s r : ℕ) : Type 0 where
   pub untold : Told → ⊥
   pub restarts : HasNoStop s r → Shown → ⊥
 
--- Why a run has failed whose journals are told or aren't, and whose play is shown or isn't: the disk of an agent failed or stopped; or the
+-- Why a run has failed whose journals are told or aren't, and whose play is shown or isn't: the disk of an agent failed; or the
 -- journal of one has no reading.
 abbrev pub HasFaultOf : Network → (Told Shown : Type 0) → (f g s r : ℕ) → RunFault → Type 0
-HasFaultOf t Told Shown f g s r (RunFault.DiskFault a) = (a < length t.agents) × HasBroken f g s r
+HasFaultOf t Told Shown f g s r (RunFault.DiskFault a) = (a < length t.agents) × HasRisen f g
 HasFaultOf t Told Shown f g s r (RunFault.NotAJournal a place) = (a < length t.agents) × IsUnread Told Shown s r
 HasFaultOf t Told Shown f g s r _ = Unit {0}

@@ -7,7 +7,7 @@ ghost use Rattle.agent_node.specs.Openings.{others_of};
 ghost use Rattle.agent_node.specs.Kept.{AreEnds, plugs_of};
 ghost use Rattle.nsi_play.specs.Openings.{plans_of};
 ghost use Rattle.net_run.specs.Joints.{IsShutJoint, ArePlannable, AreJoined};
-ghost use Rattle.net_run.specs.Begun.{IsFresh, AreBegun, AreListed, AreOpened, fault_of, stops_of};
+ghost use Rattle.net_run.specs.Begun.{IsFresh, AreBegun, AreListed, AreOpened, fault_of, refusal_of, stops_of};
 ghost use Rattle.net_run.specs.Journals.{no_entries, AreEmpty};
 ghost use Rattle.net_run.specs.Shelves.{IsStartFault};
 
@@ -23,12 +23,25 @@ use nsi_script::{Script, StopLine};
 use std::alloc::{AllocError, Global};
 use stp_topology::Topology;
 
+/// Why an agent wasn't begun whose disk has failed.
 fn fault_of(agent: AgentNo, cause: StartCause) -> RunFault
     ensures { result ≡ fault_of agent cause }
 {
     match cause {
-        StartCause::DiskFault | StartCause::Stopped => RunFault::DiskFault(agent),
-        StartCause::NotAJournal { .. } | StartCause::NoMemory => RunFault::NoMemory,
+        StartCause::DiskFault => RunFault::DiskFault(agent),
+        StartCause::Stopped | StartCause::NotAJournal { .. } | StartCause::NoMemory => {
+            RunFault::NoMemory
+        }
+    }
+}
+
+/// Why a shelf gave no disk of an agent.
+fn refusal_of(agent: AgentNo, error: ShelfError) -> RunFault
+    ensures { result ≡ refusal_of agent error }
+{
+    match error {
+        ShelfError::Failed => RunFault::DiskFault(agent),
+        ShelfError::NoMemory => RunFault::NoMemory,
     }
 }
 
@@ -45,7 +58,8 @@ fn stops_of(alloc: Global, lines: &[StopLine], agent: AgentNo) -> Result<Vec<Sto
     Ok(stops)
 }
 
-/// Begins an agent on its disk.
+/// Begins an agent on its disk. Where the disk stops meanwhile it is begun again, until no stop is left; it tells how
+/// often.
 fn begin_one<'t, H: Shelf>(
     alloc: Global,
     topology: &'t Topology,
@@ -53,15 +67,15 @@ fn begin_one<'t, H: Shelf>(
     ends: (List<Outgoing>, List<Incoming>),
     planned: &[Stop],
     shelf: &mut H,
-) -> Result<Node<'t, DiskJournal<H::Disk>>, RunFault>
+) -> Result<(Node<'t, DiskJournal<H::Disk>>, u64), RunFault>
 where
     H::Disk: Drop,
     requires within { agent < length topology.now.agents }
     requires ends { AreEnds (others_of topology.now agent) ends.0 ends.1 }
-    ensures fresh { IfOk result (λ n. IsFresh topology.now agent ends.0
-        (plugs_of (others_of topology.now agent) ends.0 ends.1) n) }
-    ensures empty { IfOk result (λ n. IfSome (H.holds shelf.old (name_of topology.now agent))
-        (λ bytes. n.kept ≡ Some no_entries)) }
+    ensures fresh { IfOk result (λ r. IsFresh topology.now agent ends.0
+        (plugs_of (others_of topology.now agent) ends.0 ends.1) (length planned.now) r.1 r.0) }
+    ensures empty { IfOk result (λ r. IfSome (H.holds shelf.old (name_of topology.now agent))
+        (λ bytes. r.0.kept ≡ Some no_entries)) }
     ensures holds { OnOk result ((n : List ℕ) → H.holds shelf.new n ≡ H.holds shelf.old n) }
     ensures listed { OnOk result (H.listed shelf.new (name_of topology.now agent) ≡ true) }
     ensures stays { (n : List ℕ) → H.listed shelf.old n ≡ true → H.listed shelf.new n ≡ true }
@@ -71,39 +85,51 @@ where
         (H.faults shelf.old) (H.faults shelf.new) (H.stops shelf.old) (H.stops shelf.new)) }
 {
     let name = topology.name(agent);
-    let (outgoing, incoming) = ends;
-    match shelf.fetch(alloc, name, planned) {
-        Ok(disk) => match Node::fresh(alloc, topology, agent, disk, outgoing, incoming) {
-            Ok(node) => Ok(node),
-            Err(fault) => {
-                let cause = fault_of(agent, fault.cause);
-                shelf.give_back(name, fault.disk);
-                Err(cause)
-            }
-        },
-        Err(ShelfError::Failed) => Err(RunFault::DiskFault(agent)),
-        Err(ShelfError::NoMemory) => Err(RunFault::NoMemory),
+    let mut disk = match shelf.fetch(alloc, name, planned) {
+        Ok(disk) => disk,
+        Err(error) => return Err(refusal_of(agent, error)),
+    };
+    let (mut outgoing, mut incoming) = ends;
+    let mut tries: u64 = 0;
+    loop {
+        let stopped = match Node::fresh(alloc, topology, agent, disk, outgoing, incoming) {
+            Ok(node) => return Ok((node, tries)),
+            Err(fault) => fault,
+        };
+        if stopped.cause != StartCause::Stopped {
+            let cause = fault_of(agent, stopped.cause);
+            shelf.give_back(name, stopped.disk);
+            return Err(cause);
+        }
+        disk = match shelf.fetch_again(alloc, name, stopped.disk) {
+            Ok(disk) => disk,
+            Err(error) => return Err(refusal_of(agent, error)),
+        };
+        outgoing = stopped.outgoing;
+        incoming = stopped.incoming;
+        tries = tries.saturating_add(1);
     }
 }
 
-/// Begins each agent of a topology, and puts it behind.
+/// Begins each agent of a topology, and puts it behind. It gives how often each one's disk stopped.
 fn begin_all<'t, H: Shelf>(
     alloc: Global,
     topology: &'t Topology,
     joints: Vec<Joint>,
     nodes: &mut Vec<Node<'t, DiskJournal<H::Disk>>>,
-    stops: &[StopLine],
+    lines: &[StopLine],
     shelf: &mut H,
-) -> Result<(), RunFault>
+) -> Result<Vec<u64>, RunFault>
 where
     H::Disk: Drop,
     requires none { nodes.old.items ≡ [] }
     requires shut { All IsShutJoint joints.items }
     requires planned { ArePlannable joints.items }
     requires joined { AreJoined topology.now (length topology.now.agents) joints.items }
-    ensures begun { AreBegun topology.now joints.items 0 nodes.new.items }
+    ensures begun { IfOk result (λ tries.
+        AreBegun topology.now joints.items lines.now 0 tries.items nodes.new.items) }
     ensures few { length nodes.new.items ≤ length topology.now.agents }
-    ensures all { OnOk result (length nodes.new.items ≡ length topology.now.agents) }
+    ensures all { IfOk result (λ tries. length tries.items ≡ length topology.now.agents) }
     ensures empty { OnOk result (AreEmpty topology.now (H.holds shelf.old) nodes.new.items) }
     ensures listed { AreListed (H.listed shelf.new) topology.now nodes.new.items }
     ensures faults { OnOk result (H.faults shelf.new ≡ H.faults shelf.old) }
@@ -112,6 +138,7 @@ where
         (H.faults shelf.old) (H.faults shelf.new) (H.stops shelf.old) (H.stops shelf.new)) }
 {
     nodes.reserve(topology.agents())?;
+    let mut tries = Vec::with_capacity(alloc, topology.agents())?;
     let mut left = joints;
     for place in 0..topology.agents() {
         let agent = agent_at(place);
@@ -121,8 +148,8 @@ where
             incoming,
             rest,
         } = own;
-        let planned = stops_of(alloc, stops, agent)?;
-        let node = begin_one(
+        let planned = stops_of(alloc, lines, agent)?;
+        let (node, stopped) = begin_one(
             alloc,
             topology,
             agent,
@@ -131,27 +158,28 @@ where
             shelf,
         )?;
         nodes.push_reserved(node);
+        tries.push_reserved(stopped);
         left = rest;
     }
-    Ok(())
+    Ok(tries)
 }
 
 /// Begins the agents of a topology, each on the disk of its name, which is emptied, and joins them by links. The
-/// script plans what of these is lost and what comes twice, and where the disks stop. On a fault each disk that was
-/// fetched is given back.
+/// script plans what of these is lost and what comes twice, and where the disks stop. It gives them with how often each
+/// one's disk stopped while its journal was made. On a fault each disk that was fetched is given back.
 pub fn open_net<'t, H: Shelf>(
     alloc: Global,
     topology: &'t Topology,
     script: &Script,
     shelf: &mut H,
-) -> Result<Vec<Node<'t, DiskJournal<H::Disk>>>, RunFault>
+) -> Result<(Vec<Node<'t, DiskJournal<H::Disk>>>, Vec<u64>), RunFault>
 where
     H::Disk: Drop,
-    ensures opened { IfOk result
-        (λ nodes. AreOpened topology.now (plans_of script.now.lose) nodes.items) }
-    ensures empty { IfOk result (λ nodes. AreEmpty topology.now (H.holds shelf.old) nodes.items) }
+    ensures opened { IfOk result (λ r. AreOpened topology.now (plans_of script.now.lose)
+        script.now.stops r.1.items r.0.items) }
+    ensures empty { IfOk result (λ r. AreEmpty topology.now (H.holds shelf.old) r.0.items) }
     ensures listed { IfOk result
-        (λ nodes. AreListed (H.listed shelf.new) topology.now nodes.items) }
+        (λ r. AreListed (H.listed shelf.new) topology.now r.0.items) }
     ensures faults { OnOk result (H.faults shelf.new ≡ H.faults shelf.old) }
     ensures stops { OnOk result (H.stops shelf.new ≡ H.stops shelf.old) }
     ensures cause { IfErr result (IsStartFault (length topology.now.agents)
@@ -167,7 +195,7 @@ where
         script.stops.items(),
         shelf,
     ) {
-        Ok(()) => Ok(nodes),
+        Ok(tries) => Ok((nodes, tries)),
         Err(fault) => {
             close_net(nodes, topology, shelf);
             Err(fault)

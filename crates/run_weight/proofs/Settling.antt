@@ -14,9 +14,9 @@ use Rattle.agent_node.specs.Openings.{agents}
 use Rattle.nsi_play.specs.Openings.{Plans}
 use Rattle.nsi_play.specs.Play.{Played}
 use Rattle.stopped_play.specs.Tapes.{Stops, calm_stops}
-use Rattle.stopped_play.specs.Counts.{restarts_in}
+use Rattle.stopped_play.specs.Counts.{restarts_in, all_stops}
 use Rattle.stopped_play.specs.Laws.{played}
-use Rattle.due_events.specs.Counts.{act_worth, is_forcing, is_restarting, script_forces, script_restarts, all_stops}
+use Rattle.due_events.specs.Counts.{act_worth, is_forcing, is_restarting, script_forces, script_restarts}
 use Rattle.due_events.specs.Laws.{PlaysAreScripted, PlaysAreShort, RunsCauseNoMore}
 use Rattle.due_events.proofs.CalmPlays.{calm_is, none_stops}
 use Rattle.run_changes.specs.Laws.{MessagesAreFew}

@@ -14,9 +14,9 @@ use Rattle.agent_node.specs.Openings.{agents}
 use Rattle.nsi_play.specs.Openings.{Plans, opening}
 use Rattle.nsi_play.specs.Play.{plays, PassesFrom}
 use Rattle.stopped_play.specs.Tapes.{Stops}
-use Rattle.stopped_play.specs.Counts.{restarts_in}
+use Rattle.stopped_play.specs.Counts.{restarts_in, all_stops}
 use Rattle.stopped_play.specs.Laws.{played}
-use Rattle.due_events.specs.Counts.{script_restarts, all_stops}
+use Rattle.due_events.specs.Counts.{script_restarts}
 use Rattle.run_weight.specs.Weight.{weight}
 
 -- these groups are played in a topology that a text gives, over these legs

@@ -53,15 +53,15 @@ settled_end homes x events y s q =
 
 ---- Acts
 
-pub acted_none : (homes : Homes) (todo : List Act) (count : ℕ) (x : Net) → IsActedBy homes todo count x [] todo count x
+abbrev pub acted_none : (homes : Homes) (todo : List Act) (count : ℕ) (x : Net) → IsActedBy homes todo count x [] todo count x
 acted_none homes todo count x = record { tries = []; goes = λ rest. refl }
 
-act_first : (a : Act) (left : List Act) (tries : ℕ) (rest : List ℕ) (count : ℕ) (homes : Homes) (y : Net) → acts_by (a ∷ left) (tries ∷ rest) count homes y ≡ after_round (acted_by a tries count homes y) (acts_by left rest (count + asks_in a) homes)
+pub act_first : (a : Act) (left : List Act) (tries : ℕ) (rest : List ℕ) (count : ℕ) (homes : Homes) (y : Net) → acts_by (a ∷ left) (tries ∷ rest) count homes y ≡ after_round (acted_by a tries count homes y) (acts_by left rest (count + asks_in a) homes)
 unfolding acts_by
 act_first a left tries rest count homes y = refl
 
 -- an act more, whose disk stopped so often while it was read
-pub acted_more : (homes : Homes) (todo : List Act) (count : ℕ) (x : Net) (events : List Event) (a : Act) (left : List Act) (next : ℕ) (y : Net) (tries : ℕ) → IsActedBy homes todo count x events (a ∷ left) next y
+abbrev pub acted_more : (homes : Homes) (todo : List Act) (count : ℕ) (x : Net) (events : List Event) (a : Act) (left : List Act) (next : ℕ) (y : Net) (tries : ℕ) → IsActedBy homes todo count x events (a ∷ left) next y
     → IsActedBy homes todo count x (events ++ events_of (acted_by a tries next homes y)) left (next + asks_in a) (emptied (acted_by a tries next homes y))
 acted_more homes todo count x events a left next y tries s =
     let z : Net = acted_by a tries next homes y in
@@ -92,7 +92,7 @@ begun_by homes g count x events next y s rounds =
     begins_by_is (record { acts = s.tries; rounds = rounds }) g count homes x ∙ ap (behind (events_of z)) (acted_end homes g.acts count (emptied z) events next y s)
 
 -- a group whose ticks and acts were made, and whose rounds have come to an end
-pub group_over : (homes : Homes) (g : Group) (count : ℕ) (x : Net) (acted : List Event) (next : ℕ) (y : Net) (settled : List Event) (z : Net) → IsActedBy homes g.acts count (emptied (map (ticked_in g.at homes) x)) acted [] next y
+abbrev pub group_over : (homes : Homes) (g : Group) (count : ℕ) (x : Net) (acted : List Event) (next : ℕ) (y : Net) (settled : List Event) (z : Net) → IsActedBy homes g.acts count (emptied (map (ticked_in g.at homes) x)) acted [] next y
     → IsSettledBy homes y settled z → all_quiet homes z ≡ true → IsGroupOver homes g count x ((events_of (map (ticked_in g.at homes) x) ++ acted) ++ settled) z
 group_over homes g count x acted next y settled z a s q =
     let tape : Tape = record { acts = a.tries; rounds = s.rounds } in
@@ -137,7 +137,7 @@ played_all homes script start events next now making p =
 ---- Too many events
 
 -- where the ticks and acts pass the limit, the group does
-pub begins_passes : (homes : Homes) (g : Group) (count : ℕ) (x : Net) (acted : List Event) (left : List Act) (next : ℕ) (y : Net) (limit before : ℕ) → IsActedBy homes g.acts count (emptied (map (ticked_in g.at homes) x)) acted left next y
+abbrev pub begins_passes : (homes : Homes) (g : Group) (count : ℕ) (x : Net) (acted : List Event) (left : List Act) (next : ℕ) (y : Net) (limit before : ℕ) → IsActedBy homes g.acts count (emptied (map (ticked_in g.at homes) x)) acted left next y
     → limit < before + length (events_of (map (ticked_in g.at homes) x) ++ acted) → GroupPasses limit before homes g count x
 begins_passes homes g count x acted left next y limit before a long =
     let z : Net = map (ticked_in g.at homes) x in

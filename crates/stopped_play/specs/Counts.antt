@@ -1,8 +1,8 @@
 -- How many restarts there are, and how many stops made them.
-use Rattle.std.specs.Prelude.{ℕ, ◌+◌, ◌==◌, List, [], ◌∷◌, sum, if◌then◌else◌, Option, Some, None}
+use Rattle.std.specs.Prelude.{ℕ, ◌+◌, ◌==◌, List, [], ◌∷◌, sum, sum_by, if◌then◌else◌, Option, Some, None}
 use Rattle.nsi_primitive.specs.declared.entry.Event.{Event}
 use Rattle.nsi_primitive.specs.declared.entry.Happening.{Happening}
-use Rattle.stopped_play.specs.Tapes.{Cut, Cuts, Tape}
+use Rattle.stopped_play.specs.Tapes.{Cut, Cuts, Tape, Stops}
 
 abbrev pub one_restart : Happening → ℕ
 one_restart (Happening.Restart count) = 1
@@ -36,6 +36,10 @@ tape_stops agents tape = sum tape.acts + round_stops agents tape.rounds
 abbrev pub play_stops : (agents : List ℕ) → List Tape → ℕ
 play_stops agents [] = 0
 play_stops agents (tape ∷ rest) = tape_stops agents tape + play_stops agents rest
+
+-- and in a whole play: while journals were first made, and in its groups
+abbrev pub all_stops : (agents : List ℕ) → Stops → ℕ
+all_stops agents stops = sum_by stops.making agents + play_stops agents stops.groups
 
 -- cuts that are told one by one, the first of each agent
 abbrev pub cuts_of : List (ℕ × Cut) → Cuts

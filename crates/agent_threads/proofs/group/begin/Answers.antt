@@ -1,8 +1,8 @@
-use Rattle.std.proofs.Common.{◌≡◌, ◌<◌, ◌+◌, ◌∙◌, [], ◌∷◌, sym, refl, ap, subst, arith, length, drop, get_or, map, List}
+use Rattle.std.proofs.Common.{ℕ, inl, ◌≡◌, ◌<◌, ◌+◌, ◌∙◌, [], ◌∷◌, sym, refl, ap, subst, arith, length, drop, get_or, map, List}
 use Rattle.nsi_agent.specs.Homes.{home_in}
 use Rattle.nsi_primitive.specs.declared.entry.Event.{Event}
 use Rattle.nsi_script.specs.declared.script.Act.{Act}
-use Rattle.nsi_play.specs.Play.{behind, acts, asks_in, acted, ticked_in}
+use Rattle.nsi_play.specs.Play.{asks_in, ticked_in}
 use Rattle.agent_threads.specs.Nets.{seats_by}
 use Rattle.agent_threads.specs.Coming.{IsTold}
 use Rattle.agent_threads.specs.Promise.{CanBeDone, Shows}
@@ -13,7 +13,10 @@ use Rattle.agent_threads.proofs.Left.{left_same, left_unstopped, left_twice}
 use Rattle.std.proofs.lemmas.Result.{err_from_is_err_and}
 use Rattle.agent_threads.specs.declared.fault.RunFault.{RunFault}
 use Rattle.agent_threads.specs.Made.{counted, HasRunCause}
-use Rattle.agent_threads.proofs.Coming.{acts_first, acts_next, acts_end, acts_longer, asks_next, asks_end}
+use Rattle.agent_threads.proofs.Acting.{ActsGo, acts_go_first, acts_go_more, acts_go_end, acts_go_past}
+use Rattle.agent_threads.proofs.Coming.{asks_next, asks_end}
+use Rattle.agent_threads.proofs.Stepping.{none_before}
+use Rattle.agent_threads.specs.Stopping.{stops_among, more_stops, NoneStopped, IsDone}
 use Rattle.agent_threads.proofs.Told.{act_at, shown_one}
 use Rattle.agent_threads.proofs.Leaves.{leaves_then}
 use Rattle.agent_threads.proofs.Going.{room_less, room_after, go_count}
@@ -30,7 +33,8 @@ tick-requires-clause-few g c = room_less (c.args.start.room + 1) 1 c.args.nodes.
 pub loop-action-init : goal.loop-action-init
 loop-action-init g c = record {
   way = λ t o routes r b v shows.
-      acts_first (home_in t routes) c.tick.new.events.items c.args.group.now c.args.start.number (seats_by b c.args.nodes.now.items) (seats_by b c.tick.new.nodes.items)
+      acts_go_first (home_in t routes) b (NoneStopped c.args.nodes.now.items c.tick.new.nodes.items c.args.events.now.items c.tick.new.events.items) (more_stops c.args.nodes.now.items c.tick.new.nodes.items) c.args.group.now c.args.start.number
+      (seats_by b c.args.nodes.now.items) c.tick.new.events.items (seats_by b c.tick.new.nodes.items)
       (subst (λ (es : List Event). IsTold (map (ticked_in c.args.group.now.at (home_in t routes)) (seats_by b c.args.nodes.now.items)) es c.tick.new.events.items (seats_by b c.tick.new.nodes.items)) c.requires.none (c.in_ok-tick.ensures.ok t o routes r b v));
   asks = refl;
   leaves = c.in_ok-tick.ensures.leaves;
@@ -88,10 +92,20 @@ loop-action-preserved g c =
           let now = still_of t c.args.nodes.now.items l.nodes.items l.invariant.leaves.same o in
           let u = still_seen t c.args.nodes.now.items l.nodes.items l.invariant.leaves.owned o routes r b v in
           let shown : Shows b d = subst (λ (a : Act). Shows b a) (sym is) (shows l.action-index d here) in
-          let one = subst (λ (a : Act). IsTold (acted a l.next (home_in t routes) (seats_by b l.nodes.items)) l.events.items c.act.new.events.items (seats_by b c.act.new.nodes.items)) is (c.in_ok-act.ensures.ok t now routes r b u shown) in
-          ap (λ n. behind c.act.new.events.items (acts (drop (l.action-index + 1) todo) n (home_in t routes) (seats_by b c.act.new.nodes.items))) later
-          ∙ (acts_next (home_in t routes) l.events.items c.act.new.events.items todo l.action-index l.next d (seats_by b l.nodes.items) (seats_by b c.act.new.nodes.items) here one
-          ∙ l.invariant.way t o routes r b v shows);
+          let olds = c.args.nodes.now.items in
+          let mids = l.nodes.items in
+          let news = c.act.new.nodes.items in
+          let before = c.args.events.now.items in
+          let homes = home_in t routes in
+          let Calm : Type 0 = NoneStopped olds mids before l.events.items in
+          let Here : Type 0 = NoneStopped mids news l.events.items c.act.new.events.items in
+          let Later : Type 0 = NoneStopped olds news before c.act.new.events.items in
+          let one = subst (λ (a : Act). IsDone homes b Here (more_stops mids news) a l.next (seats_by b mids) l.events.items c.act.new.events.items (seats_by b news)) is (c.in_ok-act.ensures.ok t now routes r b u shown) in
+          let split : Later → Calm × Here = λ none. none_before c.args.group.now.at olds mids news before l.events.items c.act.new.events.items l.invariant.leaves c.in_ok-act.ensures.leaves none in
+          subst (λ (n : ℕ). ActsGo homes b Later (more_stops olds news) c.args.group.now c.args.start.number (seats_by b olds) c.act.new.events.items (drop (l.action-index + 1) todo) n (seats_by b news)) (sym later)
+          (acts_go_more homes b Calm Here Later (more_stops olds mids) (more_stops mids news) (more_stops olds news) split
+          (let up = stops_up olds mids l.invariant.leaves.same in let more = stops_up mids news c.in_ok-act.ensures.leaves.same in omega (arith, up, more)) c.args.group.now c.args.start.number (seats_by b olds)
+          l.events.items c.act.new.events.items l.action-index d l.next (seats_by b mids) (seats_by b news) here (l.invariant.way t o routes r b v shows) one);
       asks = omega (arith, later, asks_next todo l.action-index d here, l.invariant.asks);
       leaves = leaves_then c.args.group.now.at c.args.nodes.now.items l.nodes.items c.act.new.nodes.items c.args.events.now.items l.events.items c.act.new.events.items l.invariant.leaves c.in_ok-act.ensures.leaves;
       stays = λ n h. c.in_ok-act.ensures.stays n (l.invariant.stays n h);
@@ -102,8 +116,12 @@ loop-action-preserved g c =
 pub returns-clause-ok : goal.returns-clause-ok
 returns-clause-ok g c = λ t o routes r b v shows.
     let l = c.loop-action in
-    acts_end (home_in t routes) l.events.items c.args.group.now c.args.start.number l.next (seats_by b c.args.nodes.now.items) (seats_by b l.nodes.items) l.action-index
-    (omega (arith, c.loop-action-test.false, ap length c.items-action-items.ensures)) (l.invariant.way t o routes r b v shows)
+    let olds = c.args.nodes.now.items in
+    let homes = home_in t routes in
+    let way = subst (λ (es : List Event). ActsGo homes b (NoneStopped olds l.nodes.items es l.events.items) (more_stops olds l.nodes.items) c.args.group.now c.args.start.number (seats_by b olds) l.events.items (drop l.action-index c.args.group.now.acts)
+    l.next (seats_by b l.nodes.items)) c.requires.none (l.invariant.way t o routes r b v shows) in
+    acts_go_end homes b (NoneStopped olds l.nodes.items [] l.events.items) (more_stops olds l.nodes.items) c.args.group.now c.args.start.number (seats_by b olds) l.events.items l.action-index l.next (seats_by b l.nodes.items)
+    (omega (arith, c.loop-action-test.false, ap length c.items-action-items.ensures)) way
 
 pub returns-clause-next : goal.returns-clause-next
 returns-clause-next g c =
@@ -183,8 +201,9 @@ returns-then-len-start-2-clause-rises g c = λ h. stops_up c.args.nodes.now.item
 pub returns-then-len-start-clause-long : goal.returns-then-len-start-clause-long
 returns-then-len-start-clause-long g c = λ t o routes r b v shows h.
     let l = c.loop-action in
-    acts_longer (home_in t routes) l.events.items c.args.group.now c.args.start.number l.next (seats_by b c.args.nodes.now.items) (drop l.action-index c.args.group.now.acts) (seats_by b l.nodes.items) c.args.start.room (l.invariant.way t o routes r b v shows)
-    (omega (arith, c.if-len-start.true))
+    let olds = c.args.nodes.now.items in
+    acts_go_past (home_in t routes) b (NoneStopped olds l.nodes.items c.args.events.now.items l.events.items) (stops_among l.nodes.items ≡ stops_among olds) (more_stops olds l.nodes.items) c.args.start.room (λ same. inl same) c.args.group.now c.args.start.number
+    (seats_by b olds) l.events.items (drop l.action-index c.args.group.now.acts) l.next (seats_by b l.nodes.items) (l.invariant.way t o routes r b v shows) (omega (arith, c.if-len-start.true))
 
 pub returns-then-len-start-clause-shelf : goal.returns-then-len-start-clause-shelf
 returns-then-len-start-clause-shelf g c = shelf_still _ _ _ c.loop-action.invariant.faults c.loop-action.invariant.stops
@@ -192,8 +211,9 @@ returns-then-len-start-clause-shelf g c = shelf_still _ _ _ c.loop-action.invari
 pub returns-then-len-start-2-clause-long : goal.returns-then-len-start-2-clause-long
 returns-then-len-start-2-clause-long g c = λ t o routes r b v shows h.
     let l = c.loop-action in
-    acts_longer (home_in t routes) l.events.items c.args.group.now c.args.start.number l.next (seats_by b c.args.nodes.now.items) (drop l.action-index c.args.group.now.acts) (seats_by b l.nodes.items) c.args.start.room (l.invariant.way t o routes r b v shows)
-    (omega (arith, c.if-len-start-2.true))
+    let olds = c.args.nodes.now.items in
+    acts_go_past (home_in t routes) b (NoneStopped olds l.nodes.items c.args.events.now.items l.events.items) (stops_among l.nodes.items ≡ stops_among olds) (more_stops olds l.nodes.items) c.args.start.room (λ same. inl same) c.args.group.now c.args.start.number
+    (seats_by b olds) l.events.items (drop l.action-index c.args.group.now.acts) l.next (seats_by b l.nodes.items) (l.invariant.way t o routes r b v shows) (omega (arith, c.if-len-start-2.true))
 
 pub returns-then-len-start-2-clause-shelf : goal.returns-then-len-start-2-clause-shelf
 returns-then-len-start-2-clause-shelf g c = shelf_still _ _ _ c.loop-action.invariant.faults c.loop-action.invariant.stops

@@ -1,10 +1,11 @@
-use Rattle.std.proofs.Common.{true, refl}
+use Rattle.std.proofs.Common.{true, refl, arith}
 use Rattle.nsi_agent.specs.Homes.{home_in}
+use Rattle.stopped_play.specs.Counts.{cuts_of}
 use Rattle.stopped_play.specs.Rounds.{reopens}
 use Rattle.agent_threads.specs.Stopping.{seats_before}
 use Rattle.agent_threads.proofs.Same.{links_same, same_twice, still_of}
 use Rattle.agent_threads.proofs.Draining.{drained_net, drained_same, drained_told, is_told}
-use Rattle.agent_threads.proofs.Emptying.{emptied_seats, emptied_drained}
+use Rattle.agent_threads.proofs.Emptying.{emptied_seats, emptied_stops, emptied_drained}
 use Rattle.agent_threads.proofs.Showing.{reopened_shows}
 use Rattle.agent_threads.proofs.Owning.{drained_owned}
 use Rattle.agent_threads.proofs.Going.{go_on}
@@ -18,11 +19,15 @@ pub returns-clause-ok : goal.returns-clause-ok
 returns-clause-ok g c = λ t o routes r w.
     let mids = c.restart_stopped.new.nodes.items in
     let by = restarts_by_cuts c.args.nodes.now.items mids c.in_ok-restart_stopped.ensures.done c.requires.halted t o routes r w in
-    let d = emptied_drained mids c.drain.new.nodes.items c.in_ok-drain.ensures.made (stopped_usable c.args.nodes.now.items mids c.in_ok-restart_stopped.ensures.done) in (
-      by.0,
-      by.1,
-      is_told true (reopens by.0 (home_in t routes) (seats_before c.args.nodes.now.items)) mids c.drain.new.nodes.items c.args.events.now.items c.drain.new.events.items by.2 d c.in_ok-drain.ensures.events,
-    )
+    let news = c.drain.new.nodes.items in
+    let d = emptied_drained mids news c.in_ok-drain.ensures.made (stopped_usable c.args.nodes.now.items mids c.in_ok-restart_stopped.ensures.done) in
+    let cuts = cuts_of by.cuts in
+    record {
+      cuts = cuts;
+      agrees = by.agrees;
+      few = let few = by.few in omega (arith, few, emptied_stops mids news c.in_ok-drain.ensures.made);
+      told = is_told true (reopens cuts (home_in t routes) (seats_before c.args.nodes.now.items)) mids news c.args.events.now.items c.drain.new.events.items by.is d c.in_ok-drain.ensures.events;
+    }
 
 pub returns-clause-net : goal.returns-clause-net
 returns-clause-net g c =

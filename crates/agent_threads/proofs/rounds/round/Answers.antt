@@ -4,7 +4,7 @@ use Rattle.nsi_agent.specs.Homes.{home_in}
 use Rattle.nsi_play.specs.Rounds.{met_all}
 use Rattle.agent_threads.specs.declared.fault.RoundFault.{RoundFault}
 use Rattle.agent_threads.specs.Nets.{seats_by}
-use Rattle.agent_threads.specs.Made.{first_failure, first_stop}
+use Rattle.agent_threads.specs.Made.{first_failure, first_stop, stops_in}
 use Rattle.agent_threads.proofs.Same.{links_same, still_of, still_apart, still_wired, same_twice, stays_same, stays_usable, same_agents_twice, stays_agents}
 use Rattle.agent_threads.proofs.Turning.{turns_agents, turns_long, turns_disk, turns_stopped, all_usable, failure_is_no_stop, is_a_stop, failures_met, stops_met, risen_met, failure_first, stop_first, same_err, events_round, met_round}
 use Rattle.agent_threads.proofs.Stopping.{may_go, halts_links, halts_owned, halts_move, round_halts, met_may_go, met_were_owned}
@@ -72,7 +72,7 @@ returns-in-Some-first_stop-clause-disk g c = λ a h. absurd (is_a_stop c.meet_al
 pub returns-in-Some-first_stop-clause-stopped : goal.returns-in-Some-first_stop-clause-stopped
 returns-in-Some-first_stop-clause-stopped g c = λ a h.
     let f : first_stop c.turn_all.new.nodes.items ≡ Some (RoundFault.Stopped a) = sym (stops_met c.turn_all.new.nodes.items c.meet_all.new.nodes.items c.meet_all.ensures.each) ∙ (ap first_stop (sym c.deref-2.ensures.value) ∙ (sym c.first_stop.ensures ∙ c.in-Some-first_stop.is) ∙ same_err (Err c.in-Some-first_stop.stop) refl h) in
-    risen_met a c.args.nodes.now.items c.turn_all.new.nodes.items c.meet_all.new.nodes.items c.meet_all.ensures.each (turns_stopped c.args.room a c.args.nodes.now.items c.turn_all.new.nodes.items c.turn_all.ensures f)
+    risen_met stops_in a c.args.nodes.now.items c.turn_all.new.nodes.items c.meet_all.new.nodes.items c.meet_all.ensures.each (turns_stopped c.args.room a c.args.nodes.now.items c.turn_all.new.nodes.items c.turn_all.ensures f)
 
 pub returns-in-Some-first_stop-clause-halts : goal.returns-in-Some-first_stop-clause-halts
 returns-in-Some-first_stop-clause-halts g c = λ t o routes r w s cuts agrees.

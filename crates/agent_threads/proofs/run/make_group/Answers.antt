@@ -1,14 +1,12 @@
-use Rattle.std.proofs.Common.{ℕ, ◌≡◌, ◌+◌, ◌-◌, ◌++◌, ◌∙◌, sym, ap, subst, arith, length, List, [], Err, refl}
+use Rattle.std.proofs.Common.{◌≡◌, ◌+◌, ◌-◌, ◌∙◌, sym, ap, subst, arith, length, List, [], Err, inl, refl}
 use Rattle.std.proofs.lemmas.Result.{err_from_is_err_and}
 use Rattle.nsi_primitive.specs.declared.entry.Event.{Event}
 use Rattle.nsi_agent.specs.Homes.{home_in}
-use Rattle.nsi_play.specs.Rounds.{Net}
-use Rattle.nsi_play.specs.Play.{begins}
 use Rattle.agent_threads.specs.declared.fault.RunFault.{RunFault}
-use Rattle.agent_threads.specs.Nets.{seats_by, numbers}
+use Rattle.agent_threads.specs.Nets.{seats_by}
 use Rattle.agent_threads.specs.Bounds.{AreOfOne}
 use Rattle.agent_threads.specs.Made.{counted, HasSettleCause}
-use Rattle.agent_threads.specs.Stopping.{stops_among, more_stops, NoneStopped, AreSettled, Overrun, IsOver}
+use Rattle.agent_threads.specs.Stopping.{stops_among, more_stops, NoneStopped, IsOver}
 use Rattle.agent_threads.proofs.Same.{still_of, stops_up}
 use Rattle.agent_threads.proofs.Owning.{still_seen}
 use Rattle.agent_threads.proofs.Stepping.{none_before, numbers_by}
@@ -24,8 +22,8 @@ use Rattle.agent_threads.proofs.run.make_group.Goals as goal
 pub returns-in_err-next-clause-long : goal.returns-in_err-next-clause-long
 returns-in_err-next-clause-long g c = λ t o routes r b v shows h.
     let p = err_from_is_err_and c.from_residual.result c.from_residual.ensures.1 in
-    begun_passes (home_in t routes) b _ _ c.args.group.now c.args.start.number (seats_by b c.args.nodes.now.items) c.args.start.room
-    (c.in_err-next.ensures.long t o routes r b v shows (ap (λ e. Err e) (same_error c.from_residual.result p.0 c.in_err-next.field-0.0 _ p.1 p.2 h)))
+    begun_passes (home_in t routes) b (stops_among c.begin.new.nodes.items ≡ stops_among c.args.nodes.now.items) (more_stops c.args.nodes.now.items c.begin.new.nodes.items) c.args.group.now c.args.start.number (seats_by b c.args.nodes.now.items)
+    c.args.start.room (c.in_err-next.ensures.long t o routes r b v shows (ap (λ e. Err e) (same_error c.from_residual.result p.0 c.in_err-next.field-0.0 _ p.1 p.2 h)))
 
 pub returns-in_err-next-clause-rises : goal.returns-in_err-next-clause-rises
 returns-in_err-next-clause-rises g c = λ h.
@@ -70,13 +68,17 @@ returns-clause-ok g c = λ t o routes r b v shows.
     let s = c.in_ok-settle.ensures.ok t now routes r b u in
     let Calm : Type 0 = NoneStopped mids news c.begin.new.events.items c.settle.new.events.items in
     let Later : Type 0 = NoneStopped olds news [] c.settle.new.events.items in
+    let first = c.begin.new.events.items in
+    let Here : Type 0 = NoneStopped olds mids [] first in
     let same = c.in_ok-next.ensures.leaves.same in
     let up = stops_up olds mids same in
-    let settled : AreSettled homes b Calm (more_stops mids news) (begins c.args.group.now c.args.start.number homes x).net s.0 y = subst (λ (z : Net). AreSettled homes b Calm (more_stops mids news) z s.0 y) begun.rest s.2 in
-    let later : Later → Calm = λ none. (none_before c.args.group.now.at olds mids news c.args.events.now.items c.begin.new.events.items c.settle.new.events.items c.in_ok-next.ensures.leaves c.in_ok-settle.ensures.leaves
-    (subst (λ (es : List Event). NoneStopped olds news es c.settle.new.events.items) (sym c.requires.none) none)).1 in
-    subst (λ (es : List Event). IsOver homes b Later (more_stops olds news) c.args.group.now c.args.start.number x es y) (sym (s.1 ∙ ap (λ es. es ++ s.0) begun.told))
-    (are_over homes b Calm Later (more_stops mids news) (more_stops olds news) later (omega (arith, up)) c.args.group.now c.args.start.number x s.0 y (ap numbers (sym begun.rest) ∙ numbers_by b olds mids same) settled s.3)
+    let more = stops_up mids news c.in_ok-settle.ensures.leaves.same in
+    let later : Later → Here × Calm = λ none.
+    let both = none_before c.args.group.now.at olds mids news c.args.events.now.items first c.settle.new.events.items c.in_ok-next.ensures.leaves c.in_ok-settle.ensures.leaves
+    (subst (λ (es : List Event). NoneStopped olds news es c.settle.new.events.items) (sym c.requires.none) none) in
+    (subst (λ (es : List Event). NoneStopped olds mids es first) c.requires.none both.0, both.1) in
+    subst (λ (es : List Event). IsOver homes b Later (more_stops olds news) c.args.group.now c.args.start.number x es y) (sym s.1)
+    (are_over homes b Here Calm Later (more_stops olds mids) (more_stops mids news) (more_stops olds news) later (omega (arith, up, more)) c.args.group.now c.args.start.number x first (seats_by b mids) s.0 y (numbers_by b olds mids same) begun s.2 s.3)
 
 pub returns-clause-leaves : goal.returns-clause-leaves
 returns-clause-leaves g c =
@@ -148,14 +150,14 @@ returns-in_err-settle-clause-long g c = λ t o routes r b v shows h.
     let is_long = ap (λ e. Err e) (same_error c.from_residual-in_err-settle.result p.0 c.in_err-settle.field-0.0 _ p.1 p.2 h) in
     let long = c.in_err-settle.ensures.long t now routes r b u is_long in
     let up = c.in_err-settle.ensures.rises is_long in
-    let made = begins c.args.group.now c.args.start.number homes x in
+    let first = c.begin.new.events.items in
+    let Here : Type 0 = NoneStopped olds mids [] first in
     let Calm : Type 0 = stops_among news ≡ stops_among mids in
+    let Later : Type 0 = stops_among news ≡ stops_among olds in
     let same = c.in_ok-next.ensures.leaves.same in
     let before = stops_up olds mids same in
-    let passed : Overrun homes b Calm (more_stops mids news) made.net (length made.events) c.args.start.room =
-    subst (λ (z : Net). Overrun homes b Calm (more_stops mids news) z (length made.events) c.args.start.room) begun.rest
-    (subst (λ (n : ℕ). Overrun homes b Calm (more_stops mids news) (seats_by b mids) n c.args.start.room) (ap length begun.told) long) in
-    group_overruns homes b Calm (stops_among news ≡ stops_among olds) (more_stops mids news) (more_stops olds news) (λ e. (same_split olds mids news same up e).1) (omega (arith, before)) c.args.group.now c.args.start.number x c.args.start.room (ap numbers (sym begun.rest) ∙ numbers_by b olds mids same) passed
+    let later : Later → Here × Calm = λ e. let both = same_split olds mids news same up e in (inl both.0, both.1) in
+    group_overruns homes b Here Calm Later (more_stops olds mids) (more_stops mids news) (more_stops olds news) later (omega (arith, before, up)) c.args.group.now c.args.start.number x first (seats_by b mids) c.args.start.room (numbers_by b olds mids same) begun long
 
 ---- Where acts have failed
 

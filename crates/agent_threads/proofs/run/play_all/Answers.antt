@@ -14,7 +14,7 @@ use Rattle.agent_threads.specs.Promise.{AllCanBeDone, Shows, AtShown}
 use Rattle.agent_threads.proofs.Same.{all_same, still_of, same_twice, stops_up, are_calm}
 use Rattle.agent_threads.proofs.Stepping.{numbers_by}
 use Rattle.agent_threads.proofs.Coming.{asks_later}
-use Rattle.agent_threads.proofs.Playing.{are_played_none, all_played, none_split, none_front, same_split}
+use Rattle.agent_threads.proofs.Playing.{are_played_none, all_played, none_split, none_front, same_split, rises_behind}
 use Rattle.agent_threads.proofs.Told.{shows_at, on_err, how_many, more_totals, writes_none, writes_more, script_passes, front_passes, group_more, front_of_play, some_of_groups, some_of_play, can_at}
 use Rattle.agent_threads.proofs.Causes.{same_error, if_err, write_settle, not_long, no_agent, if_writing, settle_before, shelf_failed, shelf_still, listed_same, listed_stays}
 use Rattle.agent_threads.proofs.Left.{left_same, left_twice, none_later}
@@ -130,6 +130,12 @@ loop-group-preserved g c =
       counts = c.in_ok-text.ensures.counted;
       counted = c.in_ok-write_text.ensures.quiet ∙ l.invariant.counted;
     }
+
+pub returns-in_err-text-clause-rises : goal.returns-in_err-text-clause-rises
+returns-in_err-text-clause-rises g c = λ e.
+    let p = err_from_is_err_and c.from_residual.result c.from_residual.ensures.1 in
+    rises_behind c.args.nodes.now.items c.loop-group.nodes.items c.play_group.new.nodes.items c.loop-group.invariant.same
+    (c.in_err-text.ensures.rises (ap (λ x. Err x) (same_error c.from_residual.result p.0 c.in_err-text.field-0.0 _ p.1 p.2 e)))
 
 pub returns-in_err-text-clause-long : goal.returns-in_err-text-clause-long
 returns-in_err-text-clause-long g c = λ e.

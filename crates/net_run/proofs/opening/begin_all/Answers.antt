@@ -1,7 +1,7 @@
 use Rattle.std.proofs.Common.{rules, ◌≡◌, ◌<◌, ◌+◌, ◌++◌, ◌∷◌, ◌∙◌, [], true, ℕ, List, length, length-append, sym, ap, subst, arith}
 use Rattle.stp_topology.specs.Network.{name_of}
 use Rattle.agent_node.specs.Kept.{Kept}
-use Rattle.net_run.specs.Begun.{IsBegun, AreBegun, AreListed}
+use Rattle.net_run.specs.Begun.{IsBegun, AreBegun, AreListed, stops_of}
 use Rattle.net_run.specs.Shelves.{IsStartFault}
 use Rattle.net_run.proofs.Beginning.{begun_of, begun_more, number_is, listed_still, listed_more}
 use Rattle.net_run.proofs.Ends.{joined_all}
@@ -43,19 +43,27 @@ loop-place-preserved g c =
     let own = c.in_ok-own.own in
     let o = c.in_ok-own.ensures in
     let node = c.in_ok-node.node in
+    let stopped = c.in_ok-node.stopped in
+    let lines = c.args.lines.now in
     let agent = c.agent_at-agent.result in
     let at : agent ≡ l.place = c.agent_at-agent.ensures in
     let within : agent < length t.agents = search rules in
     let items : c.push_reserved.new.self.items ≡ l.nodes.items ++ node ∷ [] = search rules in
+    let tries : c.push_reserved-in-loop-place.new.self.items ≡ l.tries.items ++ stopped ∷ [] = search rules in
+    let planned : c.deref.result.now ≡ stops_of lines agent = search rules in
+    let many : length c.deref.result.now ≡ length (stops_of lines agent) = ap length planned in
     let listed = g.H.Shelf.listed c.begin_one.new.shelf in
-    let one : IsBegun t all agent node =
-    begun_of t agent own.outgoing own.incoming own.rest.items l.left.items all node o (λ b. i.left agent b (omega (arith, at))) i.planned c.requires.planned c.in_ok-node.ensures.fresh in
-    let number = number_is t all agent node one in
+    let one : IsBegun t all lines agent stopped node =
+    begun_of t lines agent (length c.deref.result.now) stopped own.outgoing own.incoming own.rest.items l.left.items all node o (λ b. i.left agent b (omega (arith, at))) i.planned c.requires.planned (omega (arith, many)) c.in_ok-node.ensures.fresh in
+    let number = number_is t all lines agent stopped node one in
     let place : agent ≡ 0 + length l.nodes.items = omega (arith, at, i.count) in
     let still = listed_still (g.H.Shelf.listed l.shelf) listed t l.nodes.items c.begin_one.ensures.stays i.listed in
     let name = subst (λ (n : ℕ). listed (name_of t n) ≡ true) (sym number) c.in_ok-node.ensures.listed in
     record {
-      begun = subst (λ (ks : List Kept). AreBegun t all 0 ks) (sym items) (begun_more t all 0 l.nodes.items node i.begun (subst (λ (n : ℕ). IsBegun t all n node) place one));
+      begun = subst (λ (ns : List ℕ). AreBegun t all lines 0 ns c.push_reserved.new.self.items) (sym tries) (subst (λ (ks : List Kept). AreBegun t all lines 0 (l.tries.items ++ stopped ∷ []) ks) (sym items)
+          (begun_more t all lines 0 l.tries.items l.nodes.items stopped node i.begun (subst (λ (n : ℕ). IsBegun t all lines n stopped node) place one)));
+      told = omega (arith, ap length tries, length-append l.tries.items (stopped ∷ []), i.told);
+      space = omega (arith, i.space, c.push_reserved-in-loop-place.ensures.capacity);
       count = omega (arith, ap length items, length-append l.nodes.items (node ∷ []), i.count);
       listed = subst (λ (ks : List Kept). AreListed listed t ks) (sym items) (listed_more listed t l.nodes.items node still (omega (arith, number, within)) name);
       empty = subst (λ (ks : List Kept). AreEmpty t (g.H.Shelf.holds c.args.shelf.now) ks) (sym items)

@@ -8,7 +8,9 @@ use Rattle.net_run.proofs.opening.begin_all.Given as goal
 
 abbrev pub invariant-loop-place : goal.invariant-loop-place
 invariant-loop-place g l = record {
-  begun : AreBegun l.topology l.fn.joints.items 0 l.nodes.items;
+  begun : AreBegun l.topology l.fn.joints.items l.lines 0 l.tries.items l.nodes.items;
+  told : length l.tries.items ≡ l.place;
+  space : length l.topology.agents ≤ vec_capacity l.tries;
   count : length l.nodes.items ≡ l.place;
   listed : AreListed (g.H.Shelf.listed l.shelf) l.topology l.nodes.items;
   empty : AreEmpty l.topology (g.H.Shelf.holds l.fn.shelf) l.nodes.items;

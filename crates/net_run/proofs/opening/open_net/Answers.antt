@@ -1,9 +1,10 @@
-use Rattle.std.proofs.Common.{List, length, subst}
+use Rattle.std.proofs.Common.{◌≡◌, List, length, subst}
 use Rattle.std.specs.List.{All}
 use Rattle.nsi_script.specs.declared.script.PlanLine.{PlanLine}
+use Rattle.nsi_script.specs.declared.script.StopLine.{StopLine}
 use Rattle.nsi_play.specs.Openings.{plans_of}
 use Rattle.net_run.specs.Joints.{IsPlannedJoint}
-use Rattle.net_run.specs.Begun.{faults_among, stops_among}
+use Rattle.net_run.specs.Begun.{AreOpened, faults_among, stops_among}
 use Rattle.net_run.proofs.Beginning.{opened_are}
 use Rattle.net_run.proofs.Counting.{raised_up, start_fault}
 use Rattle.net_run.proofs.opening.open_net.Goals as goal
@@ -13,9 +14,15 @@ begin_all-requires-clause-planned g c = (plans_of c.items.result.now, c.in_ok-jo
 
 pub returns-in-Ok-clause-opened : goal.returns-in-Ok-clause-opened
 returns-in-Ok-clause-opened g c =
+    let t = c.args.topology.now in
+    let plans = plans_of c.args.script.now.lose in
+    let tries = c.in-Ok.tries.items in
+    let nodes = c.begin_all.new.nodes.items in
+    let stops : c.items-2.result.now ≡ c.args.script.now.stops = c.items-2.ensures in
     let joints = c.in_ok-joints.joints.items in
     let planned = subst (λ (lines : List PlanLine). All (IsPlannedJoint (plans_of lines)) joints) c.items.ensures c.in_ok-joints.ensures.planned in
-    opened_are c.args.topology.now (plans_of c.args.script.now.lose) joints c.begin_all.new.nodes.items c.in_ok-joints.ensures.paired planned c.begin_all.ensures.begun c.in-Ok.ensures.all
+    subst (λ (ls : List StopLine). AreOpened t plans ls tries nodes) stops
+    (opened_are t joints c.items-2.result.now plans tries nodes c.in_ok-joints.ensures.paired planned c.in-Ok.ensures.begun c.in-Ok.ensures.all)
 
 pub returns-in-Err-clause-cause : goal.returns-in-Err-clause-cause
 returns-in-Err-clause-cause g c =

@@ -24,6 +24,6 @@ returns-clause-ok c =
     let waits = c.in_ok-waiting.ensures.all ∙ (ap (λ (x : Seated). x.seat.state.base.waiting) c.self-2.view_is ∙ ap (λ (s : Seat). s.state.base.waiting) begun) in
     λ routes are.
     let told_so = moved old.network i.topology.now old.seat.number c.number.result (λ (h : Home). state ≡ (told h es).state) network number c.in_ok-agent.ensures.state in
-    let tells = moved old.network here.network old.seat.number here.seat.number (λ (h : Home). new.seat ≡ tells_restart h ms here.seat) c.begin_again.ensures.same.network c.begin_again.ensures.same.number
+    let tells = moved old.network here.network old.seat.number here.seat.number (λ (h : Home). new.seat ≡ tells_restart h ms c.args.tries here.seat) c.begin_again.ensures.same.network c.begin_again.ensures.same.number
     c.in_ok-tell_restart.ensures.ok in
-    reads_is (home_in old.network routes old.seat.number) es old.seat here.seat new.seat state ms none (told_so routes are) waits begun (tells routes are)
+    reads_is (home_in old.network routes old.seat.number) c.args.tries es old.seat here.seat new.seat state ms none (told_so routes are) waits begun (tells routes are)
