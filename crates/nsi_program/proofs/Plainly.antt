@@ -2,7 +2,6 @@
 use Rattle.std.proofs.Common.{◌≡◌, ◌≤◌, ◌<◌, ℕ, ◌⊎◌, inl, inr, List, ◌++◌, length, leb, Bool, true, false, Option, Some, None, Result, Err, refl, sym, ap, ◌∙◌, subst, arith}
 use Rattle.std.specs.Prelude.{IfSome, codes}
 use Rattle.nsi_disk.specs.ShelfCounts.{Raised}
-use Rattle.fault_lines.specs.Counts.{HasDiskFault}
 use Rattle.fault_lines.specs.Lines.{as_line, read_fault_line}
 use Rattle.command_limits.specs.Limits.{most_events}
 use Rattle.command_words.specs.declared.command.Command.{Command}
@@ -15,7 +14,7 @@ use Rattle.provide_command.specs.Promise.{is_told, promise_of, IsKept, IsComplet
 use Rattle.provide_command.specs.Provided.{HasProvided, CountsEnd}
 use Rattle.provide_command.specs.Writes.{WritesSome, WritesSomeFront}
 use Rattle.provide_command.proofs.Declared.{is_complete, is_safe, names_fault}
-use Rattle.run_command.specs.Ends.{IsCutShort as RunIsCutShort, IsQuiet}
+use Rattle.run_command.specs.Ends.{IsCutShort as RunIsCutShort, IsQuiet, HasFaulted}
 use Rattle.run_command.specs.Runs.{Breaks, KeepsRun, IsHeavy}
 use Rattle.nsi_base.specs.Lines.{lines_of}
 use Rattle.nsi_base.specs.Range.{greatest_input}
@@ -295,7 +294,7 @@ pub record HasRun (play : Play) (old new : Outside) (status : Status) : Type 0 w
   pub read_fault : status ≡ Status.ReadFault → old.counts.reads < new.counts.reads
   pub alone : status ≡ Status.ReadFault → Writes old.content new.content read_fault_line
   pub write_fault : status ≡ Status.WriteFault → old.writes < new.writes
-  pub disk_fault : status ≡ Status.DiskFault → HasDiskFault old.counts new.counts
+  pub disk_fault : status ≡ Status.DiskFault → HasFaulted old.counts new.counts
   pub broken : status ≡ Status.DiskFault → IfSome old.left (λ bytes. WritesSome (Breaks (options_of play) (disks_of old new) bytes) old.content new.content)
   pub unfinished : (status ≡ Status.WriteFault) ⊎ (status ≡ Status.NoMemory) → RunIsCutShort (options_of play) (disks_of old new) old.content old.left old.counts new.counts new.content
   pub quiet_in : is_told status ≡ true → new.counts.reads ≡ old.counts.reads

@@ -16,7 +16,7 @@ use Rattle.provide_command.specs.Ends.{WithReading, IsBroken as IsProvideBroken,
 use Rattle.provide_command.specs.Promise.{behind_content, promise_of, Writes, WritesFront, IsKept}
 use Rattle.provide_command.specs.Writes.{WritesSome, WritesSomeFront}
 use Rattle.nsi_disk.specs.ShelfCounts.{Raised}
-use Rattle.run_command.specs.Ends.{IsQuiet}
+use Rattle.run_command.specs.Ends.{IsQuiet, HasFaulted}
 use Rattle.run_command.specs.Runs.{Disks, Begins as RunBegins, Breaks}
 use Rattle.nsi_program.specs.Check.{Checks, Begins}
 use Rattle.nsi_program.specs.RunsTo.{RunsTo, options_of, HidesDisks}
@@ -37,6 +37,11 @@ Promises ends (Some c) None promise = promise ≡ None
 Promises ends (Some c) (Some bytes) promise = (end : Status × List ℕ) × ends bytes end × (promise ≡ Some (behind_content c end))
 
 ---- Ends
+
+-- A call of a disk has failed, or but in `run`, whose agents go on from what a stop leaves, has stopped it.
+abbrev pub HasDiskEnd : Option Command → Counts → Counts → Type 0
+HasDiskEnd (Some (Command.Run play)) before after = HasFaulted before after
+HasDiskEnd _ before after = HasDiskFault before after
 
 -- what the command, its input and its journal promise of how it ends
 abbrev pub MayEnd : Option Command → Disks → Option (List ℕ) → Option (List ℕ) → Option (Status × List ℕ) → Type 0
@@ -60,8 +65,8 @@ IsCut (Some Command.Check) holds content left rest new = Writes content new read
 IsCut (Some (Command.Verify most)) holds content left rest new = Writes content new read_fault_line
 IsCut (Some (Command.Generate load)) holds content left rest new = ⊥
 
--- A disk failed or stopped. `provide` has answered some first lines, `run` has written some first groups, and behind them stands whose disk it was; no
--- other command has a disk.
+-- A disk failed, or that of `provide` stopped. `provide` has answered some first lines, `run` has written some first groups, and behind them stands
+-- whose disk it was; no other command has a disk.
 abbrev pub IsBroken : Option Command → Disks → (content left new : Option (List ℕ)) → Type 0
 IsBroken (Some (Command.Provide most)) d content left new = IsProvideBroken most d.held content left new
 IsBroken (Some (Command.Run play)) d content left new = IfSome left (λ bytes. WritesSome (Breaks (options_of play) d bytes) content new)
@@ -95,7 +100,7 @@ IsCutInDisk _ d content left new = ⊥
 abbrev pub IsCutShort : Option Command → Disks → (content left rest : Option (List ℕ)) → (before after : Counts) → Option (List ℕ) → Type 0
 IsCutShort command d content left rest before after new =
     ((after.reads ≡ before.reads) × IsCutInAnswers command d content left new) ⊎ ((before.reads < after.reads) × IsCutInFault command d.held content left rest new)
-    ⊎ (HasDiskFault before after × IsCutInDisk command d content left new)
+    ⊎ (HasDiskEnd command before after × IsCutInDisk command d content left new)
 
 -- The lines begin with a topology.
 abbrev pub HasTopology : List (List ℕ) → Type 0

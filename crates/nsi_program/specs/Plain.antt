@@ -1,6 +1,6 @@
 -- How a command that takes no lock ends: all that is promised of it, of what is outside before and after.
 use Rattle.std.specs.Prelude.{◌≡◌, ◌<◌, ◌⊎◌, ℕ, List, Option, Some, IfSome, true}
-use Rattle.fault_lines.specs.Counts.{Counts, HasDiskFault}
+use Rattle.fault_lines.specs.Counts.{Counts}
 use Rattle.command_words.specs.declared.command.Command.{Command}
 use Rattle.command_words.specs.declared.command.Load.{Load}
 use Rattle.command_words.specs.declared.command.Play.{Play}
@@ -10,7 +10,7 @@ use Rattle.provide_command.specs.Backed.{Backs}
 use Rattle.provide_command.specs.Ends.{WithReading}
 use Rattle.provide_command.specs.Promise.{is_told, read_fault_line, Writes, IsComplete, IsSafe, NamesFault}
 use Rattle.run_command.specs.Runs.{Disks, disks, KeepsRun, IsHeavy}
-use Rattle.nsi_program.specs.Ends.{HasEnded, IsChecked, IsCut, IsBroken, IsCutShort, ReadsTopology, TellsDisks, AreQuiet}
+use Rattle.nsi_program.specs.Ends.{HasEnded, IsChecked, IsCut, IsBroken, IsCutShort, ReadsTopology, TellsDisks, AreQuiet, HasDiskEnd}
 use Rattle.nsi_program.specs.RunsTo.{options_of}
 
 -- what a sink has, what a source still has, what disks hold, and the counts of all their faults
@@ -42,7 +42,7 @@ pub record EndsPlainly (command : Option Command) (old new : Outside) (status : 
   pub alone : command ≡ Some Command.Check → status ≡ Status.ReadFault → Writes old.content new.content read_fault_line
   pub write_fault : status ≡ Status.WriteFault → old.writes < new.writes
   pub unfinished : (status ≡ Status.WriteFault) ⊎ (status ≡ Status.NoMemory) → IsCutShort command (disks_of old new) old.content old.left new.left old.counts new.counts new.content
-  pub disk_fault : status ≡ Status.DiskFault → HasDiskFault old.counts new.counts
+  pub disk_fault : status ≡ Status.DiskFault → HasDiskEnd command old.counts new.counts
   pub broken : status ≡ Status.DiskFault → IsBroken command (disks_of old new) old.content old.left new.content
   pub backed : (most : ℕ) → command ≡ Some (Command.Provide most) → Backs old.holds new.holds old.content old.left new.content
   pub journals : (play : Play) → command ≡ Some (Command.Run play) → status ≡ Status.Done → IfSome old.left (λ bytes. KeepsRun bytes (disks_of old new))

@@ -10,9 +10,9 @@ ghost use Rattle.command_words.specs.declared.command.Load.{Load};
 ghost use Rattle.command_words.specs.declared.command.Play.{Play};
 ghost use Rattle.nsi_script.specs.Load.{load_of};
 ghost use Rattle.run_command.specs.Runs.{disks, KeepsRun, IsHeavy};
-ghost use Rattle.fault_lines.specs.Counts.{counted, HasDiskFault};
+ghost use Rattle.fault_lines.specs.Counts.{counted};
 ghost use Rattle.provide_command.specs.Ends.{WithReading};
-ghost use Rattle.nsi_program.specs.Ends.{HasEnded, IsChecked, IsCut, IsBroken, IsCutShort, ReadsTopology, TellsDisks, AreQuiet};
+ghost use Rattle.nsi_program.specs.Ends.{HasEnded, IsChecked, IsCut, IsBroken, IsCutShort, ReadsTopology, TellsDisks, AreQuiet, HasDiskEnd};
 ghost use Rattle.nsi_program.specs.Plain.{EndsPlainly, outside};
 ghost use Rattle.nsi_program.specs.RunsTo.{options_of};
 
@@ -87,7 +87,7 @@ where
         (counted (S.faults input.new) (H.faults shelf.new) (H.stops shelf.new))
         (K.content out.new) }
     ensures disk_fault { result ≡ Status.DiskFault →
-        HasDiskFault
+        HasDiskEnd (command_of (map string_bytes words.now))
         (counted (S.faults input.old) (H.faults shelf.old) (H.stops shelf.old))
         (counted (S.faults input.new) (H.faults shelf.new) (H.stops shelf.new)) }
     ensures broken { result ≡ Status.DiskFault →
@@ -109,8 +109,8 @@ where
         (disks (H.holds shelf.old) (H.holds shelf.new) (H.stops shelf.old) (H.stops shelf.new))) }
 
     // `run` makes too many events only where the input is too long, or where the weight of its script is above the
-    // limit: a number that topology and script tell. So with a limit of that weight it is Done, or a fault comes from
-    // outside.
+    // limit: a number that topology and script tell, with as many restarts as the script has lines that restart an
+    // agent or stop a disk. So with a limit of that weight it is Done, or a fault comes from outside.
     ensures settles { (play : Play)
         → command_of (map string_bytes words.now) ≡ Some (RunValue play)
         → result ≡ Status.Long → IfSome (S.left input.old)
@@ -120,7 +120,7 @@ where
 
     // No fault is swallowed, and none is told as want of memory; but a failed read is, or a failed disk, where there is
     // no memory for its line. In the round of `run` that has too many events another agent's disk may have failed too,
-    // and so may one whose journal has no reading; a disk that has stopped in a round is no fault.
+    // and so may one whose journal has no reading; a disk of `run` that has stopped is no fault.
     ensures quiet_in { is_told result ≡ true → S.faults input.new ≡ S.faults input.old }
     ensures quiet_out { is_told result ≡ true → K.faults out.new ≡ K.faults out.old }
     ensures quiet_disk { is_told result ≡ true →

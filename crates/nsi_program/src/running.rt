@@ -1,9 +1,9 @@
 //! The command `run`, as the program tells how it ends.
 
 ghost use Rattle.std.specs.Prelude.{◌≡◌, ◌<◌, ◌⊎◌, true, IfSome};
-ghost use Rattle.run_command.specs.Ends.{IsCutShort as IsRunCutShort, IsQuiet, is_told as is_told_end, HidesDisks as HidesEnd};
+ghost use Rattle.run_command.specs.Ends.{IsCutShort as IsRunCutShort, IsQuiet, HasFaulted, is_told as is_told_end, HidesDisks as HidesEnd};
 ghost use Rattle.run_command.specs.Runs.{disks, KeepsRun, Breaks as BreaksRun, IsHeavy};
-ghost use Rattle.fault_lines.specs.Counts.{counted, HasDiskFault};
+ghost use Rattle.fault_lines.specs.Counts.{counted};
 ghost use Rattle.provide_command.specs.Promise.{is_told, read_fault_line, Writes};
 ghost use Rattle.nsi_program.specs.RunsTo.{RunsTo, options_of, status_of_run, HidesDisks};
 ghost use Rattle.provide_command.specs.Writes.{WritesSome};
@@ -59,7 +59,7 @@ where
         Writes (K.content out.old) (K.content out.new) read_fault_line }
     ensures write_fault { result ≡ Status.WriteFault → K.faults out.old < K.faults out.new }
     ensures disk_fault { result ≡ Status.DiskFault →
-        HasDiskFault
+        HasFaulted
         (counted (S.faults input.old) (H.faults shelf.old) (H.stops shelf.old))
         (counted (S.faults input.new) (H.faults shelf.new) (H.stops shelf.new)) }
     ensures broken { result ≡ Status.DiskFault → IfSome (S.left input.old)

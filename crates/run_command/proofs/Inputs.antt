@@ -13,11 +13,13 @@ use Rattle.nsi_script.specs.declared.fault.ScriptFault.{ScriptFault}
 use Rattle.nsi_script.specs.declared.script.Script.{Script}
 use Rattle.nsi_script.specs.Text.{script_of}
 use Rattle.nsi_agent.specs.Homes.{home_in}
+use Rattle.agent_node.specs.Openings.{agents}
+use Rattle.due_events.proofs.CalmPlays.{none_stops}
 use Rattle.nsi_play.specs.Openings.{plans_of, opening}
 use Rattle.nsi_play.specs.Play.{plays, behind, over}
 use Rattle.nsi_play.specs.Rounds.{Net, Homes}
 use Rattle.stopped_play.specs.Play.{plays_by, remade, IsPlayBy}
-use Rattle.agent_threads.specs.Stopping.{on_tapes}
+use Rattle.stopped_play.specs.Tapes.{calm_stops}
 use Rattle.fault_lines.specs.Lines.{topology_fault, script_fault, long_line}
 use Rattle.agent_threads.specs.Reports.{written}
 use Rattle.run_totals.specs.declared.report.Report.{Report}
@@ -112,12 +114,12 @@ none_written : (r : Report) (t : Network) → [] ≡ written r t [] ++ no_text t
 none_written Report.Trace t = refl
 none_written Report.Summary t = refl
 
-none_remade : (net : Net) → remade (on_tapes []).making net ≡ []
+none_remade : (net : Net) → remade (calm_stops 0 0).making net ≡ []
 none_remade [] = refl
 none_remade (s ∷ ss) = none_remade ss
 
 -- no group is played
-no_group : (homes : Homes) (net : Net) → IsPlayBy (on_tapes []) [] homes net [] net
+no_group : (homes : Homes) (net : Net) → IsPlayBy (calm_stops 0 0) [] homes net [] net
 unfolding plays_by
 no_group homes net = ap (λ (es : List Event). behind es (over net)) (none_remade net)
 
@@ -130,7 +132,7 @@ nothing_starts none options d up t script =
       groups = 0;
       events = [];
       first = record {
-        play = record { told = λ told. (d.after - d.before, inl (omega (arith, up)), λ routes r. (start, ([], omega arith, no_group (home_in t routes) start))); calm = λ calm shown routes r. (start, (0, refl)) };
+        play = record { told = λ told. (d.after - d.before, inl (omega (arith, up)), λ routes r. (start, calm_stops 0 0, omega (arith, none_stops (agents t) 0 0), no_group (home_in t routes) start)); calm = λ calm shown routes r. (start, (0, refl)) };
         run = λ known routes r. none t routes;
         within = omega arith;
       };

@@ -1,5 +1,5 @@
 -- What a run has come to.
-use Rattle.std.proofs.Common.{◌≡◌, ◌<◌, ◌⊎◌, inl, inr, ℕ, ◌+◌, List, [], ◌++◌, true, Option, Some, None, refl, sym, ap, ◌∙◌, subst, append-nil}
+use Rattle.std.proofs.Common.{◌≡◌, ◌<◌, ◌⊎◌, inl, inr, ℕ, ◌+◌, List, [], ◌++◌, length, true, Option, Some, None, refl, sym, ap, ◌∙◌, subst, append-nil}
 use Rattle.nsi_outside.specs.Stream.{WritesAll, WritesFront}
 use Rattle.stp_topology.specs.declared.network.Network.{Network}
 use Rattle.stp_topology.specs.Network.{name_of}
@@ -11,13 +11,13 @@ use Rattle.agent_threads.specs.Reports.{written}
 use Rattle.agent_threads.specs.declared.report.RunOptions.{RunOptions}
 use Rattle.agent_threads.specs.Made.{IsOfAgent}
 use Rattle.net_run.specs.Held.{AreTold, IsShown}
-use Rattle.net_run.specs.Shelves.{HasBroken, HasFaultOf, IsUnread}
+use Rattle.net_run.specs.Shelves.{HasFaultOf, IsUnread}
 use Rattle.net_run.specs.Worlds.{WritesPlay, WritesTooLong, WritesGroups, WritesSomeOfPlay}
 use Rattle.nsi_play.specs.Openings.{plans_of}
 use Rattle.run_command.specs.declared.command.RunEnd.{RunEnd}
 use Rattle.run_command.specs.Runs.{Disks, Plays, BeginsPlay, BreaksPlay, KeepsPlay, IsBelowWeight, no_text, closing_line}
 use Rattle.run_command.proofs.Wholes.{CanRun, whole_run, front_run, below_weight}
-use Rattle.run_command.specs.Ends.{HidesDisks, IsOfAgent as IsFaultOf, is_told, WritesSome, WritesSomeFront, Counts, HasDiskFault, Closes, IsQuiet, FailsAs, HasRun, HasPlayed}
+use Rattle.run_command.specs.Ends.{HidesDisks, IsOfAgent as IsFaultOf, is_told, WritesSome, WritesSomeFront, Counts, HasFaulted, Closes, IsQuiet, HasRisen, FailsAs, HasRun, HasPlayed}
 use Rattle.run_command.proofs.Closing.{behind_all, behind_front}
 
 pub some_text : (P : List ℕ → Type 0) (old new : Option (List ℕ)) (text : List ℕ) → P text → WritesAll old new text → WritesSome P old new
@@ -96,7 +96,7 @@ module _ (Texts : RunEnd → List ℕ → Type 0) (Fronts Broken : List ℕ → 
       }
 
   -- a line tells whose disk has failed
-  pub broken_run : Closes line RunEnd.DiskFault end mid new b a → Broken (base ++ line) → HasDiskFault before after → HasRun Texts Fronts Broken old new before after b a end
+  pub broken_run : Closes line RunEnd.DiskFault end mid new b a → Broken (base ++ line) → HasFaulted before after → HasRun Texts Fronts Broken old new before after b a end
   broken_run k x d =
       record {
         ends = λ t. absurd (untold end k.kind t);
@@ -125,7 +125,7 @@ run_along T U F G B D old new before after b a end f g h k =
       read = k.read;
     }
   where
-    cut : WritesSomeFront F old new ⊎ (HasDiskFault before after × WritesSomeFront B old new) → WritesSomeFront G old new ⊎ (HasDiskFault before after × WritesSomeFront D old new)
+    cut : WritesSomeFront F old new ⊎ (HasFaulted before after × WritesSomeFront B old new) → WritesSomeFront G old new ⊎ (HasFaulted before after × WritesSomeFront D old new)
     cut (inl w) = inl (front_along F G old new g w)
     cut (inr w) = inr (w.0, front_along B D old new h w.1)
 
@@ -137,7 +137,7 @@ PlayOver t options d script old new n = WritesPlay t options (plans_of script.lo
 
 -- and where it passes the limit
 abbrev pub PlayTooLong : Network → RunOptions → Disks → Script → (old new : Option (List ℕ)) → Type 0
-PlayTooLong t options d script old new = WritesTooLong t options (plans_of script.lose) d.held d.before d.after script.groups old new
+PlayTooLong t options d script old new = WritesTooLong t options (plans_of script.lose) (length script.stops) d.held d.before d.after script.groups old new
 
 -- and where a disk has failed, or a journal has no reading
 abbrev pub PlayBroken : Network → RunOptions → Disks → Script → (old new : Option (List ℕ)) → Type 0
@@ -172,7 +172,7 @@ module _ (t : Network) (options : RunOptions) (d : Disks) (script : Script) (old
       told_run (Plays options d t script) (BeginsPlay options d t script) (BreaksPlay options d t script) old mid new before after b a (written options.report t w.1) long_line end w.5
       RunEnd.Long (closes_from long_line RunEnd.Long k) refl is (inl (RunEnd.Long, is)) (λ n. absurd (n tt))
 
-  pub failed_run : CanRun options.limit t script → (agent : ℕ) → PlayBroken t options d script old mid → Closes (disk_fault_line (name_of t agent)) RunEnd.DiskFault end mid new m a → HasDiskFault before after → HasPlayed options d t script old new before after b a end
+  pub failed_run : CanRun options.limit t script → (agent : ℕ) → PlayBroken t options d script old mid → Closes (disk_fault_line (name_of t agent)) RunEnd.DiskFault end mid new m a → HasFaulted before after → HasPlayed options d t script old new before after b a end
   failed_run can agent w k h =
       let line = disk_fault_line (name_of t agent) in
       let is : BreaksPlay options d t script (written options.report t w.1 ++ line) = (agent, record { groups = w.0; events = w.1; first = record { play = w.2; run = front_run options.limit t script d.held d.before d.after w.0 w.1 can w.2 w.3; within = w.3 }; spelled = refl }) in
@@ -229,7 +229,7 @@ pub record Failing (t : Network) (options : RunOptions) (d : Disks) (script : Sc
   pub long : fault ≡ RunFault.Long → PlayTooLong t options d script old mid
   pub broken : IsOfAgent fault → PlayBroken t options d script old mid
   pub unread : (agent place : ℕ) → fault ≡ RunFault.NotAJournal agent place → IsUnread (AreTold t d.held) (IsShown t script.groups d.held) d.before d.after
-  pub disk : (agent : ℕ) → fault ≡ RunFault.DiskFault agent → HasDiskFault before after
+  pub disk : (agent : ℕ) → fault ≡ RunFault.DiskFault agent → HasFaulted before after
   pub front : PlayCut t options d script old mid
   pub write : fault ≡ RunFault.WriteFault → b < m
   pub quiet : (fault ≡ RunFault.WriteFault → ⊥) → m ≡ b
@@ -262,7 +262,7 @@ fails_long t RunFault.WriteFault end old new b a k e = let i = k.is in cc
 fails_long t RunFault.NoMemory end old new b a k e = let i = k.is in cc
 
 -- a play is too long only where the weight of its script is above the limit
-pub too_heavy : (t : Network) (options : RunOptions) (d : Disks) (script : Script) (old new : Option (List ℕ)) → CanRun options.limit t script → PlayTooLong t options d script old new → IsBelowWeight options.limit d t script.groups
+pub too_heavy : (t : Network) (options : RunOptions) (d : Disks) (script : Script) (old new : Option (List ℕ)) → CanRun options.limit t script → PlayTooLong t options d script old new → IsBelowWeight options.limit d t script
 too_heavy t options d script old new can w = below_weight options.limit t script d (w.0 + 1) can w.4
 
 pub fails_not_done : (t : Network) (fault : RunFault) (end : RunEnd) (old new : Option (List ℕ)) (b a : ℕ) → FailsAs t fault end old new b a → end ≡ RunEnd.Done → ⊥
@@ -277,7 +277,7 @@ fails_not_done t RunFault.NoMemory end old new b a k e = let i = k.is in cc
 pub unread_cause : (t : Network) (Told Shown : Type 0) (f g s r : ℕ) (fault : RunFault) (agent place : ℕ) → fault ≡ RunFault.NotAJournal agent place → HasFaultOf t Told Shown f g s r fault → IsUnread Told Shown s r
 unread_cause t Told Shown f g s r fault agent place e c = (subst (HasFaultOf t Told Shown f g s r) e c).1
 
-pub disk_cause : (t : Network) (Told Shown : Type 0) (f g s r : ℕ) (fault : RunFault) (agent : ℕ) → fault ≡ RunFault.DiskFault agent → HasFaultOf t Told Shown f g s r fault → HasBroken f g s r
+pub disk_cause : (t : Network) (Told Shown : Type 0) (f g s r : ℕ) (fault : RunFault) (agent : ℕ) → fault ≡ RunFault.DiskFault agent → HasFaultOf t Told Shown f g s r fault → HasRisen f g
 disk_cause t Told Shown f g s r fault agent e c = (subst (HasFaultOf t Told Shown f g s r) e c).1
 
 pub of_agent : (t : Network) (Told Shown : Type 0) (f g s r : ℕ) (fault : RunFault) → HasFaultOf t Told Shown f g s r fault → IsFaultOf t fault

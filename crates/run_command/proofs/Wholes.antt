@@ -22,19 +22,14 @@ use Rattle.circuit_laws.specs.SafeLaws.{EveryRunIsSafe}
 use Rattle.settled_play.specs.Settled.{PlayLeavesNone, GoesOn, IsNoRestart}
 use Rattle.end_to_end.specs.Laws.{EveryRunStands}
 use Rattle.answered_play.specs.Laws.{AnswersAtRest}
-use Rattle.stopped_play.specs.Tapes.{Tape, Stops, calm_stops}
-use Rattle.stopped_play.specs.Counts.{one_restart, restarts_in, play_stops}
+use Rattle.stopped_play.specs.Tapes.{Stops, calm_stops}
+use Rattle.stopped_play.specs.Counts.{one_restart, restarts_in}
 use Rattle.stopped_play.specs.Play.{IsPlayBy}
 use Rattle.stopped_play.specs.Laws.{CalmPlays, played, StoppedPlayRuns, StoppedPlayRests, StoppedPlayAsks, StoppedPlaySettles}
 use Rattle.agent_threads.specs.Promise.{NoRestart}
-use Rattle.agent_node.specs.Openings.{agents}
-use Rattle.agent_threads.specs.Nets.{numbers}
-use Rattle.agent_threads.specs.Stopping.{on_tapes}
-use Rattle.nsi_world.proofs.Opening.{numbers_of}
 use Rattle.net_run.specs.Held.{IsShown}
 use Rattle.net_run.specs.Worlds.{Holds, PlaysPart, PartPasses}
-use Rattle.due_events.specs.Counts.{script_restarts, all_stops}
-use Rattle.due_events.proofs.CalmPlays.{none_first}
+use Rattle.due_events.specs.Counts.{script_restarts}
 use Rattle.run_weight.specs.Laws.{IsPlayable, StoppedLongIsOver, LongIsOver}
 use Rattle.run_weight.specs.Weight.{weight}
 use Rattle.run_command.specs.Runs.{Disks, NoneStops, IsKnown, IsSafeThroughout, IsWholeRun, IsBelowWeight}
@@ -66,7 +61,7 @@ some_play : {Calm : Type 0} → CalmPlays → (t : Network) (plans : Plans) (hol
     → (routes : Routes) → AreRoutes t routes → IsSomePlay t routes plans part events
 some_play {Calm} calm t plans holds s q whole part events p (inl told) routes r =
     let play = (p.told told).2 routes r in
-    record { stops = on_tapes play.1.0; last = play.0; is = play.1.2 }
+    record { stops = play.1; last = play.0; is = play.3 }
 some_play {Calm} calm t plans holds s q whole part events p (inr known) routes r =
     let play = p.calm known.0 (inr known.1) routes r in
     let tapes = calm part (home_in t routes) (opening t plans) events play.0 play.1 in
@@ -159,13 +154,9 @@ front_run {Calm} limit t s holds b q groups events can play within known routes 
 
 ---- The limit is passed
 
--- the disks of these agents stop no more often than those of the seats
-stops_are : (t : Network) (plans : Plans) (tapes : List Tape) (by : ℕ) → play_stops (numbers (opening t plans)) tapes ≤ by → all_stops (agents t) (on_tapes tapes) ≤ by
-stops_are t plans tapes by low = omega (arith, low, ap (λ (ns : List ℕ). play_stops ns tapes) (numbers_of t plans (agents t)), none_first (agents t))
-
 -- where some first groups pass the limit, it is below the weight of the script
-pub below_weight : (limit : ℕ) (t : Network) (s : Script) (d : Disks) (groups : ℕ) → CanRun limit t s → PartPasses t (plans_of s.lose) d.held d.before d.after (NoneStops d) limit s.groups (take groups s.groups)
-    → IsBelowWeight limit d t s.groups
+pub below_weight : (limit : ℕ) (t : Network) (s : Script) (d : Disks) (groups : ℕ) → CanRun limit t s → PartPasses t (plans_of s.lose) (length s.stops) d.held d.before d.after (NoneStops d) limit s.groups (take groups s.groups)
+    → IsBelowWeight limit d t s
 below_weight limit t s d groups can passes =
     let part : List Group = take groups s.groups in
     let rest : List Group = drop groups s.groups in
@@ -177,9 +168,9 @@ below_weight limit t s d groups can passes =
     record {
       told = λ told routes r.
           let p = passes.told told in
-          let q = p.2 routes r in
-          let over = can.laws.stopped_long t routes plans (on_tapes q.0) limit p.0 part rest (playable routes r) (omega (arith, can.few)) (stops_are t plans q.0 p.0 q.1) q.2 in
-          (p.0, p.1, subst (λ (gs : List Group). limit < weight t routes gs (script_restarts gs + p.0)) whole over);
+          let q = p.3 routes r in
+          let over = can.laws.stopped_long t routes plans q.0 limit (length s.stops) part rest (playable routes r) (omega (arith, can.few)) (omega (arith, q.1, p.2)) q.2 in
+          subst (λ (gs : List Group). limit < weight t routes gs (script_restarts gs + length s.stops)) whole over;
       calm = λ none shown routes r.
           let over = can.laws.calm_long t routes plans limit part rest (playable routes r) (omega (arith, can.few)) (passes.calm none shown routes r) in
           subst (λ (gs : List Group). limit < weight t routes gs (script_restarts gs)) whole over;

@@ -4,7 +4,7 @@ use Rattle.nsi_outside.specs.Stream.{WritesAll, WritesFront}
 use Rattle.stp_topology.specs.declared.network.Network.{Network}
 use Rattle.stp_topology.specs.Network.{name_of}
 use Rattle.nsi_script.specs.declared.script.Script.{Script}
-pub use Rattle.fault_lines.specs.Counts.{Counts, counted, HasRisen, HasDiskFault}
+pub use Rattle.fault_lines.specs.Counts.{Counts, counted, HasRisen}
 use Rattle.fault_lines.specs.Lines.{journal_fault, disk_fault_line, long_line, read_fault_line}
 use Rattle.agent_threads.specs.declared.fault.RunFault.{RunFault}
 use Rattle.agent_threads.specs.declared.report.RunOptions.{RunOptions}
@@ -30,11 +30,15 @@ WritesSomeFront P old new = IfSome old (λ c. (text : List ℕ) × (k : ℕ) × 
 
 ---- Runs that were cut short
 
+-- a call of a disk has failed
+abbrev pub HasFaulted : Counts → Counts → Type 0
+HasFaulted before after = HasRisen before.faults after.faults
+
 -- Writing was cut short: in the run, or behind a fault of reading or of a disk, whose counts then rose.
 abbrev pub IsCutShort : RunOptions → Disks → (content left : Option (List ℕ)) → (before after : Counts) → Option (List ℕ) → Type 0
 IsCutShort options d content left before after new =
     ((after.reads ≡ before.reads) × IfSome left (λ bytes. WritesSomeFront (Begins options d bytes) content new)) ⊎ ((before.reads < after.reads) × WritesFront content new read_fault_line)
-    ⊎ (HasDiskFault before after × IfSome left (λ bytes. WritesSomeFront (Breaks options d bytes) content new))
+    ⊎ (HasFaulted before after × IfSome left (λ bytes. WritesSomeFront (Breaks options d bytes) content new))
 
 ---- Steps of a run
 
@@ -86,10 +90,10 @@ IsQuiet before after = IsShelfQuiet before.faults after.faults before.stops afte
 pub record HasRun (Texts : RunEnd → List ℕ → Type 0) (Fronts Broken : List ℕ → Type 0) (old new : Option (List ℕ)) (before after : Counts) (faults_before faults_after : ℕ) (end : RunEnd) : Type 0 where
   pub ends : is_told end ≡ true → WritesSome (Texts end) old new
   pub broken : end ≡ RunEnd.DiskFault → WritesSome Broken old new
-  pub disk : end ≡ RunEnd.DiskFault → HasDiskFault before after
+  pub disk : end ≡ RunEnd.DiskFault → HasFaulted before after
   pub unfinished :
       (end ≡ RunEnd.WriteFault) ⊎ (end ≡ RunEnd.NoMemory)
-      → WritesSomeFront Fronts old new ⊎ (HasDiskFault before after × WritesSomeFront Broken old new)
+      → WritesSomeFront Fronts old new ⊎ (HasFaulted before after × WritesSomeFront Broken old new)
   pub write : end ≡ RunEnd.WriteFault → faults_before < faults_after
   pub quiet : (end ≡ RunEnd.WriteFault → ⊥) → faults_after ≡ faults_before
   pub quiet_disk : is_told end ≡ true → (HidesDisks end → ⊥) → IsQuiet before after

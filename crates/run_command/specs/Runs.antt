@@ -4,7 +4,6 @@ use Rattle.std.specs.List.{All}
 use Rattle.nsi_base.specs.Lines.{lines_of}
 use Rattle.nsi_base.specs.Range.{greatest_input}
 use Rattle.nsi_primitive.specs.declared.entry.Event.{Event}
-use Rattle.nsi_disk.specs.ShelfCounts.{Raised}
 use Rattle.stp_topology.specs.declared.fault.TopologyFault.{TopologyFault}
 use Rattle.stp_topology.specs.declared.network.Network.{Network}
 use Rattle.stp_topology.specs.Network.{nothing, name_of}
@@ -111,11 +110,12 @@ pub record IsSettled (options : RunOptions) (d : Disks) (t : Network) (script : 
   pub within : length events ≤ options.limit
   pub spelled : text ≡ written options.report t events ++ closing_line options.report (totals_of t events)
 
--- The limit is below the weight of the script, whichever legs are those of the least paths: with as many restarts as the script has and disks have
--- stopped, where the shelf tells what it holds; and with those of the script, where no disk has stopped and the play is known.
-pub record IsBelowWeight (limit : ℕ) (d : Disks) (t : Network) (script : List Group) : Type 0 where
-  pub told : AreTold t d.held → (routes : Routes) → AreRoutes t routes → (by : ℕ) × Raised d.before by d.after × (limit < weight t routes script (script_restarts script + by))
-  pub calm : NoneStops d → IsShown t script d.held → (routes : Routes) → AreRoutes t routes → limit < weight t routes script (script_restarts script)
+-- The limit is below the weight of the script, whichever legs are those of the least paths: with as many restarts as the script has lines that
+-- restart an agent or stop a disk, where the shelf tells what it holds; and with those of the script alone, where no disk has stopped and the
+-- play is known.
+pub record IsBelowWeight (limit : ℕ) (d : Disks) (t : Network) (script : Script) : Type 0 where
+  pub told : AreTold t d.held → (routes : Routes) → AreRoutes t routes → limit < weight t routes script.groups (script_restarts script.groups + length script.stops)
+  pub calm : NoneStops d → IsShown t script.groups d.held → (routes : Routes) → AreRoutes t routes → limit < weight t routes script.groups (script_restarts script.groups)
 
 -- As many groups as make no more events than that, and behind them that there are more. So it is only where the weight of the script is above the
 -- limit.
@@ -123,8 +123,8 @@ pub record IsTooLong (options : RunOptions) (d : Disks) (t : Network) (script : 
   pub groups : ℕ
   pub events : List Event
   pub first : IsTextOf options d (NoneStops d ⊎ NoRestart events) t script groups events
-  pub passes : PartPasses t (plans_of script.lose) d.held d.before d.after (NoneStops d) options.limit script.groups (take (groups + 1) script.groups)
-  pub below : IsBelowWeight options.limit d t script.groups
+  pub passes : PartPasses t (plans_of script.lose) (length script.stops) d.held d.before d.after (NoneStops d) options.limit script.groups (take (groups + 1) script.groups)
+  pub below : IsBelowWeight options.limit d t script
   pub spelled : text ≡ written options.report t events ++ long_line
 
 -- some first groups of the play, and that text behind them
@@ -193,7 +193,7 @@ OfRead bytes P = (t : Network) × (script : Script) × AreRead bytes t script ×
 
 -- the bytes are a topology and a script, and the limit is below the weight of this
 abbrev pub OfHeavy : RunOptions → Disks → List ℕ → Type 0
-OfHeavy options d bytes = OfRead bytes (λ t script. IsBelowWeight options.limit d t script.groups)
+OfHeavy options d bytes = OfRead bytes (λ t script. IsBelowWeight options.limit d t script)
 
 -- the input is longer than is taken, or the limit is below the weight of its script
 abbrev pub IsHeavy : RunOptions → Disks → List ℕ → Type 0

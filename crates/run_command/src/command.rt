@@ -7,7 +7,7 @@ ghost use Rattle.stp_topology.specs.Network.{name_of};
 ghost use Rattle.nsi_script.specs.Fits.{Fits};
 ghost use Rattle.settled_play.specs.Settled.{PlayLeavesNone};
 ghost use Rattle.fault_lines.specs.Lines.{topology_fault, script_fault, journal_fault, disk_fault_line, read_fault_line};
-ghost use Rattle.run_command.specs.Ends.{is_told, WritesSome, WritesSomeFront, IsCutShort, IsQuiet, HasDiskFault, IsTold, Closes, IsOfAgent, FailsAs, HidesDisks, HasPlayed, HasRead, counted};
+ghost use Rattle.run_command.specs.Ends.{is_told, WritesSome, WritesSomeFront, IsCutShort, IsQuiet, HasFaulted, IsTold, Closes, IsOfAgent, FailsAs, HidesDisks, HasPlayed, HasRead, counted};
 ghost use Rattle.topology_input.specs.Reading.{IsDeclared};
 ghost use Rattle.run_command.specs.Runs.{NothingIsSafeThroughout, Disks, disks, Runs, Begins, Breaks, KeepsPlay, KeepsRun, IsBelowWeight, OfHeavy, IsHeavy, closing_line};
 
@@ -42,7 +42,7 @@ pub enum RunEnd {
     Long,
     ReadFault,
     WriteFault,
-    /// An agent's disk failed, or it stopped while a journal was made or read.
+    /// An agent's disk failed.
     DiskFault,
     /// A journal that was to be read again is none.
     NotAJournal,
@@ -180,7 +180,7 @@ where
         topology.now script.now }
     ensures settles { result ≡ RunEnd.Long → IsBelowWeight options.limit
         (disks (H.holds shelf.old) (H.holds shelf.new) (H.stops shelf.old) (H.stops shelf.new))
-        topology.now script.now.groups }
+        topology.now script.now }
 {
     topology.facts();
     topology.laws();
@@ -301,7 +301,7 @@ where
         WritesAll (K.content out.old) (K.content out.new) read_fault_line }
     ensures write_fault { result ≡ RunEnd.WriteFault → K.faults out.old < K.faults out.new }
     ensures disk_fault { result ≡ RunEnd.DiskFault →
-        HasDiskFault
+        HasFaulted
         (counted (S.faults input.old) (H.faults shelf.old) (H.stops shelf.old))
         (counted (S.faults input.new) (H.faults shelf.new) (H.stops shelf.new)) }
     ensures broken { result ≡ RunEnd.DiskFault → IfSome (S.left input.old)
@@ -317,7 +317,7 @@ where
         (K.content out.new) }
 
     // No fault is swallowed, and none is told as want of memory; but in the round that has too many events another disk
-    // may have failed, and so may that of a journal without a reading. A disk that has stopped in a round is no fault.
+    // may have failed, and so may that of a journal without a reading. A disk that has stopped is no fault.
     ensures quiet_in { is_told result ≡ true → S.faults input.new ≡ S.faults input.old }
     ensures quiet_out { (result ≡ RunEnd.WriteFault → ⊥) → K.faults out.new ≡ K.faults out.old }
     ensures quiet_disk { is_told result ≡ true → (HidesDisks result → ⊥) →
