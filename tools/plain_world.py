@@ -336,19 +336,20 @@ class Disk:
         self.calls += 1
         return self.stops.get(self.calls)
 
-    def go(self, calls):
-        """Calls of a journal that is made or read: a stop there ends the run."""
-        for _ in range(calls):
-            if self.call():
-                raise End("DiskFault", f"fault disk {self.agent}")
+    def tries(self, calls):
+        """So many calls, which begin again where the disk stops among them. How often it stopped."""
+        tries = 0
+        while any(self.call() for _ in range(calls)):
+            tries += 1
+        return tries
 
     def make(self):
         """The file is cut, that is synced, a closed gate is written, and that is synced."""
-        self.go(4)
+        return self.tries(4)
 
     def read(self):
         """A sync, the length, and the bytes; a short file gets a closed gate, which is synced."""
-        self.go(5 if self.is_short else 3)
+        return self.tries(5 if self.is_short else 3)
 
     def keep(self):
         """A batch is written, synced, its gate is opened, and that is synced. Whether the disk stops there, and whether the batch is kept."""
@@ -402,7 +403,7 @@ class Node:
 
     def restart(self):
         """Goes on from the synced entries: what was queued is gone, what waits for its acknowledgement is queued, what came lies there."""
-        self.disk.read()
+        tries = self.disk.read()
         self.has_stopped = False
         self.entries = self.entries[: self.synced]
         self.agent = self.begin()
@@ -412,7 +413,7 @@ class Node:
         self.queues = {other: [] for other in self.others}
         for message in self.agent.waiting.values():
             self.queues[receiver(message)].append(("message", message))
-        self.events.append(f"restart {self.agent.name} {self.synced}")
+        self.events += (1 + tries) * [f"restart {self.agent.name} {self.synced}"]
 
     def is_quiet(self):
         under_way = [*self.queues.values(), *self.incoming.values()]
@@ -530,7 +531,7 @@ def weighed(text):
     lines = lines_of(text)
     topology, length = read_topology(lines)
     script = read_script(lines[length:], length + 1, topology)
-    restarts = sum(line.startswith("restart ") for line in written)
+    restarts = sum(line.split()[:1] in (["restart"], ["stop"]) for line in lines[length:])
     return weight(topology, script, restarts), len(written) - 1
 
 
@@ -559,10 +560,11 @@ def play_group(nodes, second, acts, room=MOST_EVENTS):
 
 def play(nodes, groups, limit):
     """The lines of the run's whole groups, and how it ends before its script, if it does."""
-    written = []
+    made = [f"restart {agent} 0" for agent, node in nodes.items() for _ in range(node.disk.make())]
+    if len(made) > limit:
+        return [], End("Long", "fault long")
+    written = made
     try:
-        for node in nodes.values():
-            node.disk.make()
         for second, acts in groups:
             written += play_group(nodes, second, acts, limit - len(written))
     except End as end:

@@ -1,16 +1,14 @@
 //! A call of a command over bytes and disks in memory, of which one call may fail.
 
-use crate::stopping::StoppingShelf;
 use crate::texts::text_of;
 use nsi_base::Name;
-use nsi_disk::{FailAt, Image, MemoryShelf, NamedDisk, Stop};
+use nsi_disk::{FailAt, MemoryShelf, NamedDisk};
 use nsi_outside::{MemorySink, MemorySource};
 use nsi_program::top_plain;
 use std::alloc::{AllocError, Global};
 use std::thread::Threads;
 
-/// What fails at a call: of the source, of the sink, of both, or of an agent's disk, which may also stop there, and has the
-/// content from before that call or from behind it.
+/// What fails at a call: of the source, of the sink, of both, or of an agent's disk.
 #[derive(Clone, Copy, Debug, PartialEq, Eq)]
 pub(crate) enum Broken {
     Nothing,
@@ -18,8 +16,6 @@ pub(crate) enum Broken {
     Write,
     ReadAndWrite,
     Disk,
-    StopBefore,
-    StopBehind,
 }
 
 /// The words and pieces of the input, what the disk p1 holds, and what fails at the call with this number.
@@ -70,28 +66,14 @@ impl<'a> Call<'a> {
         Ok(failing)
     }
 
-    fn stops(&self, alloc: Global) -> Result<Vec<Stop>, AllocError> {
-        let call = self.number;
-        match self.broken {
-            Broken::StopBefore => stop_at(alloc, call, Image::Old),
-            Broken::StopBehind => stop_at(alloc, call, Image::New),
-            _ => Ok(Vec::new(alloc)),
-        }
-    }
-
-    fn shelf(&self, alloc: Global) -> Result<StoppingShelf, AllocError> {
+    fn shelf(&self, alloc: Global) -> Result<MemoryShelf, AllocError> {
         let mut disks = Vec::new(alloc);
         let name = name_of(alloc, "p1")?;
         let bytes = Vec::from_slice(alloc, self.disk)?;
         disks.push(NamedDisk { name, bytes })?;
         let failing = self.failing(alloc)?;
-        let stops = self.stops(alloc)?;
-        Ok(StoppingShelf::new(MemoryShelf::new(disks, failing), stops))
+        Ok(MemoryShelf::new(disks, failing))
     }
-}
-
-fn stop_at(alloc: Global, call: u64, image: Image) -> Result<Vec<Stop>, AllocError> {
-    Vec::from_slice(alloc, &[Stop { call, image }])
 }
 
 fn name_of(alloc: Global, agent: &str) -> Result<Name, AllocError> {
@@ -130,6 +112,14 @@ impl Ended {
     }
 }
 
+/// A copy of what is held under the name p1.
+fn content_of(alloc: Global, shelf: &MemoryShelf) -> Result<Vec<u8>, AllocError> {
+    match shelf.content(&name_of(alloc, "p1")?) {
+        Some(bytes) => Vec::from_slice(alloc, bytes),
+        None => Ok(Vec::new(alloc)),
+    }
+}
+
 /// The call, with these bytes in place of its input.
 pub(crate) fn called_with(
     rt: &(impl Threads + Sync),
@@ -143,7 +133,7 @@ pub(crate) fn called_with(
     let mut shelf = call.shelf(alloc)?;
     let status = top_plain(rt, alloc, &words, &mut source, &mut sink, &mut shelf).code();
     let written = Vec::from_slice(alloc, sink.bytes())?;
-    let disk = shelf.content(alloc)?;
+    let disk = content_of(alloc, &shelf)?;
     Ok(Ended {
         status,
         written,

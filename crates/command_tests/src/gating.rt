@@ -69,6 +69,8 @@ impl<'g, D: Disk + Drop> Disk for GatedDisk<'g, D> {
 
     ghost reads_image = { λ d. D.reads_image d.disk };
 
+    ghost few_stops = { λ d. D.few_stops d.disk };
+
     fn length(&mut self) -> Result<u64, DiskError> {
         self.disk.length()
     }

@@ -15,6 +15,5 @@ mod outside;
 #[cfg(test)]
 mod played;
 #[cfg(test)]
-mod stopping;
 #[cfg(test)]
 mod texts;

@@ -1,4 +1,4 @@
-//! `run` over a disk that fails, or stops while its journal is made. To begin a journal takes four calls, and each turn that keeps
+//! `run` over a disk that fails. To begin a journal takes four calls, and each turn that keeps
 //! something takes four: the provider has three of them, and the requester two.
 
 use crate::calling::{Broken, Call, called};
@@ -7,11 +7,10 @@ use std::test::Fail;
 
 const GROUPS: &str = "at 0\nat 1\n";
 
-/// The words, the script, what fails, whose disk it is, the first and the last call that is tried, the status, and what is written.
+/// The words, the script, whose disk fails, the first and the last call that is tried, the status, and what is written.
 type Row = (
     &'static str,
     &'static str,
-    Broken,
     &'static str,
     u64,
     u64,
@@ -21,88 +20,24 @@ type Row = (
 
 /// What is written in place of the group whose disk fails; behind its last call nothing does. The first call of the second group
 /// is that behind the calls that begin the journal and those of the first one.
-const ROWS: [Row; 7] = [
-    (
-        "run",
-        ASK,
-        Broken::Disk,
-        "p1",
-        1,
-        16,
-        7,
-        &["fault disk p1\n"],
-    ),
-    (
-        "run",
-        ASK,
-        Broken::Disk,
-        "p1",
-        17,
-        17,
-        0,
-        &[ASKED, "settled 15\n"],
-    ),
-    (
-        "run",
-        ASK,
-        Broken::Disk,
-        "r1",
-        1,
-        12,
-        7,
-        &["fault disk r1\n"],
-    ),
-    (
-        "run",
-        ASK,
-        Broken::Disk,
-        "r1",
-        13,
-        13,
-        0,
-        &[ASKED, "settled 15\n"],
-    ),
-    (
-        "run",
-        ASK,
-        Broken::StopBefore,
-        "p1",
-        1,
-        4,
-        7,
-        &["fault disk p1\n"],
-    ),
-    (
-        "run",
-        GROUPS,
-        Broken::Disk,
-        "p1",
-        9,
-        9,
-        7,
-        &[TICKED, "fault disk p1\n"],
-    ),
-    (
-        "run --summary",
-        GROUPS,
-        Broken::Disk,
-        "p1",
-        9,
-        9,
-        7,
-        &["fault disk p1\n"],
-    ),
+const ROWS: [Row; 6] = [
+    ("run", ASK, "p1", 1, 16, 7, &["fault disk p1\n"]),
+    ("run", ASK, "p1", 17, 17, 0, &[ASKED, "settled 15\n"]),
+    ("run", ASK, "r1", 1, 12, 7, &["fault disk r1\n"]),
+    ("run", ASK, "r1", 13, 13, 0, &[ASKED, "settled 15\n"]),
+    ("run", GROUPS, "p1", 9, 9, 7, &[TICKED, "fault disk p1\n"]),
+    ("run --summary", GROUPS, "p1", 9, 9, 7, &["fault disk p1\n"]),
 ];
 
 #[test]
 fn a_broken_disk_ends_a_run(rt: HostRuntime) -> Result<(), Fail> {
-    for (words, script, broken, agent, first, last, status, written) in &ROWS {
+    for (words, script, agent, first, last, status, written) in &ROWS {
         for number in *first..=*last {
             let call = Call {
                 words,
                 input: &[TOPOLOGY, script],
                 disk: b"",
-                broken: *broken,
+                broken: Broken::Disk,
                 agent,
                 number,
             };

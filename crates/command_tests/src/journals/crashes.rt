@@ -37,60 +37,46 @@ impl Lines {
     }
 }
 
-/// What the disk's call does, whose number it is, the lines that are answered then, and those that the disk has kept.
-type Row = (Broken, u64, Lines, Lines);
+/// The number of the disk's call that fails, the lines that are answered then, and those that the disk has kept.
+type Row = (u64, Lines, Lines);
 
-/// Over an empty disk. A call that fails changes nothing; where the disk stops, it has what was written, also by that call.
-const ROWS: [Row; 26] = [
-    (Broken::Disk, 1, Lines::None, Lines::None),
-    (Broken::Disk, 2, Lines::None, Lines::None),
-    (Broken::Disk, 3, Lines::None, Lines::None),
-    (Broken::Disk, 4, Lines::None, Lines::None),
-    (Broken::Disk, 5, Lines::None, Lines::None),
-    (Broken::Disk, 6, Lines::None, Lines::None),
-    (Broken::Disk, 7, Lines::None, Lines::None),
-    (Broken::Disk, 8, Lines::None, Lines::None),
-    (Broken::Disk, 9, Lines::None, Lines::First),
-    (Broken::Disk, 10, Lines::First, Lines::First),
-    (Broken::Disk, 11, Lines::First, Lines::First),
-    (Broken::Disk, 12, Lines::First, Lines::First),
-    (Broken::Disk, 13, Lines::First, Lines::Both),
-    (Broken::StopBehind, 1, Lines::None, Lines::None),
-    (Broken::StopBehind, 2, Lines::None, Lines::None),
-    (Broken::StopBehind, 3, Lines::None, Lines::None),
-    (Broken::StopBehind, 4, Lines::None, Lines::None),
-    (Broken::StopBehind, 5, Lines::None, Lines::None),
-    (Broken::StopBehind, 6, Lines::None, Lines::None),
-    (Broken::StopBehind, 7, Lines::None, Lines::None),
-    (Broken::StopBehind, 8, Lines::None, Lines::First),
-    (Broken::StopBehind, 9, Lines::None, Lines::First),
-    (Broken::StopBehind, 10, Lines::First, Lines::First),
-    (Broken::StopBehind, 11, Lines::First, Lines::First),
-    (Broken::StopBehind, 12, Lines::First, Lines::Both),
-    (Broken::StopBehind, 13, Lines::First, Lines::Both),
+/// Over an empty disk. A call that fails changes nothing.
+const ROWS: [Row; 13] = [
+    (1, Lines::None, Lines::None),
+    (2, Lines::None, Lines::None),
+    (3, Lines::None, Lines::None),
+    (4, Lines::None, Lines::None),
+    (5, Lines::None, Lines::None),
+    (6, Lines::None, Lines::None),
+    (7, Lines::None, Lines::None),
+    (8, Lines::None, Lines::None),
+    (9, Lines::None, Lines::First),
+    (10, Lines::First, Lines::First),
+    (11, Lines::First, Lines::First),
+    (12, Lines::First, Lines::First),
+    (13, Lines::First, Lines::Both),
 ];
 
 /// Over the disk of the reserve.
 const AGAIN: [Row; 7] = [
-    (Broken::Disk, 1, Lines::None, Lines::First),
-    (Broken::Disk, 2, Lines::None, Lines::First),
-    (Broken::Disk, 3, Lines::None, Lines::First),
-    (Broken::Disk, 4, Lines::None, Lines::First),
-    (Broken::Disk, 5, Lines::None, Lines::First),
-    (Broken::Disk, 6, Lines::None, Lines::First),
-    (Broken::Disk, 7, Lines::None, Lines::Both),
+    (1, Lines::None, Lines::First),
+    (2, Lines::None, Lines::First),
+    (3, Lines::None, Lines::First),
+    (4, Lines::None, Lines::First),
+    (5, Lines::None, Lines::First),
+    (6, Lines::None, Lines::First),
+    (7, Lines::None, Lines::Both),
 ];
 
-/// The two lines over the disk, where its call with this number is broken so.
-fn broken_at(
+/// The two lines over the disk, where its call with this number fails.
+fn failing_at(
     rt: &(impl Threads + Sync),
     alloc: Global,
     disk: &[u8],
-    broken: Broken,
     number: u64,
 ) -> Result<Ended, AllocError> {
     let call = Call {
-        broken,
+        broken: Broken::Disk,
         number,
         ..Call::of("provide", TWO, disk)
     };
@@ -114,14 +100,14 @@ fn is_row(
     disk: &[u8],
     row: Row,
 ) -> Result<bool, AllocError> {
-    let (broken, number, answered, kept) = row;
-    let first = broken_at(rt, alloc, disk, broken, number)?;
+    let (number, answered, kept) = row;
+    let first = failing_at(rt, alloc, disk, number)?;
     let is_cut = first.is(alloc, 7, answered.cut())?;
     Ok(is_cut && goes_on(rt, alloc, &first.disk, kept)?)
 }
 
 #[test]
-fn each_call_is_broken_in_turn(rt: HostRuntime) -> Result<(), Fail> {
+fn each_call_fails_in_turn(rt: HostRuntime) -> Result<(), Fail> {
     for row in ROWS {
         let is_right = is_row(&rt, rt.alloc(), b"", row)?;
         assert!(rt; is_right, "{row:?}");
@@ -161,8 +147,8 @@ fn is_written_row(
     kept: [Lines; 3],
 ) -> Result<bool, AllocError> {
     let [if_old, if_new, if_torn] = kept;
-    let old = broken_at(rt, alloc, b"", Broken::Disk, number)?;
-    let new = broken_at(rt, alloc, b"", Broken::Disk, number.saturating_add(1))?;
+    let old = failing_at(rt, alloc, b"", number)?;
+    let new = failing_at(rt, alloc, b"", number.saturating_add(1))?;
     let torn = torn(alloc, &old.disk, &new.disk)?;
     let is_old = goes_on(rt, alloc, &old.disk, if_old)?;
     let is_new = goes_on(rt, alloc, &new.disk, if_new)?;
@@ -177,8 +163,8 @@ fn each_image_of_each_write_goes_on(rt: HostRuntime) -> Result<(), Fail> {
         let is_right = is_written_row(&rt, rt.alloc(), number, kept)?;
         assert!(rt; is_right, "{number}");
     }
-    let old = broken_at(&rt, rt.alloc(), b"", Broken::Disk, 10)?;
-    let new = broken_at(&rt, rt.alloc(), b"", Broken::Disk, 11)?;
+    let old = failing_at(&rt, rt.alloc(), b"", 10)?;
+    let new = failing_at(&rt, rt.alloc(), b"", 11)?;
     for length in old.disk.len()..new.disk.len() {
         let is_right = goes_on(&rt, rt.alloc(), &new.disk[..length], Lines::First)?;
         assert!(rt; is_right, "{length}");
