@@ -2,6 +2,7 @@ pub mod Checks
 pub mod Ended
 pub mod OneText
 pub mod Nothing
+pub mod Completing
 pub mod Plainly
 mod Verdicts
 mod CheckRows

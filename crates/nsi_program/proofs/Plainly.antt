@@ -15,7 +15,7 @@ use Rattle.provide_command.specs.Provided.{HasProvided, CountsEnd}
 use Rattle.provide_command.specs.Writes.{WritesSome, WritesSomeFront}
 use Rattle.provide_command.proofs.Declared.{is_complete, is_safe, names_fault}
 use Rattle.run_command.specs.Ends.{IsCutShort as RunIsCutShort, IsQuiet, HasFaulted}
-use Rattle.run_command.specs.Runs.{Breaks, KeepsRun, IsHeavy}
+use Rattle.run_command.specs.Runs.{Breaks, KeepsRun, IsHeavy, IsLight}
 use Rattle.nsi_base.specs.Lines.{lines_of}
 use Rattle.nsi_base.specs.Range.{greatest_input}
 use Rattle.stp_topology.specs.declared.fault.TopologyFault.{TopologyFault}
@@ -24,12 +24,13 @@ use Rattle.stp_topology.specs.Network.{nothing}
 use Rattle.stp_topology.specs.Text.{placed, read_lines}
 use Rattle.fault_lines.specs.Lines.{topology_fault}
 use Rattle.nsi_program.specs.Check.{Checks, ChecksIf, ChecksRead, Begins}
-use Rattle.nsi_program.specs.Ends.{HasTopology, IsChecked, IsCutShort}
+use Rattle.nsi_program.specs.Ends.{HasTopology, IsChecked, IsCutShort, IsDoneOrShort}
 use Rattle.nsi_program.proofs.Nothing.{BeginWithNothing, nothing_backs, nothing_cut_short}
 use Rattle.command_words.specs.Words.{command_of}
 use Rattle.nsi_program.specs.Plain.{Outside, disks_of, EndsPlainly}
 use Rattle.nsi_program.specs.RunsTo.{RunsTo, options_of, HidesDisks}
 use Rattle.nsi_program.specs.VerifiesTo.{VerifiesTo, BeginsVerify}
+use Rattle.nsi_program.proofs.Completing.{nothing_completes, run_completes}
 use Rattle.nsi_program.proofs.Ended.{provide_ended, with_reading, check_ended, usage_ended, check_cut_short, usage_cut_short, generate_ended, generate_cut_short, generated_is, run_ended, run_names_fault, verify_ended, verify_names_fault}
 
 -- the command that is named ends as its own
@@ -58,6 +59,7 @@ provide_plain most old new status few p q b = record {
   backed = λ m e. b;
   journals = λ play e. absurd (no_play play e);
   settles = λ play e. absurd (no_play play e);
+  completes = λ play e. absurd (no_play play e);
   quiet_in = q.quiet_in;
   quiet_out = q.quiet_out;
   quiet_disk = λ told _. (q.quiet_faults told, q.quiet_stops told);
@@ -151,6 +153,7 @@ check_plain old content left reads writes status p = record {
   backed = λ m e. absurd (no_provide m e);
   journals = λ play e. absurd (no_play play e);
   settles = λ play e. absurd (no_play play e);
+  completes = λ play e. absurd (no_play play e);
   quiet_in = p.quiet_in;
   quiet_out = p.quiet_out;
   quiet_disk = λ told _. (raised_none old.counts.faults, raised_none old.counts.stops);
@@ -196,6 +199,7 @@ generate_plain load old content writes status p = record {
   backed = λ m e. absurd (no_provide m e);
   journals = λ play e. absurd (no_play play e);
   settles = λ play e. absurd (no_play play e);
+  completes = λ play e. absurd (no_play play e);
   quiet_in = λ told. refl;
   quiet_out = p.quiet;
   quiet_disk = λ told _. (raised_none old.counts.faults, raised_none old.counts.stops);
@@ -231,6 +235,7 @@ usage_plain old content writes status p = record {
   backed = λ m e. absurd (no_command (Command.Provide m) e);
   journals = λ play e. absurd (no_command (Command.Run play) e);
   settles = λ play e. absurd (no_command (Command.Run play) e);
+  completes = λ play e. absurd (no_command (Command.Run play) e);
   quiet_in = λ told. refl;
   quiet_out = p.quiet;
   quiet_disk = λ told _. (raised_none old.counts.faults, raised_none old.counts.stops);
@@ -261,6 +266,7 @@ nothing_plain none words old = record {
   backed = λ m e. nothing_backs old.holds old.content old.left;
   journals = λ play e done. absurd (no_done done);
   settles = λ play e long. absurd (no_long long);
+  completes = λ play e _. nothing_completes play old.holds old.left old.content;
   quiet_in = λ told. refl;
   quiet_out = λ told. refl;
   quiet_disk = λ told _. absurd (untold told);
@@ -323,6 +329,8 @@ run_plain play old new status p = record {
   backed = λ m e. absurd (no_provide m e);
   journals = λ other e. p.journals;
   settles = λ other e long. subst (λ (own : Play). IfSome old.left (λ bytes. IsHeavy (options_of own) (disks_of old new) bytes)) (same_play other e) (p.settles long);
+  completes = λ other e quiet. subst (λ (own : Play). IfSome old.left (λ bytes. IfSome old.content (λ content. IsLight own.most old.holds bytes → IsDoneOrShort status))) (same_play other e)
+      (run_completes play old new status p.ends p.read_fault p.write_fault p.disk_fault quiet);
   quiet_in = p.quiet_in;
   quiet_out = p.quiet_out;
   quiet_disk = p.quiet_disk;
@@ -378,6 +386,7 @@ verify_plain most old content left reads writes status p = record {
   backed = λ m e. absurd (no_provide m e);
   journals = λ play e. absurd (no_play play e);
   settles = λ play e. absurd (no_play play e);
+  completes = λ play e. absurd (no_play play e);
   quiet_in = p.quiet_in;
   quiet_out = p.quiet_out;
   quiet_disk = λ told _. (raised_none old.counts.faults, raised_none old.counts.stops);

@@ -43,6 +43,16 @@ abbrev pub HasDiskEnd : Option Command → Counts → Counts → Type 0
 HasDiskEnd (Some (Command.Run play)) before after = HasFaulted before after
 HasDiskEnd _ before after = HasDiskFault before after
 
+-- No call of the source, of the sink or of a disk has failed.
+pub record NoneFailed (before after : Counts) (writes_before writes_after : ℕ) : Type 0 where
+  pub reads : after.reads ≡ before.reads
+  pub writes : writes_after ≡ writes_before
+  pub disks : HasFaulted before after → ⊥
+
+-- All is done, or memory was wanting.
+abbrev pub IsDoneOrShort : Status → Type 0
+IsDoneOrShort status = (status ≡ Status.Done) ⊎ (status ≡ Status.NoMemory)
+
 -- what the command, its input and its journal promise of how it ends
 abbrev pub MayEnd : Option Command → Disks → Option (List ℕ) → Option (List ℕ) → Option (Status × List ℕ) → Type 0
 MayEnd None d content left promise = promise ≡ usage_promise content

@@ -9,8 +9,8 @@ use Rattle.provide_command.specs.declared.status.Status.{Status}
 use Rattle.provide_command.specs.Backed.{Backs}
 use Rattle.provide_command.specs.Ends.{WithReading}
 use Rattle.provide_command.specs.Promise.{is_told, read_fault_line, Writes, IsComplete, IsSafe, NamesFault}
-use Rattle.run_command.specs.Runs.{Disks, disks, KeepsRun, IsHeavy}
-use Rattle.nsi_program.specs.Ends.{HasEnded, IsChecked, IsCut, IsBroken, IsCutShort, ReadsTopology, TellsDisks, AreQuiet, HasDiskEnd}
+use Rattle.run_command.specs.Runs.{Disks, disks, KeepsRun, IsHeavy, IsLight}
+use Rattle.nsi_program.specs.Ends.{HasEnded, IsChecked, IsCut, IsBroken, IsCutShort, ReadsTopology, TellsDisks, AreQuiet, HasDiskEnd, NoneFailed, IsDoneOrShort}
 use Rattle.nsi_program.specs.RunsTo.{options_of}
 
 -- what a sink has, what a source still has, what disks hold, and the counts of all their faults
@@ -47,6 +47,7 @@ pub record EndsPlainly (command : Option Command) (old new : Outside) (status : 
   pub backed : (most : ℕ) → command ≡ Some (Command.Provide most) → Backs old.holds new.holds old.content old.left new.content
   pub journals : (play : Play) → command ≡ Some (Command.Run play) → status ≡ Status.Done → IfSome old.left (λ bytes. KeepsRun bytes (disks_of old new))
   pub settles : (play : Play) → command ≡ Some (Command.Run play) → status ≡ Status.Long → IfSome old.left (λ bytes. IsHeavy (options_of play) (disks_of old new) bytes)
+  pub completes : (play : Play) → command ≡ Some (Command.Run play) → NoneFailed old.counts new.counts old.writes new.writes → IfSome old.left (λ bytes. IfSome old.content (λ content. IsLight play.most old.holds bytes → IsDoneOrShort status))
   pub quiet_in : is_told status ≡ true → new.counts.reads ≡ old.counts.reads
   pub quiet_out : is_told status ≡ true → new.writes ≡ old.writes
   pub quiet_disk : is_told status ≡ true → TellsDisks command status → AreQuiet command old.counts new.counts

@@ -9,10 +9,10 @@ ghost use Rattle.command_words.specs.declared.command.Command.TheVariants.{Provi
 ghost use Rattle.command_words.specs.declared.command.Load.{Load};
 ghost use Rattle.command_words.specs.declared.command.Play.{Play};
 ghost use Rattle.nsi_script.specs.Load.{load_of};
-ghost use Rattle.run_command.specs.Runs.{disks, KeepsRun, IsHeavy};
+ghost use Rattle.run_command.specs.Runs.{disks, KeepsRun, IsHeavy, IsLight};
 ghost use Rattle.fault_lines.specs.Counts.{counted};
 ghost use Rattle.provide_command.specs.Ends.{WithReading};
-ghost use Rattle.nsi_program.specs.Ends.{HasEnded, IsChecked, IsCut, IsBroken, IsCutShort, ReadsTopology, TellsDisks, AreQuiet, HasDiskEnd};
+ghost use Rattle.nsi_program.specs.Ends.{HasEnded, IsChecked, IsCut, IsBroken, IsCutShort, ReadsTopology, TellsDisks, AreQuiet, HasDiskEnd, NoneFailed, IsDoneOrShort};
 ghost use Rattle.nsi_program.specs.Plain.{EndsPlainly, outside};
 ghost use Rattle.nsi_program.specs.RunsTo.{options_of};
 
@@ -110,13 +110,20 @@ where
 
     // `run` makes too many events only where the input is too long, or where the weight of its script is above the
     // limit: a number that topology and script tell, with as many restarts as the script has lines that restart an
-    // agent or stop a disk. So with a limit of that weight it is Done, or a fault comes from outside.
+    // agent or stop a disk. So with a limit of that weight it is Done, or memory is wanting, where no call fails outside.
     ensures settles { (play : Play)
         → command_of (map string_bytes words.now) ≡ Some (RunValue play)
         → result ≡ Status.Long → IfSome (S.left input.old)
         (λ bytes. IsHeavy (options_of play)
         (disks (H.holds shelf.old) (H.holds shelf.new) (H.stops shelf.old) (H.stops shelf.new))
         bytes) }
+    ensures completes { (play : Play)
+        → command_of (map string_bytes words.now) ≡ Some (RunValue play)
+        → NoneFailed (counted (S.faults input.old) (H.faults shelf.old) (H.stops shelf.old))
+        (counted (S.faults input.new) (H.faults shelf.new) (H.stops shelf.new))
+        (K.faults out.old) (K.faults out.new)
+        → IfSome (S.left input.old) (λ bytes. IfSome (K.content out.old)
+        (λ content. IsLight play.most (H.holds shelf.old) bytes → IsDoneOrShort result)) }
 
     // No fault is swallowed, and none is told as want of memory; but a failed read is, or a failed disk, where there is
     // no memory for its line. In the round of `run` that has too many events another agent's disk may have failed too,

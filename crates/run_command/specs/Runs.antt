@@ -191,6 +191,18 @@ pub record AreRead (bytes : List ℕ) (t : Network) (script : Script) : Type 0 w
 abbrev pub OfRead : List ℕ → (Network → Script → Type 0) → Type 0
 OfRead bytes P = (t : Network) × (script : Script) × AreRead bytes t script × P t script
 
+-- The bytes are a topology and a script, and no more than are taken; the shelf tells what it holds under the agents' names; and the weight of
+-- the script is within the limit, where the legs are those of the least paths.
+pub record IsLight (limit : ℕ) (held : Holds) (bytes : List ℕ) : Type 0 where
+  pub fits : length bytes ≤ greatest_input
+  pub topology : Network
+  pub script : Script
+  pub read : AreRead bytes topology script
+  pub told : AreTold topology held
+  pub routes : Routes
+  pub least : AreRoutes topology routes
+  pub within : weight topology routes script.groups (script_restarts script.groups + length script.stops) ≤ limit
+
 -- the bytes are a topology and a script, and the limit is below the weight of this
 abbrev pub OfHeavy : RunOptions → Disks → List ℕ → Type 0
 OfHeavy options d bytes = OfRead bytes (λ t script. IsBelowWeight options.limit d t script)

@@ -62,3 +62,6 @@ returns-clause-memory g c = c.top.ensures.plain.memory
 
 pub returns-clause-settles : goal.returns-clause-settles
 returns-clause-settles g c = c.top.ensures.plain.settles
+
+pub returns-clause-completes : goal.returns-clause-completes
+returns-clause-completes g c = c.top.ensures.plain.completes
