@@ -1,16 +1,13 @@
 -- What stands at a key of an object that was made field by field.
-use Rattle.std.proofs.Common.{◌≡◌, ℕ, List, [], ◌∷◌, ◌++◌, Result, Ok, Err, OnOk, OnErr, Option, Some, None, option_map, Ordering, Less, Equal, Greater, nat_cmp, cond, Bool, true, false, not, ◌&&◌, bytes_eq, refl, sym, ap, ◌∙◌, subst, arith, ◌||◌}
+use Rattle.std.proofs.Common.{◌≡◌, ℕ, List, [], ◌∷◌, ◌++◌, Option, Some, None, option_map, cond, Bool, true, false, not, ◌&&◌, bytes_eq, refl, sym, ap, ◌∙◌, subst, arith}
 use Rattle.std.proofs.lemmas.Slice.Eq.{bytes_eq-Decides}
 use Rattle.std.proofs.lemmas.Bool.{false≢true}
 use Rattle.std.specs.Bool.{Decides}
-use Rattle.std.specs.Cmp.Lexicographic.{slice_cmp}
-use Rattle.std.specs.Ordering.{match_ordering}
-use Rattle.serde_json.specs.Data.{Data, Members, no_members, member, put}
+use Rattle.serde_json.specs.Data.{Data, Members, put}
 use Rattle.serde_json.specs.Find.{get_member}
-use Rattle.serde_json.specs.Written.{has_float, members_have_float}
 use Rattle.serde_json.proofs.Views.{get_member-put, get_member-put_other}
 use Rattle.json_fields.specs.Keys.{name_of}
-use Rattle.json_fields.specs.Objects.{Scalar, digits, words, flag, scalar_data, Field, with_value, with_fields, IsFlat}
+use Rattle.json_fields.specs.Objects.{Scalar, scalar_data, Field, with_value, with_fields}
 use Rattle.json_fields.specs.declared.key.Key.{Key}
 
 pub get_member-put_at : (k l : List ℕ) (d : Data) (ms : Members) → get_member k (put l d ms) ≡ cond (bytes_eq k l) (Some d) (get_member k ms)
@@ -71,48 +68,6 @@ get_member-with_fields k (f ∷ fs) ms a h =
         let P : List ℕ → Type 0 = λ z. is_absent z fs ≡ true in
         get_member-absent k fs (with_value f.0 f.1 ms) (subst P (sym same) (both _ (are_apart fs) a).0) ∙ here k f.0 f.1 ms same h
     by_test false d e next = next (with_value f.0 f.1 ms) (get_member-with_value k f.0 f.1 ms e ∙ h)
-
-flat_member : (k : List ℕ) (s : Scalar) (ms : Members) → IsFlat ms → IsFlat (member k (scalar_data s) ms)
-flat_member k (digits n) ms p = record { flat = omega (arith, p.flat); exact = p.exact }
-flat_member k (words w) ms p = record { flat = omega (arith, p.flat); exact = p.exact }
-flat_member k (flag b) ms p = record { flat = omega (arith, p.flat); exact = p.exact }
-
-flat_rest : (k : List ℕ) (d : Data) (ms : Members) → IsFlat (member k d ms) → IsFlat ms
-flat_rest k d ms p = record { flat = omega (arith, p.flat); exact = right (has_float d) (members_have_float ms) p.exact }
-  where
-    right : (a b : Bool) → (a || b) ≡ false → b ≡ false
-    right a b h = grind arith
-
-flat_again : (k : List ℕ) (d : Data) (ms ns : Members) → IsFlat (member k d ms) → IsFlat ns → IsFlat (member k d ns)
-flat_again k d ms ns p q = record { flat = omega (arith, p.flat, q.flat); exact = joined (has_float d) (members_have_float ms) (members_have_float ns) p.exact q.exact }
-  where
-    joined : (a b c : Bool) → (a || b) ≡ false → c ≡ false → (a || c) ≡ false
-    joined a b c h e = grind arith
-
-flat_choice : (o : Ordering) (a b c : Members) → IsFlat a → IsFlat b → IsFlat c → IsFlat (match_ordering o a b c)
-flat_choice Less a b c p q r = p
-flat_choice Equal a b c p q r = q
-flat_choice Greater a b c p q r = r
-
-pub flat_put : (k : List ℕ) (s : Scalar) (ms : Members) → IsFlat ms → IsFlat (put k (scalar_data s) ms)
-flat_put k s no_members p = flat_member k s no_members p
-flat_put k s (member l e ms) p =
-    let rest = flat_rest l e ms p in
-    flat_choice (slice_cmp nat_cmp k l) _ _ _ (flat_member k s (member l e ms) p) (flat_member l s ms rest) (flat_again l e ms _ p (flat_put k s ms rest))
-
-flat_value : (key : Key) (o : Option Scalar) (ms : Members) → IsFlat ms → IsFlat (with_value key o ms)
-flat_value key None ms p = p
-flat_value key (Some s) ms p = flat_put (name_of key) s ms p
-
-pub flat_fields : (fs : List Field) (ms : Members) → IsFlat ms → IsFlat (with_fields ms fs)
-unfolding with_fields
-flat_fields [] ms p = p
-flat_fields (f ∷ fs) ms p = flat_fields fs (with_value f.0 f.1 ms) (flat_value f.0 f.1 ms p)
-
--- an object stays flat where a scalar is put to it, and where that fails
-pub flat_after : {T E : Type 0} (r : Result T E) (k : List ℕ) (s : Scalar) (d : Data) (old new : Members) → d ≡ scalar_data s → IsFlat old → OnOk r (new ≡ put k d old) → OnErr r (new ≡ old) → IsFlat new
-flat_after (Ok x) k s d old new same flat ok err = let P : Members → Type 0 = IsFlat in subst P (ap (λ z. put k z old) (sym same) ∙ sym ok) (flat_put k s old flat)
-flat_after (Err e) k s d old new same flat ok err = subst IsFlat (sym err) flat
 
 -- putting two lists of fields is putting one after the other
 pub with_fields-append : (ms : Members) (fs gs : List Field) → with_fields ms (fs ++ gs) ≡ with_fields (with_fields ms fs) gs

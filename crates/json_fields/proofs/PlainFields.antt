@@ -8,10 +8,10 @@ use Rattle.serde_json.specs.View.{items_of}
 use Rattle.serde_json.specs.Written.{has_float, compact_text}
 use Rattle.json_fields.specs.Fields.{json_of}
 use Rattle.json_fields.specs.Keys.{name_of}
-use Rattle.json_fields.specs.Objects.{Scalar, digits, words, flag, scalar_data, Field, with_value, with_fields, IsFlatRow}
+use Rattle.json_fields.specs.Objects.{Scalar, digits, words, flag, scalar_data, Field, with_value, with_fields}
 use Rattle.json_fields.specs.Written.{with_rows}
 use Rattle.json_fields.specs.declared.key.Key.{Key}
-use Rattle.json_fields.proofs.RowLists.{IsWithin, within_put, rows_shallow, rows_exact}
+use Rattle.json_fields.proofs.RowLists.{IsFlatRow, IsWithin, within_put, rows_shallow, rows_exact}
 use Rattle.json_fields.proofs.Spelled.{IsPlain, ArePlainItems, ArePlain, AreInOrder, order_put, plain_put, spelled_again}
 
 ascii_name : (key : Key) → are_ascii (name_of key) ≡ true
@@ -34,9 +34,12 @@ ascii_name Key.EndTime = refl
 ascii_name Key.Ero = refl
 ascii_name Key.ErrorId = refl
 ascii_name Key.Event = refl
+ascii_name Key.Fault = refl
 ascii_name Key.GlobalReservationId = refl
+ascii_name Key.Key = refl
 ascii_name Key.Kind = refl
 ascii_name Key.LifecycleState = refl
+ascii_name Key.Line = refl
 ascii_name Key.Load = refl
 ascii_name Key.More = refl
 ascii_name Key.NotificationId = refl
@@ -64,7 +67,7 @@ ascii_name Key.TimeoutValue = refl
 ascii_name Key.Version = refl
 ascii_name Key.VersionConsistent = refl
 
-name_text : (key : Key) → IsUtf8 (name_of key)
+pub name_text : (key : Key) → IsUtf8 (name_of key)
 name_text key = IsUtf8-are_ascii (name_of key) (ascii_name key)
 
 -- numbers of 64 bits, and texts in UTF-8
@@ -97,7 +100,7 @@ pub record ArePlainWithin (most : ℕ) (ms : Members) : Type 0 where
   pub order : AreInOrder ms
   pub within : IsWithin most ms
 
-plain_value : (key : Key) (o : Option Scalar) (ms : Members) → IfSome o IsPlainScalar → ArePlainWithin 0 ms → ArePlainWithin 0 (with_value key o ms)
+pub plain_value : (key : Key) (o : Option Scalar) (ms : Members) → IfSome o IsPlainScalar → ArePlainWithin 0 ms → ArePlainWithin 0 (with_value key o ms)
 plain_value key None ms h p = p
 plain_value key (Some s) ms h p = record {
   plain = plain_put (name_of key) (scalar_data s) ms (name_text key) (plain_scalar s h) p.plain;
@@ -110,7 +113,7 @@ unfolding with_fields
 with_plain [] ms h p = p
 with_plain (f ∷ fs) ms h p = with_plain fs (with_value f.0 f.1 ms) h.1 (plain_value f.0 f.1 ms h.0 p)
 
-none_plain : ArePlainWithin 0 no_members
+pub none_plain : ArePlainWithin 0 no_members
 none_plain = record { plain = tt; order = tt; within = record { shallow = omega arith; exact = refl } }
 
 pub plain_fields : (fs : List Field) → AllByRecursion IsPlainField fs → ArePlainWithin 0 (with_fields no_members fs)

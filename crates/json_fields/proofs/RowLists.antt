@@ -1,20 +1,21 @@
 -- An object with a list of rows in it.
-use Rattle.std.proofs.Common.{◌≡◌, ◌≤◌, ℕ, List, [], ◌∷◌, ◌++◌, Ordering, Less, Equal, Greater, nat_cmp, Bool, false, ◌||◌, refl, arith}
+use Rattle.std.proofs.Common.{◌≡◌, ◌≤◌, ℕ, List, [], ◌∷◌, Ordering, Less, Equal, Greater, nat_cmp, Bool, false, ◌||◌, refl, arith}
 use Rattle.std.specs.Cmp.Lexicographic.{slice_cmp}
 use Rattle.std.specs.List.{AllByRecursion}
 use Rattle.std.specs.Ordering.{match_ordering}
-use Rattle.serde_json.specs.Data.{Data, array, object, Members, no_members, member, put, depth, items_depth, members_depth}
+use Rattle.serde_json.specs.Data.{Data, Members, no_members, member, put, depth, items_depth, members_depth}
 use Rattle.serde_json.specs.View.{items_of}
 use Rattle.serde_json.specs.Written.{has_float, items_have_float, members_have_float}
-use Rattle.json_fields.specs.Objects.{IsFlat, IsFlatRow}
 
 -- nothing is deeper than this, and there is no float
 pub record IsWithin (most : ℕ) (ms : Members) : Type 0 where
   pub shallow : members_depth ms ≤ most
   pub exact : members_have_float ms ≡ false
 
-pub flat_row : (ms : Members) → IsFlat ms → IsFlatRow (object ms)
-flat_row ms p = record { shallow = omega (arith, p.flat); exact = p.exact }
+-- an object with nothing but numbers, texts and flags in it
+pub record IsFlatRow (d : Data) : Type 0 where
+  pub shallow : depth d ≤ 1
+  pub exact : has_float d ≡ false
 
 neither : (a b : Bool) → a ≡ false → b ≡ false → (a || b) ≡ false
 neither a b h e = grind arith
@@ -52,15 +53,3 @@ within_put most k d (member l e ms) low exact p =
     let first_low : depth e ≤ most = omega (arith, shallow) in
     let first_exact = first_of (has_float e) (members_have_float ms) p.exact in
     within_choice most (slice_cmp nat_cmp k l) _ _ _ (within_member most k d (member l e ms) low exact p) (within_member most l d ms low exact rest) (within_member most l e _ first_low first_exact (within_put most k d ms low exact rest))
-
--- an object with rows is three deep at most
-pub with_rows_within : (k : List ℕ) (rows : List Data) (ms : Members) → AllByRecursion IsFlatRow rows → IsFlat ms → IsWithin 2 (put k (array (items_of rows)) ms)
-with_rows_within k rows ms each flat =
-    let low = rows_shallow rows each in
-    let none = flat.flat in
-    within_put 2 k (array (items_of rows)) ms (omega (arith, low)) (rows_exact rows each) (record { shallow = omega (arith, none); exact = flat.exact })
-
--- a row more
-pub each_pushed : (rows : List Data) (d : Data) → AllByRecursion IsFlatRow rows → IsFlatRow d → AllByRecursion IsFlatRow (rows ++ d ∷ [])
-each_pushed [] d each here = (here, tt)
-each_pushed (e ∷ rows) d each here = (each.0, each_pushed rows d each.1 here)

@@ -3,4 +3,7 @@ pub mod Faults
 pub mod Fields
 pub mod RowFields
 pub mod Objects
+pub mod Plain
+pub mod Ranks
+pub mod Members
 pub mod Written

@@ -1,7 +1,6 @@
 -- Objects that are written key by key.
-use Rattle.std.specs.Prelude.{◌≡◌, ◌≤◌, ℕ, List, [], ◌∷◌, Bool, false, Option, Some, None}
-use Rattle.serde_json.specs.Data.{Data, Members, put, string, number, boolean, unsigned, depth, members_depth}
-use Rattle.serde_json.specs.Written.{has_float, members_have_float}
+use Rattle.std.specs.Prelude.{◌≡◌, ℕ, List, [], ◌∷◌, Bool, Option, Some, None}
+use Rattle.serde_json.specs.Data.{Data, Members, put, string, number, boolean, unsigned}
 use Rattle.nsi_primitive.specs.Ids.{id_text}
 use Rattle.nsi_primitive.specs.Kinds.{direction_text}
 use Rattle.nsi_primitive.specs.declared.kind.Directionality.{Directionality}
@@ -55,13 +54,3 @@ IsReadBack form s x = form (scalar_data s) ≡ Some x
 -- what is written for a time reads as it, whichever form it is written in
 unfoldable pub IsReadInEachForm : ℕ → Type 0
 IsReadInEachForm time = (form : TimeForm) → IsReadBack time_from (time_value form time) time
-
--- an object with nothing but numbers, texts and flags in it
-pub record IsFlatRow (d : Data) : Type 0 where
-  pub shallow : depth d ≤ 1
-  pub exact : has_float d ≡ false
-
--- members without lists, objects and floats in them
-pub record IsFlat (ms : Members) : Type 0 where
-  pub flat : members_depth ms ≡ 0
-  pub exact : members_have_float ms ≡ false

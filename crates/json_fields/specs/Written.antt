@@ -1,8 +1,9 @@
 -- What an object that is being written holds.
 use Rattle.std.specs.Prelude.{◌≡◌, List, Option, map}
-use Rattle.serde_json.specs.Data.{Data, Members, put, array}
-use Rattle.serde_json.specs.View.{view, items_of, members_view}
+use Rattle.serde_json.specs.Data.{Data, Members, put, array, object}
+use Rattle.serde_json.specs.View.{items_of}
 use Rattle.json_fields.specs.Keys.{name_of}
+use Rattle.json_fields.specs.Members.{members_from}
 use Rattle.json_fields.specs.Objects.{Scalar, with_value}
 use Rattle.json_fields.specs.declared.key.Key.{Key}
 use Rattle.json_fields.specs.declared.object.JsonObject.{JsonObject}
@@ -10,11 +11,11 @@ use Rattle.json_fields.specs.declared.rows.JsonRows.{JsonRows}
 
 -- the keys and what stands at them
 abbrev pub members_of : JsonObject → Members
-members_of o = members_view o.members.entries
+members_of o = members_from o.members.items
 
 -- the rows of a list that is being written
 abbrev pub rows_of : JsonRows → List Data
-rows_of rows = map view rows.items.items
+rows_of rows = map (λ o. object (members_of o)) rows.items.items
 
 -- the members with a list of rows at a key
 abbrev pub with_rows : Key → List Data → Members → Members

@@ -23,9 +23,12 @@ pub enum Key {
     Ero,
     ErrorId,
     Event,
+    Fault,
     GlobalReservationId,
+    Key,
     Kind,
     LifecycleState,
+    Line,
     Load,
     More,
     NotificationId,
@@ -56,6 +59,7 @@ pub enum Key {
 
 impl Key {
     ghost use Rattle.json_fields.specs.Keys.{name_of};
+    ghost use Rattle.json_fields.specs.Ranks.{rank_of};
 
     /// The name by which the key stands in a line.
     #[tactic(auto, unfolding(crate::specs::Keys::name_of))]
@@ -81,9 +85,12 @@ impl Key {
             Key::Ero => "ero",
             Key::ErrorId => "errorId",
             Key::Event => "event",
+            Key::Fault => "fault",
             Key::GlobalReservationId => "globalReservationId",
+            Key::Key => "key",
             Key::Kind => "kind",
             Key::LifecycleState => "lifecycleState",
+            Key::Line => "line",
             Key::Load => "load",
             Key::More => "more",
             Key::NotificationId => "notificationId",
@@ -118,5 +125,12 @@ impl Key {
         ensures { result.now ≡ name_of self }
     {
         self.text().as_bytes()
+    }
+    /// How many keys stand before it in byte order.
+    #[tactic(auto, unfolding(crate::specs::Ranks::rank_of))]
+    pub(crate) fn rank(self) -> u8
+        ensures { result ≡ rank_of self }
+    {
+        self as u8
     }
 }

@@ -3,6 +3,7 @@
 
 pub mod fault;
 pub mod key;
+pub mod member;
 pub mod object;
 pub mod reading;
 pub mod row_fields;

@@ -17,20 +17,21 @@ pub fn print_payload(
 ) -> Result<Vec<u8>, AllocError>
     ensures { IfOk result (λ b. b.items ≡ payload_spelling fault.now key line) }
 {
-    let mut object = JsonObject::new(alloc);
-    object.put_text_at(alloc, "errorId", ErrorName::Payload.text())?;
-    object.put_text_at(alloc, "fault", fault)?;
-    put_key(alloc, &mut object, key)?;
-    object.put_text_at(alloc, "kind", Kind::Error.name())?;
-    object.put_number_at(alloc, "line", line)?;
+    let mut object = JsonObject::new(alloc)?;
+    object.put_text(Key::ErrorId, ErrorName::Payload.text())?;
+    object.put_text(Key::Fault, fault)?;
+    put_key(&mut object, key)?;
+    object.put_text(Key::Kind, Kind::Error.name())?;
+    object.put_number(Key::Line, line)?;
     object.print(alloc)
 }
 
-fn put_key(alloc: Global, object: &mut JsonObject, key: Option<Key>) -> Result<(), AllocError>
+#[tactic(auto, unfolding(json_fields::specs::Keys::name_of))]
+fn put_key(object: &mut JsonObject<'_>, key: Option<Key>) -> Result<(), AllocError>
     ensures { OnOk result (members_of object.new ≡ put_key key (members_of object.old)) }
 {
     match key {
         None => Ok(()),
-        Some(key) => object.put_text_at(alloc, "key", key.text()),
+        Some(key) => object.put_text(Key::Key, key.text()),
     }
 }

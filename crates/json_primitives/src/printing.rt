@@ -66,7 +66,7 @@ pub fn print_message_in(
     let object = object_of(alloc, form, message)?;
     match rows_in(alloc, form, &message.body)? {
         None => object.print(alloc),
-        Some((key, rows)) => object.print_with(alloc, key, rows),
+        Some((key, rows)) => object.print_with(alloc, key, &rows),
     }
 }
 
@@ -80,61 +80,59 @@ pub fn print_ack(alloc: Global, identity: &Identity) -> Result<Vec<u8>, AllocErr
 }
 
 #[tactic(auto, unfolding(json_fields::specs::Objects::with_fields))]
-fn ack_of(alloc: Global, identity: &Identity) -> Result<JsonObject, AllocError>
+fn ack_of(alloc: Global, identity: &Identity) -> Result<JsonObject<'_>, AllocError>
     ensures fields { IfOk result (λ o.
         members_of o ≡ with_fields no_members (ack_fields identity.now)) }
     ensures valid { OnOk result (IsValidIdentity identity.now) }
 {
-    let mut object = JsonObject::new(alloc);
-    object.put_id(alloc, Key::CorrelationId, identity.correlation)?;
-    object.put_text(alloc, Key::Kind, "ack")?;
-    object.put_text(alloc, Key::Of, identity.kind.name())?;
-    object.put_name(alloc, Key::ProviderNsa, &identity.provider)?;
-    object.put_name(alloc, Key::RequesterNsa, &identity.requester)?;
+    let mut object = JsonObject::new(alloc)?;
+    object.put_id(Key::CorrelationId, identity.correlation)?;
+    object.put_text(Key::Kind, "ack")?;
+    object.put_text(Key::Of, identity.kind.name())?;
+    object.put_name(Key::ProviderNsa, &identity.provider)?;
+    object.put_name(Key::RequesterNsa, &identity.requester)?;
     Ok(object)
 }
 
-fn object_of(alloc: Global, form: TimeForm, message: &Message) -> Result<JsonObject, AllocError>
+fn object_of(alloc: Global, form: TimeForm, message: &Message) -> Result<JsonObject<'_>, AllocError>
     ensures fields { IfOk result (λ o.
         members_of o ≡ with_fields no_members (fields_of form message.now)) }
     ensures valid { OnOk result (IsValid message.now) }
 {
-    let mut object = JsonObject::new(alloc);
-    put_header(alloc, &mut object, message.kind(), &message.header)?;
-    put_body(alloc, &mut object, form, &message.body)?;
+    let mut object = JsonObject::new(alloc)?;
+    put_header(&mut object, message.kind(), &message.header)?;
+    put_body(&mut object, form, &message.body)?;
     Ok(object)
 }
 
 #[tactic(auto, unfolding(json_fields::specs::Objects::with_fields))]
-fn put_header(
-    alloc: Global,
-    object: &mut JsonObject,
+fn put_header<'a>(
+    object: &mut JsonObject<'a>,
     kind: Kind,
-    header: &Header,
+    header: &'a Header,
 ) -> Result<(), AllocError>
     ensures put { OnOk result (members_of object.new
         ≡ with_fields (members_of object.old) (header_fields kind header.now)) }
     ensures valid { OnOk result (IsValidHeader header.now) }
 {
-    object.put_id(alloc, Key::CorrelationId, header.correlation)?;
-    object.put_text(alloc, Key::Kind, kind.name())?;
-    object.put_name(alloc, Key::ProviderNsa, &header.provider)?;
-    object.put_name(alloc, Key::RequesterNsa, &header.requester)
+    object.put_id(Key::CorrelationId, header.correlation)?;
+    object.put_text(Key::Kind, kind.name())?;
+    object.put_name(Key::ProviderNsa, &header.provider)?;
+    object.put_name(Key::RequesterNsa, &header.requester)
 }
 
 #[tactic(auto, unfolding(json_fields::specs::Objects::with_fields))]
-fn put_body(
-    alloc: Global,
-    object: &mut JsonObject,
+fn put_body<'a>(
+    object: &mut JsonObject<'a>,
     form: TimeForm,
-    body: &Body,
+    body: &'a Body,
 ) -> Result<(), AllocError>
     ensures put { OnOk result (members_of object.new
         ≡ with_fields (members_of object.old) (body_fields form body.now)) }
     ensures valid { OnOk result (IsValidBody body.now) }
 {
     match body {
-        Body::Reserve(reserve) => put_reserve(alloc, object, form, reserve),
+        Body::Reserve(reserve) => put_reserve(object, form, reserve),
         Body::ReserveResponse { connection }
         | Body::ReserveCommit { connection }
         | Body::ReserveCommitConfirmed { connection }
@@ -146,42 +144,36 @@ fn put_body(
         | Body::ReleaseConfirmed { connection }
         | Body::Terminate { connection }
         | Body::TerminateConfirmed { connection }
-        | Body::QueryRecursive { connection } => {
-            object.put_id(alloc, Key::ConnectionId, *connection)
-        }
+        | Body::QueryRecursive { connection } => { object.put_id(Key::ConnectionId, *connection) }
         Body::QuerySummary { connection } => {
-            object.put_optional_id(alloc, Key::ConnectionId, *connection)
+            object.put_optional_id(Key::ConnectionId, *connection)
         }
         Body::QueryNotification(range) => put_range(
-            alloc,
             object,
             Key::EndNotificationId,
             Key::StartNotificationId,
             range,
         ),
         Body::QueryResult(range) => {
-            put_range(alloc, object, Key::EndResultId, Key::StartResultId, range)
+            put_range(object, Key::EndResultId, Key::StartResultId, range)
         }
-        _ => put_told(alloc, object, form, body),
+        _ => put_told(object, form, body),
     }
 }
 
 /// What answers and notifications have, rows aside.
 #[tactic(auto, unfolding(json_fields::specs::Objects::with_fields))]
-fn put_told(
-    alloc: Global,
-    object: &mut JsonObject,
+fn put_told<'a>(
+    object: &mut JsonObject<'a>,
     form: TimeForm,
-    body: &Body,
+    body: &'a Body,
 ) -> Result<(), AllocError>
     ensures put { OnOk result (members_of object.new
         ≡ with_fields (members_of object.old) (told_fields form body.now)) }
     ensures valid { OnOk result (IsValidTold body.now) }
 {
     match body {
-        Body::ReserveConfirmed(confirmation) => {
-            put_confirmation(alloc, object, form, confirmation)
-        }
+        Body::ReserveConfirmed(confirmation) => { put_confirmation(object, form, confirmation) }
         Body::ReserveFailed {
             connection,
             exception,
@@ -189,16 +181,16 @@ fn put_told(
         | Body::ReserveCommitFailed {
             connection,
             exception,
-        } => put_refusal(alloc, object, *connection, exception),
+        } => put_refusal(object, *connection, exception),
         Body::Error {
             connection,
             exception,
-        } => put_error(alloc, object, connection, exception),
-        Body::ReserveTimeout(timeout) => put_timeout(alloc, object, timeout),
-        Body::ErrorEvent(notice) => put_fault(alloc, object, notice),
-        Body::DataPlaneStateChange(notice) => put_plane(alloc, object, notice),
-        Body::MessageDeliveryTimeout(timeout) => put_delivery(alloc, object, timeout),
-        Body::QuerySummaryConfirmed { more, .. } => object.put_flag(alloc, Key::More, *more),
+        } => put_error(object, connection, exception),
+        Body::ReserveTimeout(timeout) => put_timeout(object, timeout),
+        Body::ErrorEvent(notice) => put_fault(object, notice),
+        Body::DataPlaneStateChange(notice) => put_plane(object, notice),
+        Body::MessageDeliveryTimeout(timeout) => put_delivery(object, timeout),
+        Body::QuerySummaryConfirmed { more, .. } => object.put_flag(Key::More, *more),
         Body::QueryNotificationConfirmed {
             connection,
             more,
@@ -213,7 +205,7 @@ fn put_told(
             connection,
             more,
             ..
-        } => put_listed(alloc, object, *connection, *more),
+        } => put_listed(object, *connection, *more),
         _ => Ok(()),
     }
 }

@@ -4,8 +4,9 @@ ghost use Rattle.std.specs.Prelude.{◌≡◌, ◌<◌, ◌≤◌, ◌+◌, ℕ,
 ghost use Rattle.nsi_base.specs.Lines.{feed_at, without_return};
 ghost use Rattle.line_reader.specs.Given.{IsCutFrom, IsSame};
 
+use crate::feed::feed_at;
 use crate::fill::Filled;
-use nsi_base::line::{feed_at, without_return};
+use nsi_base::line::without_return;
 use nsi_outside::Source;
 use std::alloc::Global;
 use std::marker::Model;

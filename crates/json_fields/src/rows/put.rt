@@ -8,7 +8,7 @@ use crate::object::JsonObject;
 use crate::rows::JsonRows;
 use std::alloc::{AllocError, Global};
 
-impl JsonRows {
+impl<'a> JsonRows<'a> {
     pub fn new(alloc: Global) -> Self
         ensures { rows_of result ≡ [] }
     {
@@ -18,12 +18,12 @@ impl JsonRows {
     }
 
     /// Puts a row behind the others.
-    pub fn push(&mut self, row: JsonObject) -> Result<(), AllocError>
+    pub fn push(&mut self, row: JsonObject<'a>) -> Result<(), AllocError>
         ensures put { OnOk result
-            (rows_of self.new ≡ rows_of self.old ++ object (members_of row) ∷ []) }
+            (rows_of self.new ≡ rows_of self.old ++ object (members_of row.entry) ∷ []) }
         ensures err { OnErr result (rows_of self.new ≡ rows_of self.old) }
     {
-        self.items.push(row.into_value())?;
+        self.items.push(row)?;
         Ok(())
     }
 }

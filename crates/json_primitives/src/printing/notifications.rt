@@ -11,73 +11,63 @@ use nsi_primitive::{DeliveryTimeout, FaultNotice, HoldTimeout, PlaneNotice};
 use std::alloc::{AllocError, Global};
 
 #[tactic(auto, unfolding(json_fields::specs::Objects::with_fields))]
-pub fn put_timeout(
-    alloc: Global,
-    object: &mut JsonObject,
-    timeout: &HoldTimeout,
+pub fn put_timeout<'a>(
+    object: &mut JsonObject<'a>,
+    timeout: &'a HoldTimeout,
 ) -> Result<(), AllocError>
     ensures put { OnOk result (members_of object.new
         ≡ with_fields (members_of object.old) (timeout_fields timeout.now)) }
     ensures valid { OnOk result (IsValidTimeout timeout.now) }
 {
     let origin = timeout.originating_connection;
-    object.put_id(alloc, Key::ConnectionId, timeout.connection)?;
-    object.put_number(alloc, Key::NotificationId, timeout.notification)?;
-    object.put_id(alloc, Key::OriginatingConnectionId, origin)?;
-    object.put_name(alloc, Key::OriginatingNsa, &timeout.originating_nsa)?;
-    object.put_second(alloc, Key::TimeStamp, timeout.time)?;
-    object.put_hold(alloc, Key::TimeoutValue, timeout.value)
+    object.put_id(Key::ConnectionId, timeout.connection)?;
+    object.put_number(Key::NotificationId, timeout.notification)?;
+    object.put_id(Key::OriginatingConnectionId, origin)?;
+    object.put_name(Key::OriginatingNsa, &timeout.originating_nsa)?;
+    object.put_second(Key::TimeStamp, timeout.time)?;
+    object.put_hold(Key::TimeoutValue, timeout.value)
 }
 
 #[tactic(auto, unfolding(json_fields::specs::Objects::with_fields))]
-pub fn put_fault(
-    alloc: Global,
-    object: &mut JsonObject,
-    notice: &FaultNotice,
-) -> Result<(), AllocError>
+pub fn put_fault<'a>(object: &mut JsonObject<'a>, notice: &'a FaultNotice) -> Result<(), AllocError>
     ensures put { OnOk result (members_of object.new
         ≡ with_fields (members_of object.old) (fault_fields notice.now)) }
     ensures valid { OnOk result (IsValidFault notice.now) }
 {
     let origin = notice.originating_connection;
-    object.put_id(alloc, Key::ConnectionId, notice.connection)?;
-    object.put_text(alloc, Key::Event, notice.event.text())?;
-    object.put_number(alloc, Key::NotificationId, notice.notification)?;
-    object.put_id(alloc, Key::OriginatingConnectionId, origin)?;
-    object.put_name(alloc, Key::OriginatingNsa, &notice.originating_nsa)?;
-    object.put_second(alloc, Key::TimeStamp, notice.time)
+    object.put_id(Key::ConnectionId, notice.connection)?;
+    object.put_text(Key::Event, notice.event.text())?;
+    object.put_number(Key::NotificationId, notice.notification)?;
+    object.put_id(Key::OriginatingConnectionId, origin)?;
+    object.put_name(Key::OriginatingNsa, &notice.originating_nsa)?;
+    object.put_second(Key::TimeStamp, notice.time)
 }
 
 #[tactic(auto, unfolding(json_fields::specs::Objects::with_fields))]
-pub fn put_plane(
-    alloc: Global,
-    object: &mut JsonObject,
-    notice: &PlaneNotice,
-) -> Result<(), AllocError>
+pub fn put_plane<'a>(object: &mut JsonObject<'a>, notice: &'a PlaneNotice) -> Result<(), AllocError>
     ensures put { OnOk result (members_of object.new
         ≡ with_fields (members_of object.old) (plane_fields notice.now)) }
     ensures valid { OnOk result (IsValidPlane notice.now) }
 {
-    object.put_flag(alloc, Key::Active, notice.active)?;
-    object.put_id(alloc, Key::ConnectionId, notice.connection)?;
-    object.put_number(alloc, Key::NotificationId, notice.notification)?;
-    object.put_second(alloc, Key::TimeStamp, notice.time)?;
-    object.put_version(alloc, Key::Version, notice.version)?;
-    object.put_flag(alloc, Key::VersionConsistent, notice.consistent)
+    object.put_flag(Key::Active, notice.active)?;
+    object.put_id(Key::ConnectionId, notice.connection)?;
+    object.put_number(Key::NotificationId, notice.notification)?;
+    object.put_second(Key::TimeStamp, notice.time)?;
+    object.put_version(Key::Version, notice.version)?;
+    object.put_flag(Key::VersionConsistent, notice.consistent)
 }
 
 #[tactic(auto, unfolding(json_fields::specs::Objects::with_fields))]
-pub fn put_delivery(
-    alloc: Global,
-    object: &mut JsonObject,
-    timeout: &DeliveryTimeout,
+pub fn put_delivery<'a>(
+    object: &mut JsonObject<'a>,
+    timeout: &'a DeliveryTimeout,
 ) -> Result<(), AllocError>
     ensures put { OnOk result (members_of object.new
         ≡ with_fields (members_of object.old) (delivery_fields timeout.now)) }
     ensures valid { OnOk result (IsValidDelivery timeout.now) }
 {
-    object.put_id(alloc, Key::ConnectionId, timeout.connection)?;
-    object.put_id(alloc, Key::DeliveryCorrelationId, timeout.delivery)?;
-    object.put_number(alloc, Key::NotificationId, timeout.notification)?;
-    object.put_second(alloc, Key::TimeStamp, timeout.time)
+    object.put_id(Key::ConnectionId, timeout.connection)?;
+    object.put_id(Key::DeliveryCorrelationId, timeout.delivery)?;
+    object.put_number(Key::NotificationId, timeout.notification)?;
+    object.put_second(Key::TimeStamp, timeout.time)
 }

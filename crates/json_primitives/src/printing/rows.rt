@@ -12,30 +12,38 @@ use nsi_primitive::{Body, Notice, Outcome, RecursiveRow, SummaryRow};
 use std::alloc::{AllocError, Global};
 
 #[tactic(auto, unfolding(crate::specs::Rows::row_data, json_fields::specs::Objects::with_fields))]
-fn summary_row(alloc: Global, form: TimeForm, row: &SummaryRow) -> Result<JsonObject, AllocError>
+fn summary_row(
+    alloc: Global,
+    form: TimeForm,
+    row: &SummaryRow,
+) -> Result<JsonObject<'_>, AllocError>
     ensures row { IfOk result (λ o.
         object (members_of o) ≡ row_data (summary_fields form row.now)) }
     ensures valid { OnOk result (IsValidSummaryRow row.now) }
 {
-    let mut object = JsonObject::new(alloc);
-    object.put_flag(alloc, Key::Active, row.active)?;
-    object.put_optional_capacity(alloc, Key::Capacity, row.capacity)?;
-    object.put_id(alloc, Key::ConnectionId, row.connection)?;
-    object.put_optional_text(alloc, Key::Description, &row.description)?;
-    object.put_name(alloc, Key::DestStp, &row.dest)?;
-    object.put_text(alloc, Key::Directionality, row.directionality.text())?;
-    object.put_optional_time(alloc, Key::EndTime, form, row.end)?;
-    object.put_optional_text(alloc, Key::GlobalReservationId, &row.global)?;
-    object.put_text(alloc, Key::LifecycleState, row.lifecycle.text())?;
-    object.put_text(alloc, Key::ProvisionState, row.provision.text())?;
-    object.put_text(alloc, Key::ReservationState, row.reservation.text())?;
-    object.put_name(alloc, Key::SourceStp, &row.source)?;
-    object.put_optional_time(alloc, Key::StartTime, form, row.start)?;
-    object.put_optional_version(alloc, Key::Version, row.version)?;
+    let mut object = JsonObject::new(alloc)?;
+    object.put_flag(Key::Active, row.active)?;
+    object.put_optional_capacity(Key::Capacity, row.capacity)?;
+    object.put_id(Key::ConnectionId, row.connection)?;
+    object.put_optional_text(Key::Description, &row.description)?;
+    object.put_name(Key::DestStp, &row.dest)?;
+    object.put_text(Key::Directionality, row.directionality.text())?;
+    object.put_optional_time(Key::EndTime, form, row.end)?;
+    object.put_optional_text(Key::GlobalReservationId, &row.global)?;
+    object.put_text(Key::LifecycleState, row.lifecycle.text())?;
+    object.put_text(Key::ProvisionState, row.provision.text())?;
+    object.put_text(Key::ReservationState, row.reservation.text())?;
+    object.put_name(Key::SourceStp, &row.source)?;
+    object.put_optional_time(Key::StartTime, form, row.start)?;
+    object.put_optional_version(Key::Version, row.version)?;
     Ok(object)
 }
 
-fn summary_rows(alloc: Global, form: TimeForm, rows: &[SummaryRow]) -> Result<JsonRows, AllocError>
+fn summary_rows(
+    alloc: Global,
+    form: TimeForm,
+    rows: &[SummaryRow],
+) -> Result<JsonRows<'_>, AllocError>
     ensures rows { IfOk result (λ written.
         rows_of written ≡ map (λ r. row_data (summary_fields form r)) rows.now) }
     ensures valid { OnOk result (AllByRecursion IsValidSummaryRow rows.now) }
@@ -49,22 +57,22 @@ fn summary_rows(alloc: Global, form: TimeForm, rows: &[SummaryRow]) -> Result<Js
 }
 
 #[tactic(auto, unfolding(crate::specs::Rows::row_data, json_fields::specs::Objects::with_fields))]
-fn recursive_row(alloc: Global, row: &RecursiveRow) -> Result<JsonObject, AllocError>
+fn recursive_row(alloc: Global, row: &RecursiveRow) -> Result<JsonObject<'_>, AllocError>
     ensures row { IfOk result (λ o. object (members_of o) ≡ row_data (recursive_fields row.now)) }
     ensures valid { OnOk result (IsValidRecursiveRow row.now) }
 {
-    let mut object = JsonObject::new(alloc);
-    object.put_id(alloc, Key::ConnectionId, row.connection)?;
-    object.put_number(alloc, Key::Depth, u64::from(row.depth))?;
-    object.put_text(alloc, Key::LifecycleState, row.lifecycle.text())?;
-    object.put_name(alloc, Key::ProviderNsa, &row.provider)?;
-    object.put_text(alloc, Key::ProvisionState, row.provision.text())?;
-    object.put_text(alloc, Key::ReservationState, row.reservation.text())?;
-    object.put_optional_version(alloc, Key::Version, row.version)?;
+    let mut object = JsonObject::new(alloc)?;
+    object.put_id(Key::ConnectionId, row.connection)?;
+    object.put_number(Key::Depth, u64::from(row.depth))?;
+    object.put_text(Key::LifecycleState, row.lifecycle.text())?;
+    object.put_name(Key::ProviderNsa, &row.provider)?;
+    object.put_text(Key::ProvisionState, row.provision.text())?;
+    object.put_text(Key::ReservationState, row.reservation.text())?;
+    object.put_optional_version(Key::Version, row.version)?;
     Ok(object)
 }
 
-fn recursive_rows(alloc: Global, rows: &[RecursiveRow]) -> Result<JsonRows, AllocError>
+fn recursive_rows(alloc: Global, rows: &[RecursiveRow]) -> Result<JsonRows<'_>, AllocError>
     ensures rows { IfOk result (λ written.
         rows_of written ≡ map (λ r. row_data (recursive_fields r)) rows.now) }
     ensures valid { OnOk result (AllByRecursion IsValidRecursiveRow rows.now) }
@@ -78,19 +86,19 @@ fn recursive_rows(alloc: Global, rows: &[RecursiveRow]) -> Result<JsonRows, Allo
 }
 
 #[tactic(auto, unfolding(crate::specs::Rows::row_data, json_fields::specs::Objects::with_fields))]
-fn notice_row(alloc: Global, row: &Notice) -> Result<JsonObject, AllocError>
+fn notice_row(alloc: Global, row: &Notice) -> Result<JsonObject<'_>, AllocError>
     ensures row { IfOk result (λ o. object (members_of o) ≡ row_data (notice_fields row.now)) }
     ensures valid { OnOk result (IsValidNotice row.now) }
 {
-    let mut object = JsonObject::new(alloc);
-    object.put_id(alloc, Key::CorrelationId, row.correlation)?;
-    object.put_text(alloc, Key::Kind, row.kind.name())?;
-    object.put_number(alloc, Key::NotificationId, row.number)?;
-    object.put_second(alloc, Key::TimeStamp, row.second)?;
+    let mut object = JsonObject::new(alloc)?;
+    object.put_id(Key::CorrelationId, row.correlation)?;
+    object.put_text(Key::Kind, row.kind.name())?;
+    object.put_number(Key::NotificationId, row.number)?;
+    object.put_second(Key::TimeStamp, row.second)?;
     Ok(object)
 }
 
-fn notice_rows(alloc: Global, rows: &[Notice]) -> Result<JsonRows, AllocError>
+fn notice_rows(alloc: Global, rows: &[Notice]) -> Result<JsonRows<'_>, AllocError>
     ensures rows { IfOk result (λ written.
         rows_of written ≡ map (λ r. row_data (notice_fields r)) rows.now) }
     ensures valid { OnOk result (AllByRecursion IsValidNotice rows.now) }
@@ -104,19 +112,19 @@ fn notice_rows(alloc: Global, rows: &[Notice]) -> Result<JsonRows, AllocError>
 }
 
 #[tactic(auto, unfolding(crate::specs::Rows::row_data, json_fields::specs::Objects::with_fields))]
-fn outcome_row(alloc: Global, row: &Outcome) -> Result<JsonObject, AllocError>
+fn outcome_row(alloc: Global, row: &Outcome) -> Result<JsonObject<'_>, AllocError>
     ensures row { IfOk result (λ o. object (members_of o) ≡ row_data (outcome_fields row.now)) }
     ensures valid { OnOk result (IsValidOutcome row.now) }
 {
-    let mut object = JsonObject::new(alloc);
-    object.put_id(alloc, Key::CorrelationId, row.correlation)?;
-    object.put_text(alloc, Key::Kind, row.kind.name())?;
-    object.put_number(alloc, Key::ResultId, row.number)?;
-    object.put_second(alloc, Key::TimeStamp, row.second)?;
+    let mut object = JsonObject::new(alloc)?;
+    object.put_id(Key::CorrelationId, row.correlation)?;
+    object.put_text(Key::Kind, row.kind.name())?;
+    object.put_number(Key::ResultId, row.number)?;
+    object.put_second(Key::TimeStamp, row.second)?;
     Ok(object)
 }
 
-fn outcome_rows(alloc: Global, rows: &[Outcome]) -> Result<JsonRows, AllocError>
+fn outcome_rows(alloc: Global, rows: &[Outcome]) -> Result<JsonRows<'_>, AllocError>
     ensures rows { IfOk result (λ written.
         rows_of written ≡ map (λ r. row_data (outcome_fields r)) rows.now) }
     ensures valid { OnOk result (AllByRecursion IsValidOutcome rows.now) }
@@ -135,7 +143,7 @@ pub fn rows_in(
     alloc: Global,
     form: TimeForm,
     body: &Body,
-) -> Result<Option<(Key, JsonRows)>, AllocError>
+) -> Result<Option<(Key, JsonRows<'_>)>, AllocError>
     ensures rows { IfOk result (λ o.
         option_map (λ r. (r.0, rows_of r.1)) o ≡ rows_in form body.now) }
     ensures valid { OnOk result (IsValidRows body.now) }

@@ -12,6 +12,6 @@ returns-clause-fields c =
     let m = c.args.message.now in
     c.in_ok-put_body.ensures.put
     ∙ (ap (λ ms. with_fields ms (body_fields c.args.form m.body)) (c.in_ok-put_header.ensures.put
-    ∙ (ap (λ k. with_fields (members_of c.new-object.result) (header_fields k m.header)) c.kind.ensures
-    ∙ ap (λ ms. with_fields ms (header_fields (kind_of m.body) m.header)) c.new-object.ensures))
+    ∙ (ap (λ k. with_fields (members_of c.in_ok-object.object) (header_fields k m.header)) c.kind.ensures
+    ∙ ap (λ ms. with_fields ms (header_fields (kind_of m.body) m.header)) c.in_ok-object.ensures))
     ∙ sym (with_fields-append no_members (header_fields (kind_of m.body) m.header) (body_fields c.args.form m.body)))

@@ -38,15 +38,15 @@ returns-in-None-clause-again c =
     let same = ap object c.in_ok-object.ensures.fields ∙ with_these c.args.form m None (rw c.in-None.is at c.in_ok-rows_in.ensures.rows) in
     IfOk-weaker c.print.result _ _ (λ b h. again c.args.form m _ b.items same c.in_ok-object.ensures.valid c.in_ok-rows_in.ensures.valid c.requires h) c.print.ensures.again
 
-pub returns-in-Some-clause-spelled : goal.returns-in-Some-clause-spelled
-returns-in-Some-clause-spelled c =
+pub returns-clause-spelled : goal.returns-clause-spelled
+returns-clause-spelled c =
     let m = c.args.message.now in
     let rows = rows_of c.in-Some.rows in
     let same = ap (λ ms. object (with_rows c.in-Some.key rows ms)) c.in_ok-object.ensures.fields ∙ with_these c.args.form m (Some (c.in-Some.key, rows)) (rw c.in-Some.is at c.in_ok-rows_in.ensures.rows) in
     IfOk-weaker c.print_with.result _ _ (λ b h. h ∙ ap compact_text same) c.print_with.ensures.spelled
 
-pub returns-in-Some-clause-again : goal.returns-in-Some-clause-again
-returns-in-Some-clause-again c =
+pub returns-clause-again : goal.returns-clause-again
+returns-clause-again c =
     let m = c.args.message.now in
     let rows = rows_of c.in-Some.rows in
     let same = ap (λ ms. object (with_rows c.in-Some.key rows ms)) c.in_ok-object.ensures.fields ∙ with_these c.args.form m (Some (c.in-Some.key, rows)) (rw c.in-Some.is at c.in_ok-rows_in.ensures.rows) in
