@@ -1,8 +1,9 @@
 //! Lists of what can be written.
 
-ghost use Rattle.std.specs.Prelude.{◌≡◌, ◌==◌, [], ◌∷◌, ◌++◌, length, OnOk};
+ghost use Rattle.std.specs.Prelude.{◌≡◌, [], ◌∷◌, ◌++◌, OnOk, OnErr};
 ghost use Rattle.std.specs.List.{All};
-ghost use Rattle.nsi_primitive.specs.Printable.{IsPrintable, IsPrintableEntry, IsPrintableEvent, IsPrintableTaken};
+ghost use Rattle.nsi_primitive.specs.Printable.{IsPrintable, IsPrintableEvent, IsPrintableTaken};
+ghost use Rattle.json_primitives.specs.Inputs.{input_spelling};
 ghost use Rattle.agent_node.specs.Seat.{entered};
 ghost use Rattle.agent_node.specs.Turns.{sync_event};
 ghost use Rattle.agent_node.specs.Restarts.{restart_event, restart_events};
@@ -14,64 +15,7 @@ use nsi_primitive::{AskAnswer, Entry, Event, Happening, Identity, Message};
 use std::alloc::{AllocError, Global};
 use std::marker::Model;
 use std::mem;
-
-/// Entries that aren't synced yet.
-#[derive(Drop)]
-pub struct Entries {
-    items: Vec<Entry>,
-}
-
-impl Model for Entries {
-    ghost use Rattle.std.specs.Prelude.{List};
-    ghost use Rattle.std.specs.List.{All};
-    ghost use Rattle.nsi_primitive.specs.Printable.{IsPrintableEntry};
-    ghost use Rattle.nsi_primitive.specs.declared.entry.Entry.{Entry as AnEntry};
-
-    ghost Value = { List AnEntry };
-
-    ghost view = { λ l. l.items.items };
-
-    ghost invariant = { λ l. All IsPrintableEntry l.items.items };
-}
-
-impl Entries {
-    pub fn new(alloc: Global) -> Self
-        ensures { result ≡ [] }
-    {
-        Entries {
-            items: Vec::new(alloc),
-        }
-    }
-
-    /// Puts a copy behind.
-    #[tactic(auto, using(crate::proofs::Rows::one_entry_more))]
-    pub fn push_copy(&mut self, entry: &Entry) -> Result<(), AllocError>
-        requires { IsPrintableEntry entry.now }
-        ensures { OnOk result (self.new ≡ self.old ++ entry.now ∷ []) }
-    {
-        self.items.push(entry.copy()?)?;
-        Ok(())
-    }
-
-    pub fn clear(&mut self)
-        ensures { self.new ≡ [] }
-    {
-        self.items.clear();
-    }
-
-    pub fn len(&self) -> usize
-        ensures { result ≡ length self.now }
-    {
-        self.items.len()
-    }
-
-    pub fn items(&self) -> &[Entry]
-        ensures items { result.now ≡ self.now }
-        ensures printable { All IsPrintableEntry result.now }
-    {
-        &self.items
-    }
-}
+use trace_text::SpelledEvent;
 
 /// Messages that aren't said yet.
 #[derive(Drop)]
@@ -138,7 +82,7 @@ impl Messages {
 /// Events that weren't taken away yet.
 #[derive(Drop)]
 pub struct Events {
-    items: Vec<Event>,
+    items: Vec<SpelledEvent>,
 }
 
 impl Model for Events {
@@ -163,22 +107,25 @@ impl Events {
         }
     }
 
-    /// Puts an entry that was taken behind.
+    /// Puts an entry that was taken behind, with the JSON of the parcel that it took.
     #[tactic(auto, using(crate::proofs::Rows::one_event_more))]
     pub fn push_entry(
         &mut self,
         agent: AgentNo,
         entry: Entry,
         answer: &Option<AskAnswer>,
+        line: Vec<u8>,
     ) -> Result<(), AllocError>
-        requires { IsPrintableTaken entry answer.now }
+        requires printable { IsPrintableTaken entry answer.now }
+        requires line { line.items ≡ input_spelling entry.input }
         ensures { OnOk result (self.new ≡ self.old ++ entered agent entry answer.now ∷ []) }
     {
         let what = Happening::Entry {
             entry,
             answer: same_answer(answer),
         };
-        self.items.push(Event { agent, what })?;
+        self.items
+            .push(SpelledEvent::new(Event { agent, what }, line))?;
         Ok(())
     }
 
@@ -188,7 +135,9 @@ impl Events {
         ensures { OnOk result (self.new ≡ self.old ++ sync_event agent count ∷ []) }
     {
         let what = Happening::Sync { count };
-        self.items.push(Event { agent, what })?;
+        let alloc = *self.items.allocator();
+        self.items
+            .push(SpelledEvent::bare(alloc, Event { agent, what }))?;
         Ok(())
     }
 
@@ -198,7 +147,9 @@ impl Events {
         ensures { OnOk result (self.new ≡ self.old ++ restart_event agent count ∷ []) }
     {
         let what = Happening::Restart { count };
-        self.items.push(Event { agent, what })?;
+        let alloc = *self.items.allocator();
+        self.items
+            .push(SpelledEvent::bare(alloc, Event { agent, what }))?;
         Ok(())
     }
 
@@ -219,14 +170,15 @@ impl Events {
         Ok(())
     }
 
-    /// Hands all out.
-    pub fn take_all(&mut self) -> Vec<Event>
-        ensures all { result.items ≡ self.old }
-        ensures printable { All IsPrintableEvent result.items }
-        ensures none { self.new ≡ [] }
+    /// Puts all behind others. It keeps the memory for as many.
+    pub fn move_to(&mut self, others: &mut Vec<SpelledEvent>) -> Result<(), AllocError>
+        requires { All IsPrintableEvent others.old.items }
+        ensures moved { OnOk result (others.new.items ≡ others.old.items ++ self.old) }
+        ensures printable { OnOk result (All IsPrintableEvent others.new.items) }
+        ensures none { OnOk result (self.new ≡ []) }
+        ensures same { OnErr result (self.new ≡ self.old) }
     {
-        let alloc = *self.items.allocator();
-        mem::replace(&mut self.items, Vec::new(alloc))
+        others.append(&mut self.items)
     }
 }
 

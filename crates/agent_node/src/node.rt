@@ -1,6 +1,6 @@
 //! One agent of a net, with its journal and its ends of the links.
 
-ghost use Rattle.std.specs.Prelude.{◌≡◌, ◌≤◌, ◌<◌, ◌+◌, ◌⊎◌, ℕ, List, [], None, Some, true, IfOk, IfErr, OnOk, OnErr, is_some};
+ghost use Rattle.std.specs.Prelude.{◌≡◌, ◌≤◌, ◌<◌, ◌+◌, ◌++◌, ◌⊎◌, ℕ, List, [], None, Some, true, IfOk, IfErr, OnOk, OnErr, is_some};
 ghost use Rattle.std.specs.List.{All};
 ghost use Rattle.nsi_disk.specs.ShelfCounts.{RaisedFrom};
 ghost use Rattle.nsi_primitive.specs.Printable.{IsPrintableAsk, IsPrintableEvent};
@@ -13,22 +13,23 @@ ghost use Rattle.nsi_agent.specs.Steps.{after};
 ghost use Rattle.agent_node.specs.Seat.{now_at};
 ghost use Rattle.agent_node.specs.Acts.{asked, forced, ticked, is_quiet};
 ghost use Rattle.agent_node.specs.Meetings.{met};
-ghost use Rattle.agent_node.specs.Passing.{HasMet, IsPrintableCome};
+ghost use Rattle.agent_node.specs.Passing.{HasMet};
 ghost use Rattle.agent_node.specs.declared.fault.TurnFault.{TurnFault as AFault};
 ghost use Rattle.agent_node.specs.Kept.{plug, AreLinked, IsSameAgent, HasSameJournal, LeavesBatch, fault_in, lack_of};
-ghost use Rattle.agent_node.specs.Made.{AtHome, IsTurn, IsTurnWith};
+ghost use Rattle.agent_node.specs.Made.{AtHome, IsTurn};
 ghost use Rattle.agent_node.specs.Reopening.{HasReopenCause, IsReread, IsReopened};
 
 use crate::fault::TurnFault;
 use crate::reopen::{Reopen, ReopenFault};
 use crate::restart::read_again;
 use crate::seated::Core;
-use crate::turn::{fault_of, make_turn, make_turn_with};
+use crate::turn::{fault_of, make_turn};
 use journal_entry::Journal;
 use nsi_base::{AgentNo, RecordNo, Second};
-use nsi_primitive::{Ask, AskAnswer, Event, Parcel};
+use nsi_primitive::{Ask, AskAnswer};
 use std::alloc::{AllocError, Global};
 use std::marker::Model;
+use trace_text::SpelledEvent;
 
 /// An agent with its journal and its ends of the links to others. It takes what comes to it, keeps what it took in its journal, and
 /// says only then what that causes. Where a call of it has failed, it is only good for giving its disk back; where its disk has
@@ -163,24 +164,6 @@ impl<'t, J: Journal + Drop> Node<'t, J> {
         made
     }
 
-    /// A turn in which it takes these parcels, each with its sender. What came stays where it lies.
-    pub fn turn_with(
-        &mut self,
-        alloc: Global,
-        parcels: Vec<(AgentNo, Parcel)>,
-        room: u64,
-    ) -> Result<(), TurnFault>
-        requires usable { self.old.fault ≡ None }
-        requires few { self.old.seat.state.base.taken + room ≤ most_entries }
-        requires printable { All IsPrintableCome parcels.items }
-        ensures made { IsTurnWith parcels.items room self.old self.new }
-        ensures fault { self.new.fault ≡ fault_in result }
-    {
-        let made = make_turn_with(alloc, &mut self.core, &mut self.journal, parcels, room);
-        self.fault = fault_of(&made);
-        made
-    }
-
     /// A turn that answers nothing: its fault is kept.
     pub fn take_turn(&mut self, alloc: Global, room: u64)
         requires usable { self.old.fault ≡ None }
@@ -190,13 +173,17 @@ impl<'t, J: Journal + Drop> Node<'t, J> {
         let _ = self.turn(alloc, room);
     }
 
-    /// The events since the last call. It takes no memory.
-    pub fn take_events(&mut self) -> Vec<Event>
-        ensures events { result.items ≡ self.old.seat.events }
-        ensures printable { All IsPrintableEvent result.items }
-        ensures rest { self.new ≡ record self.old { seat = record self.old.seat { events = [] } } }
+    /// Puts the events since the last call behind others. At an error none is moved.
+    pub fn move_events(&mut self, others: &mut Vec<SpelledEvent>) -> Result<(), AllocError>
+        requires { All IsPrintableEvent others.old.items }
+        ensures events { OnOk result
+            (others.new.items ≡ others.old.items ++ self.old.seat.events) }
+        ensures printable { OnOk result (All IsPrintableEvent others.new.items) }
+        ensures rest { OnOk result
+            (self.new ≡ record self.old { seat = record self.old.seat { events = [] } }) }
+        ensures same { OnErr result (self.new ≡ self.old) }
     {
-        self.core.take_events()
+        self.core.move_events(others)
     }
 
     /// Whether nothing is unsynced, no work waits, nothing is to be pushed and nothing came.

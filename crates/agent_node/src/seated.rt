@@ -1,6 +1,6 @@
 //! An agent and its ends of the links, without its journal.
 
-ghost use Rattle.std.specs.Prelude.{◌≡◌, ◌≤◌, ◌<◌, ◌+◌, ◌↔◌, ℕ, [], None, Some, true, false, length, IfOk, OnOk, IsSome, IsTrue};
+ghost use Rattle.std.specs.Prelude.{◌≡◌, ◌≤◌, ◌<◌, ◌+◌, ◌++◌, ◌↔◌, ℕ, [], None, Some, true, false, length, IfOk, OnOk, OnErr, IsSome, IsTrue};
 ghost use Rattle.std.specs.List.{All};
 ghost use Rattle.nsi_primitive.specs.Printable.{IsPrintable, IsPrintableAsk, IsPrintableEntry, IsPrintableEvent, IsPrintableInput, IsPrintableParcel, IsPrintableTaken, is_ask};
 ghost use Rattle.nsi_primitive.specs.declared.entry.Input.{Input as AnInput};
@@ -20,15 +20,17 @@ ghost use Rattle.agent_node.specs.Seated.{AtSeat, IsSameCore, Stays, Goes, IsSam
 
 use crate::fault::TurnFault;
 use crate::links::Links;
-use crate::lists::{Entries, Events, Messages};
+use crate::lists::{Events, Messages};
 use crate::reading::{copy_waiting, read_all, renew};
+use journal_entry::Batch;
 use nsi_agent::Agent;
 use nsi_agent::laws::works;
 use nsi_base::{AgentNo, Name, RecordNo, Second};
-use nsi_primitive::{Ask, AskAnswer, Entry, Event, Input, Message, Parcel};
+use nsi_primitive::{Ask, AskAnswer, Entry, Input, Message, Parcel};
 use std::alloc::{AllocError, Global};
 use std::marker::Model;
 use stp_topology::Topology;
+use trace_text::SpelledEvent;
 
 #[derive(Drop)]
 pub struct Core<'t> {
@@ -36,7 +38,7 @@ pub struct Core<'t> {
     agent: Agent<'t>,
     /// How many entries are synced.
     synced: u64,
-    fresh: Entries,
+    fresh: Batch,
     unsaid: Messages,
     events: Events,
     links: Links,
@@ -87,7 +89,7 @@ impl<'t> Core<'t> {
             topology,
             agent,
             synced: 0,
-            fresh: Entries::new(alloc),
+            fresh: Batch::new(alloc),
             unsaid: Messages::new(alloc),
             events: Events::new(alloc),
             links: Links::from_items(Vec::new(alloc)),
@@ -130,11 +132,10 @@ impl<'t> Core<'t> {
     }
 
     /// Entries that aren't synced.
-    pub fn fresh(&self) -> &[Entry]
-        ensures items { result.now ≡ self.now.seat.fresh }
-        ensures printable { All IsPrintableEntry result.now }
+    pub fn fresh(&self) -> &Batch
+        ensures { result.now ≡ self.now.seat.fresh }
     {
-        self.fresh.items()
+        &self.fresh
     }
 
     /// Takes an entry, which is an event.
@@ -160,13 +161,14 @@ impl<'t> Core<'t> {
     {
         let entry = Entry { second, input };
         let (answer, said) = self.agent.next(alloc, &entry)?;
-        self.note(entry, &answer, said)?;
+        self.note(alloc, entry, &answer, said)?;
         Ok(answer)
     }
 
     /// An entry that was taken is an event. What it causes isn't said yet.
     fn note(
         &mut self,
+        alloc: Global,
         entry: Entry,
         answer: &Option<AskAnswer>,
         said: Vec<Message>,
@@ -179,8 +181,8 @@ impl<'t> Core<'t> {
         ensures doors { self.new.seat.doors ≡ self.old.seat.doors }
     {
         let agent = self.agent.number();
-        self.fresh.push_copy(&entry)?;
-        self.events.push_entry(agent, entry, answer)?;
+        let line = self.fresh.push(alloc, &entry)?;
+        self.events.push_entry(agent, entry, answer, line)?;
         self.unsaid.append(said)
     }
 
@@ -471,12 +473,17 @@ impl<'t> Core<'t> {
         self.links.begin_round();
     }
 
-    pub fn take_events(&mut self) -> Vec<Event>
-        ensures events { result.items ≡ self.old.seat.events }
-        ensures printable { All IsPrintableEvent result.items }
-        ensures rest { self.new ≡ record self.old { seat = record self.old.seat { events = [] } } }
+    /// Puts the events since the last call behind others.
+    pub fn move_events(&mut self, others: &mut Vec<SpelledEvent>) -> Result<(), AllocError>
+        requires { All IsPrintableEvent others.old.items }
+        ensures events { OnOk result
+            (others.new.items ≡ others.old.items ++ self.old.seat.events) }
+        ensures printable { OnOk result (All IsPrintableEvent others.new.items) }
+        ensures rest { OnOk result
+            (self.new ≡ record self.old { seat = record self.old.seat { events = [] } }) }
+        ensures same { OnErr result (self.new ≡ self.old) }
     {
-        self.events.take_all()
+        self.events.move_to(others)
     }
 
     /// Each learns what the other one let through to it.

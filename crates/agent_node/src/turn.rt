@@ -44,7 +44,7 @@ fn sync<J: Journal>(
         (kept_with core.old None (J.meter journal.old) (J.kept journal.old))
         (kept_with core.new (fault_in result) (J.meter journal.new) (J.kept journal.new)) }
 {
-    if core.fresh().is_empty() {
+    if core.fresh().len() == 0 {
         return Ok(());
     }
     if room == 0 {

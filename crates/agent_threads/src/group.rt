@@ -28,12 +28,12 @@ use agent_node::{Node, Reopen};
 use journal_entry::Journal;
 use least_routes::laws::routes_exist;
 use nsi_base::Second;
-use nsi_primitive::Event;
 use nsi_script::{Act, Group};
 use quiet_rounds::laws::{left_falls, nets_are_bounded};
 use std::alloc::{AllocError, Global};
 use std::thread::Threads;
 use stopped_play::laws::rounds;
+use trace_text::SpelledEvent;
 
 /// An agent's clock goes on.
 fn tick_one<'t, J: Journal + Drop>(
@@ -71,7 +71,7 @@ fn tick_all<'t, J: Journal + Drop>(
 /// Takes away what has happened at an agent.
 fn drain_one<'t, J: Journal + Drop>(
     node: &mut Node<'t, J>,
-    events: &mut Vec<Event>,
+    events: &mut Vec<SpelledEvent>,
 ) -> Result<(), AllocError>
     requires printable { All IsPrintableEvent events.old.items }
     ensures made { OnOk result (Emptied node.old node.new) }
@@ -79,15 +79,13 @@ fn drain_one<'t, J: Journal + Drop>(
     ensures printable { OnOk result (All IsPrintableEvent events.new.items) }
     ensures agent { IsUnstopped node.old node.new }
 {
-    let mut own = node.take_events();
-    events.append(&mut own)?;
-    Ok(())
+    node.move_events(events)
 }
 
 /// Takes away what has happened, in the agents' order.
 fn drain<'t, J: Journal + Drop>(
     nodes: &mut Vec<Node<'t, J>>,
-    events: &mut Vec<Event>,
+    events: &mut Vec<SpelledEvent>,
 ) -> Result<(), AllocError>
     requires printable { All IsPrintableEvent events.old.items }
     ensures made { OnOk result (EachIs Emptied nodes.old.items nodes.new.items) }
@@ -107,7 +105,7 @@ fn tick<'t, J: Journal + Drop>(
     alloc: Global,
     nodes: &mut Vec<Node<'t, J>>,
     to: Second,
-    events: &mut Vec<Event>,
+    events: &mut Vec<SpelledEvent>,
 ) -> Result<(), AllocError>
     requires net { AreNet nodes.old.items }
     requires one { AreOfOne nodes.old.items }
@@ -136,7 +134,7 @@ fn act<'t, J: Journal + Drop, B: Reopen<J>>(
     shelf: &mut B,
     act: &Act,
     number: u32,
-    events: &mut Vec<Event>,
+    events: &mut Vec<SpelledEvent>,
 ) -> Result<(), RunFault>
     requires net { AreNet nodes.old.items }
     requires can { CanAct act.now nodes.old.items }
@@ -194,7 +192,7 @@ pub fn begin<'t, J: Journal + Drop, B: Reopen<J>>(
     shelf: &mut B,
     group: &Group,
     start: GroupStart,
-    events: &mut Vec<Event>,
+    events: &mut Vec<SpelledEvent>,
 ) -> Result<u32, RunFault>
     requires net { AreNet nodes.old.items }
     requires can { CanDo group.now.acts nodes.old.items }
@@ -265,7 +263,8 @@ fn meet<'t, R: Threads + Sync, J: Journal + Drop + Send>(
         seats_before nodes.new.items ≡ round_by cuts homes (seats_by true nodes.old.items))) }
     ensures halted { OnOk result (AreHalted nodes.new.items) }
     ensures still { OnOk result (AreSame nodes.old.items nodes.new.items) }
-    ensures were { AtOwned nodes.old.items (λ homes. OnOk result (WereOwned homes nodes.new.items)) }
+    ensures were { AtOwned nodes.old.items (λ homes.
+        OnOk result (WereOwned homes nodes.new.items)) }
     ensures moved { AtHomes nodes.old.items (λ homes tells.
         OnOk result (EachIs (MovesOn 0) nodes.old.items nodes.new.items)) }
     ensures long { AtHomes nodes.old.items (λ homes tells. IsErrOf result RunFault.Long →
@@ -303,7 +302,7 @@ fn reopen<'t, J: Journal + Drop, B: Reopen<J>>(
     alloc: Global,
     nodes: &mut Vec<Node<'t, J>>,
     shelf: &mut B,
-    events: &mut Vec<Event>,
+    events: &mut Vec<SpelledEvent>,
 ) -> Result<(), RunFault>
     requires halted { AreHalted nodes.old.items }
     requires told { events_of (seats nodes.old.items) ≡ [] }
@@ -345,7 +344,7 @@ fn step<'t, R: Threads + Sync, J: Journal + Drop + Send, B: Reopen<J>>(
     resources: &Resources<'_, R>,
     nodes: &mut Vec<Node<'t, J>>,
     shelf: &mut B,
-    events: &mut Vec<Event>,
+    events: &mut Vec<SpelledEvent>,
     room: u64,
 ) -> Result<(), RunFault>
     requires net { AreNet nodes.old.items }
@@ -404,7 +403,7 @@ fn advance<'t, R: Threads + Sync, J: Journal + Drop + Send, B: Reopen<J>>(
     resources: &Resources<'_, R>,
     nodes: &mut Vec<Node<'t, J>>,
     shelf: &mut B,
-    events: &mut Vec<Event>,
+    events: &mut Vec<SpelledEvent>,
     room: u64,
 ) -> Result<bool, RunFault>
     requires net { AreNet nodes.old.items }
@@ -461,7 +460,7 @@ pub fn settle<'t, R: Threads + Sync, J: Journal + Drop + Send, B: Reopen<J>>(
     resources: &Resources<'_, R>,
     nodes: &mut Vec<Node<'t, J>>,
     shelf: &mut B,
-    events: &mut Vec<Event>,
+    events: &mut Vec<SpelledEvent>,
     room: u64,
 ) -> Result<(), RunFault>
     requires net { AreNet nodes.old.items }

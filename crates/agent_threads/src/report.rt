@@ -5,11 +5,10 @@ ghost use Rattle.std.specs.List.{All};
 ghost use Rattle.trace_text.specs.Lines.{HasLine};
 ghost use Rattle.agent_threads.specs.Reports.{written};
 
-use nsi_primitive::Event;
 use run_totals::Report;
 use std::alloc::{AllocError, Global};
 use stp_topology::Topology;
-use trace_text::print_events;
+use trace_text::{SpelledEvent, print_spelled};
 
 /// How far a run may go, and what is written of it.
 #[derive(Clone, Copy, Debug, PartialEq, Eq)]
@@ -24,13 +23,13 @@ pub fn written(
     alloc: Global,
     report: Report,
     topology: &Topology,
-    events: &[Event],
+    events: &[SpelledEvent],
 ) -> Result<Vec<u8>, AllocError>
     requires { All (HasLine topology.now) events.now }
     ensures { IfOk result (λ text. text.items ≡ written report topology.now events.now) }
 {
     match report {
-        Report::Trace => print_events(alloc, topology, events),
+        Report::Trace => print_spelled(alloc, topology, events),
         Report::Summary => Ok(Vec::new(alloc)),
     }
 }

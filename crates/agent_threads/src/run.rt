@@ -29,12 +29,12 @@ use journal_entry::Journal;
 use least_routes::laws::routes_exist;
 use nsi_outside::sink::write_all;
 use nsi_outside::{Sink, SinkError};
-use nsi_primitive::Event;
 use nsi_script::Group;
 use quiet_rounds::laws::nets_are_bounded;
 use run_totals::Totals;
 use std::thread::Threads;
 use stp_topology::Topology;
+use trace_text::SpelledEvent;
 
 /// A group, which nobody is told yet. It gives the number of the ask behind it.
 fn make_group<'t, R: Threads + Sync, J: Journal + Drop + Send, B: Reopen<J>>(
@@ -43,7 +43,7 @@ fn make_group<'t, R: Threads + Sync, J: Journal + Drop + Send, B: Reopen<J>>(
     shelf: &mut B,
     group: &Group,
     start: GroupStart,
-    events: &mut Vec<Event>,
+    events: &mut Vec<SpelledEvent>,
 ) -> Result<u32, RunFault>
     requires net { AreNet nodes.old.items }
     requires can { CanDo group.now.acts nodes.old.items }
@@ -232,7 +232,8 @@ pub fn play_all<'t, R: Threads + Sync, J: Journal + Drop + Send, B: Reopen<J>, K
         (counted (B.faults shelf.old) (B.stops shelf.old))
         (counted (B.faults shelf.new) (B.stops shelf.new))
         (K.content out.old) (K.content out.new)) }
-    ensures cause { IfErr result (HasSettleCause (acts_of play.now.groups.now) nodes.old.items nodes.new.items
+    ensures cause { IfErr result (HasSettleCause (acts_of play.now.groups.now)
+        nodes.old.items nodes.new.items
         (counted (B.faults shelf.old) (B.stops shelf.old))
         (counted (B.faults shelf.new) (B.stops shelf.new))) }
     ensures write { IsErrOf result RunFault.WriteFault → K.faults out.old < K.faults out.new }

@@ -1,6 +1,6 @@
 //! The record of a connection.
 
-ghost use Rattle.std.specs.Prelude.{◌≡◌, ◌<◌, ◌+◌, ◌++◌, ◌∷◌, [], length, IfOk, OnOk, OnErr, IfSome};
+ghost use Rattle.std.specs.Prelude.{◌≡◌, ◌+◌, ◌++◌, length, IfOk, OnOk, OnErr};
 ghost use Rattle.std.specs.Option.{option_copied};
 ghost use Rattle.connection_record.specs.Demand.{last, claim, held, claims, is_booked, holds_pending};
 
@@ -42,7 +42,6 @@ impl Record {
     ghost use Rattle.connection_record.specs.Demand.{demand};
     ghost use Rattle.connection_record.specs.Moves.{fresh};
     ghost use Rattle.connection_record.specs.Replies.{counted, noted};
-    ghost use Rattle.connection_record.specs.Rising.{AreRising};
 
     /// Nothing is asked yet.
     pub fn new(
@@ -82,19 +81,6 @@ impl Record {
         ensures { option_copied result ≡ last self.now.committed }
     {
         self.committed.items().last()
-    }
-
-    /// Adds committed criteria.
-    #[tactic(auto, using(crate::proofs::Rising::rising_more))]
-    pub fn push_committed(&mut self, criteria: Criteria) -> Result<(), AllocError>
-        requires { IfSome (last self.old.committed) (λ c. c.version < criteria.version) }
-        ensures ok { OnOk result (self.new
-            ≡ record self.old { committed = self.old.committed ++ criteria ∷ [] }) }
-        ensures rising { AreRising self.old.committed → AreRising self.new.committed }
-        ensures err { OnErr result (self.new ≡ self.old) }
-    {
-        self.committed.push(criteria)?;
-        Ok(())
     }
 
     /// The Mbps that the connection claims of a flow of a service termination point at a second: the larger of what is

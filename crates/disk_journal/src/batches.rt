@@ -100,7 +100,7 @@ impl<D: Disk> BatchFile<D> {
 fn frame(alloc: Global, payload: &[u8]) -> Result<Vec<u8>, AllocError>
     ensures framed { IfOk result (λ piece. piece.items ≡ framed payload.now) }
 {
-    let mut piece = Vec::new(alloc);
+    let mut piece = Vec::with_capacity(alloc, payload.len() + 9)?;
     piece.extend_from_slice(&(payload.len() as u64).to_be_bytes())?;
     piece.extend_from_slice(payload)?;
     piece.push(0)?;

@@ -11,7 +11,7 @@ ghost use Rattle.disk_journal.specs.StartOf.{StartsFor, KeepsCounts, Keeps, Leav
 
 use crate::batches::BatchFile;
 use crate::opening::{Opening, StartCause, empty, open};
-use journal_entry::{Journal, JournalFault, write_payload};
+use journal_entry::{Batch, Journal, JournalFault};
 use nsi_disk::Disk;
 use nsi_primitive::Entry;
 use std::alloc::Global;
@@ -173,10 +173,9 @@ impl<D: Disk> Journal for DiskJournal<D> {
 
     ghost reads_kept = { λ j es. is_kept j.batches.gate j.batches.next (D.history j.batches.disk) es };
 
-    fn append(&mut self, alloc: Global, entries: &[Entry]) -> Result<(), JournalFault> {
-        let payload = write_payload(alloc, entries)?;
-        self.batches.hold(alloc, &payload)?;
-        self.more = entries.len() as u64;
+    fn append(&mut self, alloc: Global, batch: &Batch) -> Result<(), JournalFault> {
+        self.batches.hold(alloc, batch.payload())?;
+        self.more = batch.len() as u64;
         Ok(())
     }
 

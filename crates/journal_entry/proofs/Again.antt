@@ -98,21 +98,6 @@ payload_again form es h =
     ap (λ o. o >>= λ f. entries_in f (length (flat_map (entry_spelling form) es)) (flat_map (entry_spelling form) es)) (form_again form)
     ∙ entries_again form es (length (flat_map (entry_spelling form) es)) h (omega arith)
 
--- one more entry was written
-pub one_more : (form : Form) (out new : List ℕ) (es : List Entry) (i : ℕ) (e : Entry) → i < length es → e ≡ get_or es i e → new ≡ out ++ entry_spelling form e → IsReadAgain form e
-    → (out ≡ form_byte form ∷ flat_map (entry_spelling form) (take i es)) × All (IsReadAgain form) (take i es) → (new ≡ form_byte form ∷ flat_map (entry_spelling form) (take (i + 1) es)) × All (IsReadAgain form) (take (i + 1) es)
-one_more form out new es i e l s n h o =
-    let t : take (i + 1) es ≡ take i es ++ e ∷ [] = take_more es i e l ∙ ap (λ x. take i es ++ x ∷ []) (sym s) in
-    let m : flat_map (entry_spelling form) (take (i + 1) es) ≡ flat_map (entry_spelling form) (take i es) ++ entry_spelling form e =
-    ap (flat_map (entry_spelling form)) t ∙ (flat_map-append (entry_spelling form) (take i es) (e ∷ []) ∙ ap (λ x. flat_map (entry_spelling form) (take i es) ++ x) (append-nil (entry_spelling form e))) in
-    (n ∙ (ap (λ x. x ++ entry_spelling form e) o.0 ∙ ap (λ x. form_byte form ∷ x) (sym m)), All-same (IsReadAgain form) (take (i + 1) es) (take i es ++ e ∷ []) t (All-push (IsReadAgain form) (take i es) e o.1 h))
-
-pub all_written : (form : Form) (out : List ℕ) (es : List Entry) (i : ℕ) → length es ≤ i
-    → (out ≡ form_byte form ∷ flat_map (entry_spelling form) (take i es)) × All (IsReadAgain form) (take i es) → payload_of out ≡ Some es
-all_written form out es i l o =
-    let t : take i es ≡ es = take_all i es l in
-    ap payload_of (o.0 ∙ ap (λ x. form_byte form ∷ flat_map (entry_spelling form) x) t) ∙ payload_again form es (recursion_from_All (IsReadAgain form) es (All-same (IsReadAgain form) es (take i es) (sym t) o.1))
-
 -- a payload with an entry is a batch's
 pub batch_again : (payload : List ℕ) (es : List Entry) → 0 < length es → payload_of payload ≡ Some es → batch_of payload ≡ Some es
 batch_again payload [] n h = absurd (omega (arith, n))

@@ -1,6 +1,7 @@
 pub mod Parts
 pub mod Taken
 pub mod Again
+pub mod Batched
 pub mod Spellable
 pub mod Loop
 pub mod Recovered

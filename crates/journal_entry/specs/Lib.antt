@@ -5,6 +5,7 @@ pub mod Lines
 pub mod Entries
 pub mod Spelling
 pub mod Payloads
+pub mod Batches
 pub mod Journals
 pub mod Journal
 pub mod Laws

@@ -1,13 +1,12 @@
 //! A journal of entries, as its users see it.
 
-ghost use Rattle.std.specs.Prelude.{◌≡◌, ◌<◌, List, ℕ, Option, Result, Ok, Some, None, [], ◌++◌, Bool, false, true, IfSome, OnOk, IsErrOf, length, is_some, All};
-ghost use Rattle.nsi_primitive.specs.Printable.{IsPrintableEntry};
+ghost use Rattle.std.specs.Prelude.{◌≡◌, ◌<◌, List, ℕ, Option, Result, Ok, Some, None, [], ◌++◌, Bool, false, true, IfSome, OnOk, IsErrOf, length, is_some};
 ghost use Rattle.nsi_primitive.specs.declared.entry.Entry.{Entry as AnEntry};
 ghost use Rattle.nsi_disk.specs.Disk.{History, Meter};
 ghost use Rattle.journal_entry.specs.Journal.{Kept, HasJournalCause, HasSameCounts, Waits, Adds, AddsWaiting, LeavesSynced, LeavesWaiting, LeavesWith, MayLeaveSynced, MayLeaveWith, ReadsImage, ReadsKept, KeepsOneOf};
 
+use crate::batch::Batch;
 use nsi_disk::DiskError;
-use nsi_primitive::Entry;
 use std::alloc::{AllocError, Global};
 
 /// Why a call of a journal failed.
@@ -71,13 +70,12 @@ pub trait Journal {
     ghost is_ready: { Self → Type 0 };
 
     /// Writes a batch, which waits then. It takes the memory of the next `sync` too.
-    fn append(&mut self, alloc: Global, entries: &[Entry]) -> Result<(), JournalFault>
+    fn append(&mut self, alloc: Global, batch: &Batch) -> Result<(), JournalFault>
         requires ready { is_ready self.old }
         requires none { waits self.old ≡ false }
-        requires some { 0 < length entries.now }
-        requires printable { All IsPrintableEntry entries.now }
+        requires some { 0 < length batch.now }
         ensures ready { OnOk result (is_ready self.new) }
-        ensures held { OnOk result (Waits entries.now (kept self.old) (kept self.new)) }
+        ensures held { OnOk result (Waits batch.now (kept self.old) (kept self.new)) }
         ensures any_moment { LeavesSynced reading (kept self.old) (history self.old)
             (history self.new) }
         ensures cause { HasJournalCause (meter self.old) (meter self.new) result }
@@ -130,24 +128,19 @@ pub trait Journal {
     ghost reads_kept: { (j : Self) (es : List AnEntry) → ReadsKept reading es (history j) (kept j) };
 }
 
-/// Keeps these entries: they are appended and synced. After an error but `NoMemory` the journal is only good for giving
+/// Keeps the entries of a batch: they are appended and synced. After an error but `NoMemory` the journal is only good for giving
 /// its disk back, and the disk reads as before or with all of these entries.
-pub fn keep<J: Journal>(
-    alloc: Global,
-    journal: &mut J,
-    entries: &[Entry],
-) -> Result<(), JournalFault>
+pub fn keep<J: Journal>(alloc: Global, journal: &mut J, batch: &Batch) -> Result<(), JournalFault>
     requires ready { J.is_ready journal.old }
     requires none { J.waits journal.old ≡ false }
-    requires some { 0 < length entries.now }
-    requires printable { All IsPrintableEntry entries.now }
+    requires some { 0 < length batch.now }
     ensures ready { OnOk result (J.is_ready journal.new) }
     ensures none { OnOk result (J.waits journal.new ≡ false) }
-    ensures kept { OnOk result (Adds entries.now (J.kept journal.old) (J.kept journal.new)) }
-    ensures any_moment { LeavesWith J.reading entries.now (J.kept journal.old)
+    ensures kept { OnOk result (Adds batch.now (J.kept journal.old) (J.kept journal.new)) }
+    ensures any_moment { LeavesWith J.reading batch.now (J.kept journal.old)
         (J.history journal.old) (J.history journal.new) }
-    ensures left { MayLeaveWith J.reading entries.now (J.kept journal.old) (J.history journal.new) }
-    ensures front { KeepsOneOf entries.now (J.kept journal.old) (J.kept journal.new) }
+    ensures left { MayLeaveWith J.reading batch.now (J.kept journal.old) (J.history journal.new) }
+    ensures front { KeepsOneOf batch.now (J.kept journal.old) (J.kept journal.new) }
     ensures cause { HasJournalCause (J.meter journal.old) (J.meter journal.new) result }
     ensures same_disk { IsErrOf result JournalFault.NoMemory →
         J.history journal.new ≡ J.history journal.old }
@@ -158,6 +151,6 @@ pub fn keep<J: Journal>(
         (J.waits journal.new ≡ false) × J.is_ready journal.new }
     ensures untold { J.history journal.old ≡ None → J.history journal.new ≡ None }
 {
-    journal.append(alloc, entries)?;
+    journal.append(alloc, batch)?;
     journal.sync()
 }

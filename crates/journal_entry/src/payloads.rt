@@ -1,33 +1,15 @@
-//! Payloads: the byte of a form and whole entries, both ways.
+//! From the bytes of payloads, the byte of a form and whole entries, to these.
 
-ghost use Rattle.std.specs.Prelude.{◌≡◌, ◌<◌, ◌++◌, length, All, IfOk, Some};
+ghost use Rattle.std.specs.Prelude.{length, All, IfOk};
 ghost use Rattle.nsi_primitive.specs.Printable.{IsPrintableEntry};
 ghost use Rattle.journal_entry.specs.Faults.{GivesAll};
-ghost use Rattle.journal_entry.specs.declared.form.Form.{Form};
-ghost use Rattle.journal_entry.specs.Payloads.{entries_in, payload_of, payload_spelling, IsSpelledPayload, batch_of};
+ghost use Rattle.journal_entry.specs.Payloads.{entries_in, payload_of, IsSpelledPayload, batch_of};
 
 use crate::fault::{EntryFault, PayloadFault};
 use crate::form::Form;
 use crate::reading::entry_at;
-use crate::writing::push_entry;
 use nsi_primitive::Entry;
-use std::alloc::{AllocError, Global};
-
-/// Writes the byte of the second form and the entries in it.
-pub fn write_payload(alloc: Global, entries: &[Entry]) -> Result<Vec<u8>, AllocError>
-    requires { All IsPrintableEntry entries.now }
-    ensures spelled { IfOk result (λ b. b.items ≡ payload_spelling Form.Two entries.now) }
-    ensures again { IfOk result (λ b. payload_of b.items ≡ Some entries.now) }
-    ensures batch { 0 < length entries.now →
-        IfOk result (λ b. batch_of b.items ≡ Some entries.now) }
-{
-    let mut out = Vec::new(alloc);
-    out.push(Form::Two.byte())?;
-    for entry in entries {
-        push_entry(alloc, &mut out, entry)?;
-    }
-    Ok(out)
-}
+use std::alloc::Global;
 
 /// Reads the entries of a payload of either form, which may have none.
 pub fn read_payload(alloc: Global, bytes: &[u8]) -> Result<Vec<Entry>, PayloadFault>

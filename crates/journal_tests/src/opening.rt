@@ -4,7 +4,7 @@ ghost use Rattle.std.specs.Prelude.{◌≡◌, ◌<◌, false, length, All, IfOk
 ghost use Rattle.nsi_primitive.specs.Printable.{IsPrintableEntry};
 
 use disk_journal::{DiskJournal, StartCause, StartFault};
-use journal_entry::{Journal, JournalFault, keep};
+use journal_entry::{Batch, Journal, JournalFault, keep};
 use nsi_base::Second;
 use nsi_disk::{Disk, Image, MemoryDisk, Stop};
 use nsi_primitive::{Entry, Input};
@@ -65,8 +65,10 @@ fn keep_both<J: Journal>(
     requires first { (0 < length first.now) × All IsPrintableEntry first.now }
     requires second { (0 < length second.now) × All IsPrintableEntry second.now }
 {
-    keep(alloc, journal, first)?;
-    keep(alloc, journal, second)
+    let first = Batch::of(alloc, first)?;
+    let second = Batch::of(alloc, second)?;
+    keep(alloc, journal, &first)?;
+    keep(alloc, journal, &second)
 }
 
 fn fault_of(cause: StartCause) -> JournalFault {

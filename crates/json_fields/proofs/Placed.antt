@@ -1,17 +1,16 @@
--- What a key that is put changes, and the tokens of what is written.
-use Rattle.std.proofs.Common.{◌≡◌, ◌<◌, ◌≤◌, ◌+◌, ◌-◌, ◌==◌, ℕ, zero, suc, List, [], ◌∷◌, ◌++◌, Bool, true, false, cond, length, drop, take, get_or, set, nat_lt, Some, None, refl, sym, ap, ap₂, ◌∙◌, subst, arith, append_assoc, append-nil}
+-- What a key that is put changes, and the text of what is written.
+use Rattle.std.proofs.Common.{◌≡◌, ◌<◌, ◌≤◌, ◌+◌, ◌-◌, ◌==◌, ℕ, zero, suc, List, [], ◌∷◌, ◌++◌, Bool, true, false, not, cond, length, drop, take, get_or, set, nat_lt, Some, None, refl, sym, ap, ap₂, ◌∙◌, subst, arith, append_assoc, append-nil}
 use Rattle.std.specs.Prelude.{slice_get, map}
 use Rattle.std.specs.List.{insert}
 use Rattle.std.specs.Ordering.{match_ordering}
 use Rattle.std.proofs.lemmas.List.{take_all}
-use Rattle.json.specs.Token.{Token}
-use Rattle.json.specs.Tree.{items_tokens, members_tokens}
+use Rattle.json.specs.Print.{quoted}
 use Rattle.serde_json.specs.Data.{Data, object, member, put}
 use Rattle.serde_json.specs.View.{items_of}
-use Rattle.serde_json.specs.Written.{items_outline, members_outline}
+use Rattle.serde_json.specs.Written.{comma_if, compact_text, items_text, members_text}
 use Rattle.json_fields.specs.Keys.{name_of}
 use Rattle.json_fields.specs.Ranks.{rank_of}
-use Rattle.json_fields.specs.Members.{value_data, members_from, place_in, without, HasKeyAt, value_tokens, front_tokens}
+use Rattle.json_fields.specs.Members.{value_data, members_from, place_in, without, HasKeyAt, front_text}
 use Rattle.json_fields.specs.declared.key.Key.{Key}
 use Rattle.json_fields.specs.declared.member.Member.{Member}
 use Rattle.json_fields.proofs.Ranks.{less_by_rank, greater_by_rank, equal_by_rank, same_by_rank}
@@ -118,64 +117,104 @@ place_within key (x ∷ ms) = by_test (nat_lt (rank_of x.key) (rank_of key)) (pl
     by_test true low = omega (arith, low)
     by_test false low = omega arith
 
----- Tokens
+---- Texts
 
-pub members_written : (ms : List Member) → front_tokens ms ++ Token.end_object ∷ [] ≡ members_tokens (members_outline (members_from ms))
-members_written [] = refl
-members_written (m ∷ ms) = ap (λ ts. Token.key (name_of m.key) ∷ ts) (append_assoc (value_tokens (value_data m.value)) (front_tokens ms) (Token.end_object ∷ []) ∙ ap (λ ts. value_tokens (value_data m.value) ++ ts) (members_written ms))
+pub members_closed : (later : Bool) (ms : List Member) → front_text later ms ++ 125 ∷ [] ≡ members_text later (members_from ms)
+members_closed later [] = refl
+members_closed later (m ∷ ms) =
+    append_assoc (comma_if later) (quoted (name_of m.key) ++ 58 ∷ (compact_text (value_data m.value) ++ front_text true ms)) (125 ∷ [])
+    ∙ ap (λ t. comma_if later ++ t) (append_assoc (quoted (name_of m.key)) (58 ∷ (compact_text (value_data m.value) ++ front_text true ms)) (125 ∷ [])
+    ∙ ap (λ t. quoted (name_of m.key) ++ 58 ∷ t) (append_assoc (compact_text (value_data m.value)) (front_text true ms) (125 ∷ []) ∙ ap (λ t. compact_text (value_data m.value) ++ t) (members_closed true ms)))
 
--- the tokens of members with one more put to them, between those before and those behind it
-pub with_written : (key : Key) (d : Data) (ms : List Member)
-    → front_tokens (take (place_in key ms) ms) ++ (Token.key (name_of key) ∷ (value_tokens d ++ (front_tokens (without key (drop (place_in key ms) ms)) ++ Token.end_object ∷ [])))
-    ≡ members_tokens (members_outline (put (name_of key) d (members_from ms)))
-unfolding without
-with_written key d [] = ap (λ n. front_tokens (take n []) ++ (Token.key (name_of key) ∷ (value_tokens d ++ (front_tokens (without key (drop n [])) ++ Token.end_object ∷ [])))) (place_none key)
-with_written key d (x ∷ ms) = by_place (stands (rank_of x.key) (rank_of key)) (with_written key d ms)
-  where
-    spelled : List Member → ℕ → List Token
-    spelled xs n = front_tokens (take n xs) ++ (Token.key (name_of key) ∷ (value_tokens d ++ (front_tokens (without key (drop n xs)) ++ Token.end_object ∷ [])))
+-- whether something stands before what comes behind these
+abbrev pub or_later : Bool → List Member → Bool
+or_later later [] = later
+or_later later (m ∷ ms) = true
 
-    by_place : Stands (rank_of x.key) (rank_of key) → spelled ms (place_in key ms) ≡ members_tokens (members_outline (put (name_of key) d (members_from ms)))
-        → spelled (x ∷ ms) (place_in key (x ∷ ms)) ≡ members_tokens (members_outline (put (name_of key) d (members_from (x ∷ ms))))
-    by_place (comes_before h) later =
-        ap (spelled (x ∷ ms)) (place_over key x ms h)
-        ∙ (ap (λ ts. Token.key (name_of x.key) ∷ ts) (append_assoc (value_tokens (value_data x.value)) (front_tokens (take (place_in key ms) ms)) _ ∙ ap (λ ts. value_tokens (value_data x.value) ++ ts) later)
-        ∙ ap (λ z. members_tokens (members_outline z)) (sym (put_over key d x ms h)))
-    by_place (is_there h) later =
-        ap (spelled (x ∷ ms)) (place_not_over key x ms (omega (arith, h)))
-        ∙ (ap (λ b. Token.key (name_of key) ∷ (value_tokens d ++ (front_tokens (cond b ms (x ∷ ms)) ++ Token.end_object ∷ []))) (is_same h)
-        ∙ (ap (λ ts. Token.key (name_of key) ∷ (value_tokens d ++ ts)) (members_written ms)
-        ∙ ap (λ z. members_tokens (members_outline z)) (sym (put_same key d x ms h))))
-    by_place (comes_behind h) later =
-        ap (spelled (x ∷ ms)) (place_not_over key x ms (omega (arith, h)))
-        ∙ (ap (λ b. Token.key (name_of key) ∷ (value_tokens d ++ (front_tokens (cond b ms (x ∷ ms)) ++ Token.end_object ∷ []))) (not_same h)
-        ∙ (ap (λ ts. Token.key (name_of key) ∷ (value_tokens d ++ ts)) (members_written (x ∷ ms))
-        ∙ ap (λ z. members_tokens (members_outline z)) (sym (put_before key d x ms h))))
+stays_later : (ms : List Member) → or_later true ms ≡ true
+stays_later [] = refl
+stays_later (m ∷ ms) = refl
+
+module _ (key : Key) (d : Data) where
+  -- a member, and what closes the object
+  abbrev pub last_text : Bool → List ℕ → List ℕ
+  last_text later rest = comma_if later ++ ((quoted (name_of key) ++ 58 ∷ []) ++ (compact_text d ++ rest))
+
+  abbrev pub spelled : Bool → List Member → ℕ → List ℕ
+  spelled later xs n = front_text later (take n xs) ++ last_text (or_later later (take n xs)) (front_text true (without key (drop n xs)) ++ 125 ∷ [])
+
+  last_is : (later : Bool) (rest : List ℕ) → last_text later rest ≡ comma_if later ++ (quoted (name_of key) ++ 58 ∷ (compact_text d ++ rest))
+  last_is later rest = ap (λ t. comma_if later ++ t) (append_assoc (quoted (name_of key)) (58 ∷ []) (compact_text d ++ rest))
+
+  -- the text of members with one more put to them, between those before and those behind it
+  pub with_spelled : (later : Bool) (ms : List Member) → spelled later ms (place_in key ms) ≡ members_text later (put (name_of key) d (members_from ms))
+  unfolding without
+  with_spelled later [] = ap (spelled later []) (place_none key) ∙ last_is later (125 ∷ [])
+  with_spelled later (x ∷ ms) = by_place (stands (rank_of x.key) (rank_of key)) (with_spelled true ms)
+    where
+      own : List ℕ
+      own = compact_text (value_data x.value)
+
+      rest : List ℕ
+      rest = front_text true (without key (drop (place_in key ms) ms)) ++ 125 ∷ []
+
+      front : List ℕ
+      front = front_text true (take (place_in key ms) ms)
+
+      by_place : Stands (rank_of x.key) (rank_of key) → spelled true ms (place_in key ms) ≡ members_text true (put (name_of key) d (members_from ms))
+          → spelled later (x ∷ ms) (place_in key (x ∷ ms)) ≡ members_text later (put (name_of key) d (members_from (x ∷ ms)))
+      by_place (comes_before h) behind =
+          ap (spelled later (x ∷ ms)) (place_over key x ms h)
+          ∙ (append_assoc (comma_if later) (quoted (name_of x.key) ++ 58 ∷ (own ++ front)) (last_text true rest)
+          ∙ (ap (λ t. comma_if later ++ t) (append_assoc (quoted (name_of x.key)) (58 ∷ (own ++ front)) (last_text true rest)
+          ∙ ap (λ t. quoted (name_of x.key) ++ 58 ∷ t) (append_assoc own front (last_text true rest)
+          ∙ ap (λ t. own ++ t) (ap (λ b. front ++ last_text b rest) (sym (stays_later (take (place_in key ms) ms))) ∙ behind)))
+          ∙ ap (members_text later) (sym (put_over key d x ms h))))
+      by_place (is_there h) behind =
+          ap (spelled later (x ∷ ms)) (place_not_over key x ms (omega (arith, h)))
+          ∙ (ap (λ b. last_text later (front_text true (cond b ms (x ∷ ms)) ++ 125 ∷ [])) (is_same h)
+          ∙ (last_is later (front_text true ms ++ 125 ∷ [])
+          ∙ (ap (λ t. comma_if later ++ (quoted (name_of key) ++ 58 ∷ (compact_text d ++ t))) (members_closed true ms)
+          ∙ ap (members_text later) (sym (put_same key d x ms h)))))
+      by_place (comes_behind h) behind =
+          ap (spelled later (x ∷ ms)) (place_not_over key x ms (omega (arith, h)))
+          ∙ (ap (λ b. last_text later (front_text true (cond b ms (x ∷ ms)) ++ 125 ∷ [])) (not_same h)
+          ∙ (last_is later (front_text true (x ∷ ms) ++ 125 ∷ [])
+          ∙ (ap (λ t. comma_if later ++ (quoted (name_of key) ++ 58 ∷ (compact_text d ++ t))) (members_closed true (x ∷ ms))
+          ∙ ap (members_text later) (sym (put_before key d x ms h)))))
 
 ---- Loops
 
-next_one : {X : Type 0} (xs : List X) (i : ℕ) (x : X) → i < length xs → x ≡ get_or xs i x → drop i xs ≡ x ∷ drop (suc i) xs
-next_one [] i x low is = absurd (omega (arith, low))
-next_one (y ∷ xs) zero x low is = ap (λ z. z ∷ xs) (sym is)
-next_one (y ∷ xs) (suc i) x low is = next_one xs i x (omega (arith, low)) is
+next_one : {X : Type 0} (xs : List X) (i : ℕ) (x : X) → i < length xs → drop i xs ≡ get_or xs i x ∷ drop (suc i) xs
+next_one [] i x low = absurd (omega (arith, low))
+next_one (y ∷ xs) zero x low = refl
+next_one (y ∷ xs) (suc i) x low = next_one xs i x (omega (arith, low))
 
-next : {X : Type 0} (xs : List X) (i : ℕ) (x : X) → i < length xs → x ≡ get_or xs i x → drop i xs ≡ x ∷ drop (i + 1) xs
-next xs i x low is = next_one xs i x low is ∙ ap (λ n. x ∷ drop n xs) (one i)
+next : {X : Type 0} (xs : List X) (i : ℕ) (x : X) → i < length xs → drop i xs ≡ get_or xs i x ∷ drop (i + 1) xs
+next xs i x low = next_one xs i x low ∙ ap (λ n. get_or xs i x ∷ drop n xs) (one i)
   where
     one : (n : ℕ) → suc n ≡ n + 1
     one n = omega arith
 
-pub member_next : (ms : List Member) (i : ℕ) (m : Member) (old keyed new total : List Token) → i < length ms → m ≡ get_or ms i m
-    → keyed ≡ old ++ Token.key (name_of m.key) ∷ [] → new ≡ keyed ++ value_tokens (value_data m.value) → old ++ front_tokens (drop i ms) ≡ total
-    → new ++ front_tokens (drop (i + 1) ms) ≡ total
-member_next ms i m old keyed new total low is key value done =
-    let rest = front_tokens (drop (i + 1) ms) in
-    let spelled = value_tokens (value_data m.value) in
-    ap (λ ts. ts ++ rest) (value ∙ ap (λ ts. ts ++ spelled) key)
-    ∙ (append_assoc (old ++ Token.key (name_of m.key) ∷ []) spelled rest
-    ∙ (append_assoc old (Token.key (name_of m.key) ∷ []) (spelled ++ rest)
-    ∙ (ap (λ xs. old ++ front_tokens xs) (sym (next ms i m low is))
-    ∙ done)))
+-- what stands behind a text, one piece behind the other
+pieces : (old comma key value rest : List ℕ) → (((old ++ comma) ++ (key ++ 58 ∷ [])) ++ value) ++ rest ≡ old ++ (comma ++ (key ++ 58 ∷ (value ++ rest)))
+pieces old comma key value rest =
+    append_assoc ((old ++ comma) ++ (key ++ 58 ∷ [])) value rest
+    ∙ (append_assoc (old ++ comma) (key ++ 58 ∷ []) (value ++ rest)
+    ∙ (append_assoc old comma ((key ++ 58 ∷ []) ++ (value ++ rest))
+    ∙ ap (λ t. old ++ (comma ++ t)) (append_assoc key (58 ∷ []) (value ++ rest))))
+
+pub member_next : (later : Bool) (ms : List Member) (i : ℕ) (any : Member) (old keyed new total : List ℕ) → i < length ms
+    → keyed ≡ (old ++ comma_if later) ++ (quoted (name_of (get_or ms i any).key) ++ 58 ∷ []) → new ≡ keyed ++ compact_text (value_data (get_or ms i any).value) → old ++ front_text later (drop i ms) ≡ total
+    → new ++ front_text true (drop (i + 1) ms) ≡ total
+member_next later ms i any old keyed new total low key value done =
+    let m = get_or ms i any in
+    let rest = front_text true (drop (i + 1) ms) in
+    let own = compact_text (value_data m.value) in
+    ap (λ t. t ++ rest) (value ∙ ap (λ t. t ++ own) key)
+    ∙ (pieces old (comma_if later) (quoted (name_of m.key)) own rest
+    ∙ (ap (λ xs. old ++ front_text later xs) (sym (next ms i any low))
+    ∙ done))
 
 pub none_left : {X : Type 0} (xs : List X) (i : ℕ) → length xs ≤ i → drop i xs ≡ []
 none_left [] zero h = refl
@@ -183,21 +222,24 @@ none_left [] (suc i) h = refl
 none_left (x ∷ xs) zero h = absurd (omega (arith, h))
 none_left (x ∷ xs) (suc i) h = none_left xs i (omega (arith, h))
 
-pub members_done : (ms : List Member) (i : ℕ) (tokens total : List Token) → length ms ≤ i → tokens ++ front_tokens (drop i ms) ≡ total → tokens ≡ total
-members_done ms i tokens total past done = sym (append-nil tokens) ∙ (ap (λ xs. tokens ++ front_tokens xs) (sym (none_left ms i past)) ∙ done)
+pub members_done : (later : Bool) (ms : List Member) (i : ℕ) (text total : List ℕ) → length ms ≤ i → text ++ front_text later (drop i ms) ≡ total → text ≡ total
+members_done later ms i text total past done = sym (append-nil text) ∙ (ap (λ xs. text ++ front_text later xs) (sym (none_left ms i past)) ∙ done)
 
--- the tokens of rows that are still to come, with the end of the list
-pub rows_next : {R : Type 0} (data_of : R → Data) (rows : List R) (i : ℕ) (row : R) (old new total : List Token) → i < length rows → row ≡ get_or rows i row → new ≡ old ++ value_tokens (data_of row)
-    → old ++ items_tokens (items_outline (items_of (map data_of (drop i rows)))) ≡ total → new ++ items_tokens (items_outline (items_of (map data_of (drop (i + 1) rows)))) ≡ total
-rows_next data_of rows i row old new total low is put done =
-    let rest = items_tokens (items_outline (items_of (map data_of (drop (i + 1) rows)))) in
-    ap (λ ts. ts ++ rest) put
-    ∙ (append_assoc old (value_tokens (data_of row)) rest
-    ∙ (ap (λ xs. old ++ items_tokens (items_outline (items_of (map data_of xs)))) (sym (next rows i row low is))
-    ∙ done))
+-- the text of rows that are still to come, with the end of the list
+pub rows_next : {R : Type 0} (data_of : R → Data) (later : Bool) (rows : List R) (i : ℕ) (any : R) (old behind new total : List ℕ) → i < length rows
+    → behind ≡ old ++ comma_if later → new ≡ behind ++ compact_text (data_of (get_or rows i any))
+    → old ++ items_text later (items_of (map data_of (drop i rows))) ≡ total → new ++ items_text true (items_of (map data_of (drop (i + 1) rows))) ≡ total
+rows_next data_of later rows i any old behind new total low comma put done =
+    let rest = items_text true (items_of (map data_of (drop (i + 1) rows))) in
+    let own = compact_text (data_of (get_or rows i any)) in
+    ap (λ t. t ++ rest) (put ∙ ap (λ t. t ++ own) comma)
+    ∙ (append_assoc (old ++ comma_if later) own rest
+    ∙ (append_assoc old (comma_if later) (own ++ rest)
+    ∙ (ap (λ xs. old ++ items_text later (items_of (map data_of xs))) (sym (next rows i any low))
+    ∙ done)))
 
-pub rows_done : {R : Type 0} (data_of : R → Data) (rows : List R) (i : ℕ) (tokens total : List Token) → length rows ≤ i → tokens ++ items_tokens (items_outline (items_of (map data_of (drop i rows)))) ≡ total → tokens ++ Token.end_array ∷ [] ≡ total
-rows_done data_of rows i tokens total past done = ap (λ xs. tokens ++ items_tokens (items_outline (items_of (map data_of xs)))) (sym (none_left rows i past)) ∙ done
+pub rows_done : {R : Type 0} (data_of : R → Data) (later : Bool) (rows : List R) (i : ℕ) (text total : List ℕ) → length rows ≤ i → text ++ items_text later (items_of (map data_of (drop i rows))) ≡ total → text ++ 93 ∷ [] ≡ total
+rows_done data_of later rows i text total past done = ap (λ xs. text ++ items_text later (items_of (map data_of xs))) (sym (none_left rows i past)) ∙ done
 
 ---- A first member
 
@@ -224,34 +266,38 @@ without_none key (x ∷ ms) is = cc
 
 ---- Objects
 
-pub object_written : (ms : List Member) (old opened listed closed : List Token) → opened ≡ old ++ Token.begin_object ∷ [] → listed ≡ opened ++ front_tokens ms → closed ≡ listed ++ Token.end_object ∷ [] → closed ≡ old ++ value_tokens (object (members_from ms))
-object_written ms old opened listed closed is_opened is_listed is_closed =
-    is_closed ∙ (ap (λ ts. ts ++ Token.end_object ∷ []) (is_listed ∙ ap (λ ts. ts ++ front_tokens ms) is_opened)
-    ∙ (append_assoc (old ++ Token.begin_object ∷ []) (front_tokens ms) _ ∙ (append_assoc old (Token.begin_object ∷ []) _ ∙ ap (λ ts. old ++ Token.begin_object ∷ ts) (members_written ms))))
+pub object_spelled : (ms : List Member) (old opened listed closed : List ℕ) → opened ≡ old ++ 123 ∷ [] → listed ≡ opened ++ front_text false ms → closed ≡ listed ++ 125 ∷ [] → closed ≡ old ++ compact_text (object (members_from ms))
+object_spelled ms old opened listed closed is_opened is_listed is_closed =
+    is_closed ∙ (ap (λ t. t ++ 125 ∷ []) (is_listed ∙ ap (λ t. t ++ front_text false ms) is_opened)
+    ∙ (append_assoc (old ++ 123 ∷ []) (front_text false ms) (125 ∷ []) ∙ (append_assoc old (123 ∷ []) (front_text false ms ++ 125 ∷ []) ∙ ap (λ t. old ++ 123 ∷ t) (members_closed false ms))))
 
 -- the steps by which an object is written with one member more
-pub object_with : (key : Key) (d : Data) (ms front back rest : List Member) (old opened first keyed listed last closed : List Token)
-    → front ≡ take (place_in key ms) ms → back ≡ drop (place_in key ms) ms → rest ≡ without key back
-    → opened ≡ old ++ Token.begin_object ∷ [] → first ≡ opened ++ front_tokens front → keyed ≡ first ++ Token.key (name_of key) ∷ [] → listed ≡ keyed ++ value_tokens d → last ≡ listed ++ front_tokens rest → closed ≡ last ++ Token.end_object ∷ []
-    → closed ≡ old ++ value_tokens (object (put (name_of key) d (members_from ms)))
-object_with key d ms front back rest old opened first keyed listed last closed is_front is_back is_rest is_opened is_first is_keyed is_listed is_last is_closed =
-    is_closed ∙ ap (λ ts. ts ++ ended) (is_last ∙ ap (λ ts. ts ++ front_tokens rest) (is_listed ∙ ap (λ ts. ts ++ value_tokens d) (is_keyed ∙ ap (λ ts. ts ++ named) (is_first ∙ ap (λ ts. ts ++ front_tokens front) is_opened))))
-    ∙ (joined old (front_tokens front) (value_tokens d) (front_tokens rest)
-    ∙ ap (λ ts. old ++ (Token.begin_object ∷ ts)) (ap₂ (λ xs ys. front_tokens xs ++ (Token.key (name_of key) ∷ (value_tokens d ++ (front_tokens ys ++ ended)))) is_front (is_rest ∙ ap (without key) is_back) ∙ with_written key d ms))
+pub object_with : (key : Key) (d : Data) (later : Bool) (ms front back rest : List Member) (old opened first keyed listed last closed : List ℕ)
+    → front ≡ take (place_in key ms) ms → back ≡ drop (place_in key ms) ms → rest ≡ without key back → later ≡ or_later false front
+    → opened ≡ old ++ 123 ∷ [] → first ≡ opened ++ front_text false front → keyed ≡ (first ++ comma_if later) ++ (quoted (name_of key) ++ 58 ∷ []) → listed ≡ keyed ++ compact_text d → last ≡ listed ++ front_text true rest → closed ≡ last ++ 125 ∷ []
+    → closed ≡ old ++ compact_text (object (put (name_of key) d (members_from ms)))
+object_with key d later ms front back rest old opened first keyed listed last closed is_front is_back is_rest is_later is_opened is_first is_keyed is_listed is_last is_closed =
+    is_closed ∙ (ap (λ t. t ++ 125 ∷ []) (is_last ∙ ap (λ t. t ++ front_text true rest) (is_listed ∙ ap (λ t. t ++ compact_text d) (is_keyed ∙ ap (λ t. (t ++ comma_if later) ++ named) (is_first ∙ ap (λ t. t ++ front_text false front) is_opened))))
+    ∙ (joined old (front_text false front) (comma_if later) (compact_text d) (front_text true rest)
+    ∙ (ap (λ b. old ++ 123 ∷ (front_text false front ++ (comma_if b ++ (named ++ (compact_text d ++ (front_text true rest ++ 125 ∷ [])))))) is_later
+    ∙ ap (λ t. old ++ 123 ∷ t) (ap₂ (λ xs ys. front_text false xs ++ (comma_if (or_later false xs) ++ (named ++ (compact_text d ++ (front_text true ys ++ 125 ∷ []))))) is_front (is_rest ∙ ap (without key) is_back) ∙ with_spelled key d false ms))))
   where
-    ended : List Token
-    ended = Token.end_object ∷ []
+    named : List ℕ
+    named = quoted (name_of key) ++ 58 ∷ []
 
-    named : List Token
-    named = Token.key (name_of key) ∷ []
+    joined : (start front comma value rest : List ℕ) → ((((((start ++ 123 ∷ []) ++ front) ++ comma) ++ named) ++ value) ++ rest) ++ 125 ∷ [] ≡ start ++ 123 ∷ (front ++ (comma ++ (named ++ (value ++ (rest ++ 125 ∷ [])))))
+    joined start front comma value rest =
+        append_assoc (((((start ++ 123 ∷ []) ++ front) ++ comma) ++ named) ++ value) rest (125 ∷ [])
+        ∙ (append_assoc ((((start ++ 123 ∷ []) ++ front) ++ comma) ++ named) value (rest ++ 125 ∷ [])
+        ∙ (append_assoc (((start ++ 123 ∷ []) ++ front) ++ comma) named (value ++ (rest ++ 125 ∷ []))
+        ∙ (append_assoc ((start ++ 123 ∷ []) ++ front) comma (named ++ (value ++ (rest ++ 125 ∷ [])))
+        ∙ (append_assoc (start ++ 123 ∷ []) front (comma ++ (named ++ (value ++ (rest ++ 125 ∷ []))))
+        ∙ append_assoc start (123 ∷ []) (front ++ (comma ++ (named ++ (value ++ (rest ++ 125 ∷ [])))))))))
 
-    joined : (start front value rest : List Token) → (((((start ++ (Token.begin_object ∷ [])) ++ front) ++ named) ++ value) ++ rest) ++ ended ≡ start ++ (Token.begin_object ∷ (front ++ (Token.key (name_of key) ∷ (value ++ (rest ++ ended)))))
-    joined start front value rest =
-        append_assoc ((((start ++ (Token.begin_object ∷ [])) ++ front) ++ named) ++ value) rest ended
-        ∙ (append_assoc (((start ++ (Token.begin_object ∷ [])) ++ front) ++ named) value (rest ++ ended)
-        ∙ (append_assoc ((start ++ (Token.begin_object ∷ [])) ++ front) named (value ++ (rest ++ ended))
-        ∙ (append_assoc (start ++ (Token.begin_object ∷ [])) front (named ++ (value ++ (rest ++ ended)))
-        ∙ append_assoc start (Token.begin_object ∷ []) (front ++ (named ++ (value ++ (rest ++ ended)))))))
+-- whether something stands before what comes behind the front
+pub later_is : (front : List Member) → not (length front == 0) ≡ or_later false front
+later_is [] = refl
+later_is (m ∷ ms) = ap not (not_same {a = length (m ∷ ms)} {b = 0} (omega arith))
 
 ---- Places
 

@@ -4,8 +4,8 @@ use Rattle.std.specs.Str.{IsUtf8, is_utf8}
 use Rattle.std.proofs.lemmas.Str.{IsUtf8-from_is_utf8, is_utf8-from_IsUtf8}
 use Rattle.serde_json.specs.Data.{Data}
 use Rattle.serde_json.specs.Read.{read}
-use Rattle.serde_json.specs.View.{items_view}
-use Rattle.serde_json.specs.declared.value.Value.{Value}
+use Rattle.json_fields.specs.Values.{items_view}
+use Rattle.json_fields.specs.declared.value.JsonValue.{JsonValue}
 use Rattle.json_fields.specs.Fields.{json_of, nothing_of}
 
 -- a text that reads is that value
@@ -23,6 +23,6 @@ json_of_refused bytes refused = by_test (is_utf8 bytes) (λ h. refused (IsUtf8-f
     by_test false h = refl
 
 -- a list is empty where its items are none
-pub nothing_of_view : (vs : List Value) → eqb (length vs) 0 ≡ is_some (nothing_of (items_view vs))
+pub nothing_of_view : (vs : List JsonValue) → eqb (length vs) 0 ≡ is_some (nothing_of (items_view vs))
 nothing_of_view [] = refl
 nothing_of_view (v ∷ vs) = grind arith

@@ -7,3 +7,4 @@ pub mod Plain
 pub mod Ranks
 pub mod Members
 pub mod Written
+pub mod Values

@@ -1,9 +1,8 @@
 -- Members of an object that is being written.
-use Rattle.std.specs.Prelude.{◌≡◌, ℕ, suc, List, [], ◌∷◌, flat_map, nat_lt, ◌==◌, if◌then◌else◌, MatchOption, slice_get, option_map, unwrap_or}
-use Rattle.json.specs.Token.{Token}
-use Rattle.json.specs.Tree.{json_tokens}
+use Rattle.std.specs.Prelude.{◌≡◌, ℕ, suc, List, [], ◌∷◌, ◌++◌, Bool, true, not, ◌&&◌, nat_lt, nat_le, ◌==◌, if◌then◌else◌, MatchOption, slice_get, option_map, unwrap_or}
+use Rattle.json.specs.Print.{quoted}
 use Rattle.serde_json.specs.Data.{Data, Members, no_members, member}
-use Rattle.serde_json.specs.Written.{outline}
+use Rattle.serde_json.specs.Written.{comma_if, compact_text}
 use Rattle.nsi_base.specs.Range.{within, greatest_second}
 use Rattle.date_time.specs.Text.{text_of}
 use Rattle.json_fields.specs.Keys.{name_of}
@@ -49,12 +48,11 @@ unfoldable pub without : Key → List Member → List Member
 without key [] = []
 without key (m ∷ ms) = if rank_of m.key == rank_of key then ms else m ∷ ms
 
--- the tokens of a value, of a member, and of one member behind another
-abbrev pub value_tokens : Data → List Token
-value_tokens d = json_tokens (outline d)
+-- members one behind the other, as they stand between the braces; a comma before the first where something stands there
+abbrev pub front_text : Bool → List Member → List ℕ
+front_text later [] = []
+front_text later (m ∷ ms) = comma_if later ++ (quoted (name_of m.key) ++ 58 ∷ (compact_text (value_data m.value) ++ front_text true ms))
 
-abbrev pub member_tokens : Member → List Token
-member_tokens m = Token.key (name_of m.key) ∷ value_tokens (value_data m.value)
-
-abbrev pub front_tokens : List Member → List Token
-front_tokens ms = flat_map member_tokens ms
+-- a byte that stands for itself in a text
+abbrev pub is_plain_byte : ℕ → Bool
+is_plain_byte b = nat_le 32 b && not (b == 34) && not (b == 92)

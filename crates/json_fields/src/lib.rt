@@ -9,9 +9,11 @@ pub mod reading;
 pub mod row_fields;
 pub mod rows;
 pub mod time_form;
+pub mod value;
 
 pub use fault::LineFault;
 pub use key::Key;
 pub use object::JsonObject;
 pub use rows::JsonRows;
 pub use time_form::TimeForm;
+pub use value::JsonValue;

@@ -2,7 +2,7 @@
 
 ghost use Rattle.std.specs.Prelude.{◌≡◌, ◌≤◌, false, length, option_map, is_some, Some, None, IfOk, IfErr, IfSome, ◌≢◌};
 ghost use Rattle.serde_json.specs.Find.{get};
-ghost use Rattle.serde_json.specs.View.{view};
+ghost use Rattle.json_fields.specs.Values.{view};
 ghost use Rattle.nsi_primitive.specs.Ids.{id_from_text};
 ghost use Rattle.nsi_primitive.specs.Printable.{has_further_keys};
 ghost use Rattle.json_fields.specs.Keys.{name_of};
@@ -11,33 +11,33 @@ ghost use Rattle.json_fields.specs.Fields.{json_of, formed, required, optional, 
 
 use crate::fault::LineFault;
 use crate::key::Key;
+use crate::value::JsonValue;
+use crate::value::parsing::parse;
 use date_time::read_second;
+use json::Scratch;
 use nsi_base::{Flow, HoldTime, Mbps, Name, NameFault, Second, Text, Version};
 use nsi_primitive::{Directionality, ErrorName, FaultEvent, Id, Kind, read_id};
-use serde_json::Value;
 use std::alloc::Global;
 
 /// Reads JSON (RFC 8259). Of equal keys the last one counts. Nesting over 127, a lone surrogate and a number that no
 /// float holds are not JSON here.
-pub fn read_json(alloc: Global, bytes: &[u8]) -> Result<Value, LineFault>
+pub fn read_json<'a>(
+    alloc: Global,
+    bytes: &'a [u8],
+    scratch: &'a mut Scratch,
+) -> Result<JsonValue<'a>, LineFault>
     ensures read { IfOk result (λ v. json_of bytes.now ≡ Some (view v)) }
     ensures refused { IfErr result (λ e.
         e ≢ LineFault.NoMemory → (e ≡ LineFault.NotJson) × (json_of bytes.now ≡ None)) }
 {
-    match Value::from_slice(alloc, bytes) {
-        Ok(value) => Ok(value),
-        Err(error) => {
-            if error.is_memory() {
-                Err(LineFault::NoMemory)
-            } else {
-                Err(LineFault::NotJson)
-            }
-        }
+    match simdutf8::basic::from_utf8(bytes) {
+        Ok(text) => parse(alloc, text, scratch),
+        Err(_) => Err(LineFault::NotJson),
     }
 }
 
 /// What stands at a key, where the value is an object that has it.
-pub fn at(value: &Value, key: Key) -> Option<&Value>
+pub fn at<'v, 'a>(value: &'v JsonValue<'a>, key: Key) -> Option<&'v JsonValue<'a>>
     ensures { option_map (λ v. view v.now) result ≡ get (name_of key) (view value.now) }
 {
     value.get(key.text())
@@ -52,26 +52,26 @@ fn parse_id(text: &[u8]) -> Option<Id>
     }
 }
 
-fn id_from(value: &Value) -> Option<Id>
+fn id_from(value: &JsonValue<'_>) -> Option<Id>
     ensures { result ≡ id_from (view value.now) }
 {
     parse_id(value.as_str()?.as_bytes())
 }
 
-pub(crate) fn capacity_from(value: &Value) -> Option<Mbps>
+pub(crate) fn capacity_from(value: &JsonValue<'_>) -> Option<Mbps>
     ensures { result ≡ capacity_from (view value.now) }
 {
     Mbps::new(value.as_u64()?)
 }
 
-fn second_from(value: &Value) -> Option<Second>
+fn second_from(value: &JsonValue<'_>) -> Option<Second>
     ensures { result ≡ second_from (view value.now) }
 {
     Second::new(value.as_u64()?)
 }
 
 #[tactic(auto, unfolding(crate::specs::Fields::time_from))]
-pub(crate) fn time_from(value: &Value) -> Option<Second>
+pub(crate) fn time_from(value: &JsonValue<'_>) -> Option<Second>
     ensures { result ≡ time_from (view value.now) }
 {
     match second_from(value) {
@@ -80,13 +80,13 @@ pub(crate) fn time_from(value: &Value) -> Option<Second>
     }
 }
 
-fn date_time_from(value: &Value) -> Option<Second>
+fn date_time_from(value: &JsonValue<'_>) -> Option<Second>
     ensures { result ≡ date_time_from (view value.now) }
 {
     read_second(value.as_str()?.as_bytes())
 }
 
-fn version_from(value: &Value) -> Option<Version>
+fn version_from(value: &JsonValue<'_>) -> Option<Version>
     ensures { result ≡ version_from (view value.now) }
 {
     let n = value.as_u64()?;
@@ -97,13 +97,13 @@ fn version_from(value: &Value) -> Option<Version>
     }
 }
 
-fn directionality_from(value: &Value) -> Option<Directionality>
+fn directionality_from(value: &JsonValue<'_>) -> Option<Directionality>
     ensures { result ≡ directionality_from (view value.now) }
 {
     Directionality::named(value.as_str()?.as_bytes())
 }
 
-fn hold_from(value: &Value) -> Option<HoldTime>
+fn hold_from(value: &JsonValue<'_>) -> Option<HoldTime>
     ensures { result ≡ hold_from (view value.now) }
 {
     let n = value.as_u64()?;
@@ -114,14 +114,14 @@ fn hold_from(value: &Value) -> Option<HoldTime>
     }
 }
 
-fn kind_from(value: &Value) -> Option<Kind>
+fn kind_from(value: &JsonValue<'_>) -> Option<Kind>
     ensures { result ≡ kind_from (view value.now) }
 {
     Kind::named(value.as_str()?.as_bytes())
 }
 
 /// The error that a text names.
-pub fn error_from(value: &Value) -> Option<ErrorName>
+pub fn error_from(value: &JsonValue<'_>) -> Option<ErrorName>
     ensures { result ≡ error_from (view value.now) }
 {
     ErrorName::named(value.as_str()?.as_bytes())
@@ -134,7 +134,7 @@ fn has_further_keys(error: ErrorName) -> bool
     matches!(error, ErrorName::Bandwidth | ErrorName::Child)
 }
 
-fn plain_error_from(value: &Value) -> Option<ErrorName>
+fn plain_error_from(value: &JsonValue<'_>) -> Option<ErrorName>
     ensures gives { result ≡ plain_error_from (view value.now) }
     ensures plain { IfSome result (λ error. has_further_keys error ≡ false) }
 {
@@ -146,7 +146,7 @@ fn plain_error_from(value: &Value) -> Option<ErrorName>
     }
 }
 
-fn event_from(value: &Value) -> Option<FaultEvent>
+fn event_from(value: &JsonValue<'_>) -> Option<FaultEvent>
     ensures { result ≡ event_from (view value.now) }
 {
     FaultEvent::named(value.as_str()?.as_bytes())
@@ -164,22 +164,22 @@ fn flow_named(name: &[u8]) -> Option<Flow>
     }
 }
 
-fn flow_from(value: &Value) -> Option<Flow>
+fn flow_from(value: &JsonValue<'_>) -> Option<Flow>
     ensures { result ≡ flow_from (view value.now) }
 {
     flow_named(value.as_str()?.as_bytes())
 }
 
-fn is_empty_list(value: &Value) -> bool
+fn is_empty_list(value: &JsonValue<'_>) -> bool
     ensures { result ≡ is_some (empty_list_from (view value.now)) }
 {
     match value.as_array() {
-        Some(items) => items.as_slice().is_empty(),
+        Some(items) => items.is_empty(),
         None => false,
     }
 }
 
-fn name_from(alloc: Global, value: &Value, key: Key) -> Result<Name, LineFault>
+fn name_from(alloc: Global, value: &JsonValue<'_>, key: Key) -> Result<Name, LineFault>
     ensures { Gives result (formed key (name_from (view value.now))) }
 {
     let Some(text) = value.as_str() else {
@@ -192,7 +192,7 @@ fn name_from(alloc: Global, value: &Value, key: Key) -> Result<Name, LineFault>
     }
 }
 
-fn text_from(alloc: Global, value: &Value, key: Key, most: usize) -> Result<Text, LineFault>
+fn text_from(alloc: Global, value: &JsonValue<'_>, key: Key, most: usize) -> Result<Text, LineFault>
     ensures gives { Gives result (formed key (text_from most (view value.now))) }
     ensures short { IfOk result (λ t. length t ≤ most) }
 {
@@ -209,7 +209,7 @@ fn text_from(alloc: Global, value: &Value, key: Key, most: usize) -> Result<Text
 }
 
 #[tactic(auto, unfolding(crate::specs::Fields::required))]
-pub fn required_id(value: &Value, key: Key) -> Result<Id, LineFault>
+pub fn required_id(value: &JsonValue<'_>, key: Key) -> Result<Id, LineFault>
     ensures { Gives result (required id_from key (view value.now)) }
 {
     let Some(found) = at(value, key) else {
@@ -219,7 +219,7 @@ pub fn required_id(value: &Value, key: Key) -> Result<Id, LineFault>
 }
 
 #[tactic(auto, unfolding(crate::specs::Fields::required))]
-pub fn required_capacity(value: &Value, key: Key) -> Result<Mbps, LineFault>
+pub fn required_capacity(value: &JsonValue<'_>, key: Key) -> Result<Mbps, LineFault>
     ensures { Gives result (required capacity_from key (view value.now)) }
 {
     let Some(found) = at(value, key) else {
@@ -229,7 +229,7 @@ pub fn required_capacity(value: &Value, key: Key) -> Result<Mbps, LineFault>
 }
 
 #[tactic(auto, unfolding(crate::specs::Fields::required))]
-pub fn required_second(value: &Value, key: Key) -> Result<Second, LineFault>
+pub fn required_second(value: &JsonValue<'_>, key: Key) -> Result<Second, LineFault>
     ensures { Gives result (required second_from key (view value.now)) }
 {
     let Some(found) = at(value, key) else {
@@ -240,7 +240,7 @@ pub fn required_second(value: &Value, key: Key) -> Result<Second, LineFault>
 
 /// When a schedule starts or ends.
 #[tactic(auto, unfolding(crate::specs::Fields::required))]
-pub fn required_time(value: &Value, key: Key) -> Result<Second, LineFault>
+pub fn required_time(value: &JsonValue<'_>, key: Key) -> Result<Second, LineFault>
     ensures { Gives result (required time_from key (view value.now)) }
 {
     let Some(found) = at(value, key) else {
@@ -250,7 +250,7 @@ pub fn required_time(value: &Value, key: Key) -> Result<Second, LineFault>
 }
 
 #[tactic(auto, unfolding(crate::specs::Fields::required))]
-pub fn required_version(value: &Value, key: Key) -> Result<Version, LineFault>
+pub fn required_version(value: &JsonValue<'_>, key: Key) -> Result<Version, LineFault>
     ensures { Gives result (required version_from key (view value.now)) }
 {
     let Some(found) = at(value, key) else {
@@ -260,7 +260,7 @@ pub fn required_version(value: &Value, key: Key) -> Result<Version, LineFault>
 }
 
 #[tactic(auto, unfolding(crate::specs::Fields::required))]
-pub fn required_hold(value: &Value, key: Key) -> Result<HoldTime, LineFault>
+pub fn required_hold(value: &JsonValue<'_>, key: Key) -> Result<HoldTime, LineFault>
     ensures { Gives result (required hold_from key (view value.now)) }
 {
     let Some(found) = at(value, key) else {
@@ -271,7 +271,7 @@ pub fn required_hold(value: &Value, key: Key) -> Result<HoldTime, LineFault>
 
 /// A number of 64 bits.
 #[tactic(auto, unfolding(crate::specs::Fields::required))]
-pub fn required_count(value: &Value, key: Key) -> Result<u64, LineFault>
+pub fn required_count(value: &JsonValue<'_>, key: Key) -> Result<u64, LineFault>
     ensures { Gives result (required count_from key (view value.now)) }
 {
     let Some(found) = at(value, key) else {
@@ -281,7 +281,7 @@ pub fn required_count(value: &Value, key: Key) -> Result<u64, LineFault>
 }
 
 #[tactic(auto, unfolding(crate::specs::Fields::required))]
-pub fn required_flag(value: &Value, key: Key) -> Result<bool, LineFault>
+pub fn required_flag(value: &JsonValue<'_>, key: Key) -> Result<bool, LineFault>
     ensures { Gives result (required flag_from key (view value.now)) }
 {
     let Some(found) = at(value, key) else {
@@ -291,7 +291,7 @@ pub fn required_flag(value: &Value, key: Key) -> Result<bool, LineFault>
 }
 
 #[tactic(auto, unfolding(crate::specs::Fields::required))]
-pub fn required_directionality(value: &Value, key: Key) -> Result<Directionality, LineFault>
+pub fn required_directionality(value: &JsonValue<'_>, key: Key) -> Result<Directionality, LineFault>
     ensures { Gives result (required directionality_from key (view value.now)) }
 {
     let Some(found) = at(value, key) else {
@@ -301,7 +301,7 @@ pub fn required_directionality(value: &Value, key: Key) -> Result<Directionality
 }
 
 #[tactic(auto, unfolding(crate::specs::Fields::required))]
-pub fn required_kind(value: &Value, key: Key) -> Result<Kind, LineFault>
+pub fn required_kind(value: &JsonValue<'_>, key: Key) -> Result<Kind, LineFault>
     ensures { Gives result (required kind_from key (view value.now)) }
 {
     let Some(found) = at(value, key) else {
@@ -311,7 +311,7 @@ pub fn required_kind(value: &Value, key: Key) -> Result<Kind, LineFault>
 }
 
 #[tactic(auto, unfolding(crate::specs::Fields::required))]
-pub fn required_error(value: &Value, key: Key) -> Result<ErrorName, LineFault>
+pub fn required_error(value: &JsonValue<'_>, key: Key) -> Result<ErrorName, LineFault>
     ensures { Gives result (required error_from key (view value.now)) }
 {
     let Some(found) = at(value, key) else {
@@ -322,7 +322,7 @@ pub fn required_error(value: &Value, key: Key) -> Result<ErrorName, LineFault>
 
 /// An error that is given by its name alone.
 #[tactic(auto, unfolding(crate::specs::Fields::required))]
-pub fn required_plain_error(value: &Value, key: Key) -> Result<ErrorName, LineFault>
+pub fn required_plain_error(value: &JsonValue<'_>, key: Key) -> Result<ErrorName, LineFault>
     ensures gives { Gives result (required plain_error_from key (view value.now)) }
     ensures plain { IfOk result (λ error. has_further_keys error ≡ false) }
 {
@@ -333,7 +333,7 @@ pub fn required_plain_error(value: &Value, key: Key) -> Result<ErrorName, LineFa
 }
 
 #[tactic(auto, unfolding(crate::specs::Fields::required))]
-pub fn required_event(value: &Value, key: Key) -> Result<FaultEvent, LineFault>
+pub fn required_event(value: &JsonValue<'_>, key: Key) -> Result<FaultEvent, LineFault>
     ensures { Gives result (required event_from key (view value.now)) }
 {
     let Some(found) = at(value, key) else {
@@ -343,7 +343,7 @@ pub fn required_event(value: &Value, key: Key) -> Result<FaultEvent, LineFault>
 }
 
 #[tactic(auto, unfolding(crate::specs::Fields::required))]
-pub fn required_name(alloc: Global, value: &Value, key: Key) -> Result<Name, LineFault>
+pub fn required_name(alloc: Global, value: &JsonValue<'_>, key: Key) -> Result<Name, LineFault>
     ensures { Gives result (required name_from key (view value.now)) }
 {
     match at(value, key) {
@@ -353,7 +353,7 @@ pub fn required_name(alloc: Global, value: &Value, key: Key) -> Result<Name, Lin
 }
 
 #[tactic(auto, unfolding(crate::specs::Fields::optional))]
-pub fn optional_id(value: &Value, key: Key) -> Result<Option<Id>, LineFault>
+pub fn optional_id(value: &JsonValue<'_>, key: Key) -> Result<Option<Id>, LineFault>
     ensures { Gives result (optional id_from key (view value.now)) }
 {
     match at(value, key) {
@@ -366,7 +366,11 @@ pub fn optional_id(value: &Value, key: Key) -> Result<Option<Id>, LineFault>
 }
 
 #[tactic(auto, unfolding(crate::specs::Fields::optional))]
-pub fn optional_name(alloc: Global, value: &Value, key: Key) -> Result<Option<Name>, LineFault>
+pub fn optional_name(
+    alloc: Global,
+    value: &JsonValue<'_>,
+    key: Key,
+) -> Result<Option<Name>, LineFault>
     ensures { Gives result (optional name_from key (view value.now)) }
 {
     let Some(found) = at(value, key) else {
@@ -377,7 +381,7 @@ pub fn optional_name(alloc: Global, value: &Value, key: Key) -> Result<Option<Na
 }
 
 #[tactic(auto, unfolding(crate::specs::Fields::optional))]
-pub fn optional_version(value: &Value, key: Key) -> Result<Option<Version>, LineFault>
+pub fn optional_version(value: &JsonValue<'_>, key: Key) -> Result<Option<Version>, LineFault>
     ensures { Gives result (optional version_from key (view value.now)) }
 {
     match at(value, key) {
@@ -391,7 +395,7 @@ pub fn optional_version(value: &Value, key: Key) -> Result<Option<Version>, Line
 
 /// A number of a notification or a result.
 #[tactic(auto, unfolding(crate::specs::Fields::optional))]
-pub fn optional_count(value: &Value, key: Key) -> Result<Option<u64>, LineFault>
+pub fn optional_count(value: &JsonValue<'_>, key: Key) -> Result<Option<u64>, LineFault>
     ensures { Gives result (optional count_from key (view value.now)) }
 {
     match at(value, key) {
@@ -404,7 +408,7 @@ pub fn optional_count(value: &Value, key: Key) -> Result<Option<u64>, LineFault>
 }
 
 #[tactic(auto, unfolding(crate::specs::Fields::optional))]
-pub fn optional_flag(value: &Value, key: Key) -> Result<Option<bool>, LineFault>
+pub fn optional_flag(value: &JsonValue<'_>, key: Key) -> Result<Option<bool>, LineFault>
     ensures { Gives result (optional flag_from key (view value.now)) }
 {
     match at(value, key) {
@@ -417,7 +421,10 @@ pub fn optional_flag(value: &Value, key: Key) -> Result<Option<bool>, LineFault>
 }
 
 #[tactic(auto, unfolding(crate::specs::Fields::optional))]
-pub fn optional_directionality(value: &Value, key: Key) -> Result<Option<Directionality>, LineFault>
+pub fn optional_directionality(
+    value: &JsonValue<'_>,
+    key: Key,
+) -> Result<Option<Directionality>, LineFault>
     ensures { Gives result (optional directionality_from key (view value.now)) }
 {
     match at(value, key) {
@@ -431,7 +438,7 @@ pub fn optional_directionality(value: &Value, key: Key) -> Result<Option<Directi
 
 /// A direction of traffic, which is named where a point has one capacity for each.
 #[tactic(auto, unfolding(crate::specs::Fields::optional))]
-pub fn optional_flow(value: &Value, key: Key) -> Result<Option<Flow>, LineFault>
+pub fn optional_flow(value: &JsonValue<'_>, key: Key) -> Result<Option<Flow>, LineFault>
     ensures { Gives result (optional flow_from key (view value.now)) }
 {
     match at(value, key) {
@@ -445,7 +452,7 @@ pub fn optional_flow(value: &Value, key: Key) -> Result<Option<Flow>, LineFault>
 
 /// The empty list, where the key is there: it has nothing in it to give back.
 #[tactic(auto, unfolding(crate::specs::Fields::optional))]
-pub fn optional_empty_list(value: &Value, key: Key) -> Result<Option<()>, LineFault>
+pub fn optional_empty_list(value: &JsonValue<'_>, key: Key) -> Result<Option<()>, LineFault>
     ensures { Gives result (optional empty_list_from key (view value.now)) }
 {
     match at(value, key) {
@@ -464,7 +471,7 @@ pub fn optional_empty_list(value: &Value, key: Key) -> Result<Option<()>, LineFa
 #[tactic(auto, unfolding(crate::specs::Fields::optional))]
 pub fn optional_text(
     alloc: Global,
-    value: &Value,
+    value: &JsonValue<'_>,
     key: Key,
     most: usize,
 ) -> Result<Option<Text>, LineFault>

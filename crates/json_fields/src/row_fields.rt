@@ -2,7 +2,7 @@
 
 ghost use Rattle.std.specs.Prelude.{◌≡◌, Ok, IfOk, IfErr};
 ghost use Rattle.serde_json.specs.Find.{as_array};
-ghost use Rattle.serde_json.specs.View.{view, items_view};
+ghost use Rattle.json_fields.specs.Values.{view, items_view};
 ghost use Rattle.json_fields.specs.Faults.{Fails, Gives};
 ghost use Rattle.json_fields.specs.Fields.{required, optional, capacity_from, time_from};
 ghost use Rattle.json_fields.specs.RowFields.{rsm_from, psm_from, lsm_from, depth_from, list_fault};
@@ -10,13 +10,16 @@ ghost use Rattle.json_fields.specs.RowFields.{rsm_from, psm_from, lsm_from, dept
 use crate::fault::LineFault;
 use crate::key::Key;
 use crate::reading::{at, capacity_from, time_from};
+use crate::value::JsonValue;
 use nsi_base::{Mbps, Second};
 use nsi_primitive::{Lsm, Psm, Rsm};
-use serde_json::Value;
 
 /// The items of a list, in their order.
 #[tactic(auto, unfolding(crate::specs::Fields::required))]
-pub fn required_items(value: &Value, key: Key) -> Result<&[Value], LineFault>
+pub fn required_items<'v, 'a>(
+    value: &'v JsonValue<'a>,
+    key: Key,
+) -> Result<&'v [JsonValue<'a>], LineFault>
     ensures found { IfOk result (λ items.
         required as_array key (view value.now) ≡ Ok (items_view items.now)) }
     ensures refused { IfErr result (λ fault. Fails fault (required as_array key (view value.now))) }
@@ -25,7 +28,7 @@ pub fn required_items(value: &Value, key: Key) -> Result<&[Value], LineFault>
         return Err(LineFault::Missing(key));
     };
     match found.as_array() {
-        Some(items) => Ok(items.as_slice()),
+        Some(items) => Ok(items),
         None => Err(LineFault::Bad(key)),
     }
 }
@@ -40,25 +43,25 @@ pub fn list_fault(key: Key, fault: LineFault) -> LineFault
     }
 }
 
-fn rsm_from(value: &Value) -> Option<Rsm>
+fn rsm_from(value: &JsonValue<'_>) -> Option<Rsm>
     ensures { result ≡ rsm_from (view value.now) }
 {
     Rsm::named(value.as_str()?.as_bytes())
 }
 
-fn psm_from(value: &Value) -> Option<Psm>
+fn psm_from(value: &JsonValue<'_>) -> Option<Psm>
     ensures { result ≡ psm_from (view value.now) }
 {
     Psm::named(value.as_str()?.as_bytes())
 }
 
-fn lsm_from(value: &Value) -> Option<Lsm>
+fn lsm_from(value: &JsonValue<'_>) -> Option<Lsm>
     ensures { result ≡ lsm_from (view value.now) }
 {
     Lsm::named(value.as_str()?.as_bytes())
 }
 
-fn depth_from(value: &Value) -> Option<u8>
+fn depth_from(value: &JsonValue<'_>) -> Option<u8>
     ensures { result ≡ depth_from (view value.now) }
 {
     let depth = value.as_u64()?;
@@ -71,7 +74,7 @@ fn depth_from(value: &Value) -> Option<u8>
 
 /// A state of the reservation machine.
 #[tactic(auto, unfolding(crate::specs::Fields::required))]
-pub fn required_rsm(value: &Value, key: Key) -> Result<Rsm, LineFault>
+pub fn required_rsm(value: &JsonValue<'_>, key: Key) -> Result<Rsm, LineFault>
     ensures { Gives result (required rsm_from key (view value.now)) }
 {
     let Some(found) = at(value, key) else {
@@ -82,7 +85,7 @@ pub fn required_rsm(value: &Value, key: Key) -> Result<Rsm, LineFault>
 
 /// A state of the provision machine.
 #[tactic(auto, unfolding(crate::specs::Fields::required))]
-pub fn required_psm(value: &Value, key: Key) -> Result<Psm, LineFault>
+pub fn required_psm(value: &JsonValue<'_>, key: Key) -> Result<Psm, LineFault>
     ensures { Gives result (required psm_from key (view value.now)) }
 {
     let Some(found) = at(value, key) else {
@@ -93,7 +96,7 @@ pub fn required_psm(value: &Value, key: Key) -> Result<Psm, LineFault>
 
 /// A state of the lifecycle machine.
 #[tactic(auto, unfolding(crate::specs::Fields::required))]
-pub fn required_lsm(value: &Value, key: Key) -> Result<Lsm, LineFault>
+pub fn required_lsm(value: &JsonValue<'_>, key: Key) -> Result<Lsm, LineFault>
     ensures { Gives result (required lsm_from key (view value.now)) }
 {
     let Some(found) = at(value, key) else {
@@ -104,7 +107,7 @@ pub fn required_lsm(value: &Value, key: Key) -> Result<Lsm, LineFault>
 
 /// How far below the agent that answers.
 #[tactic(auto, unfolding(crate::specs::Fields::required))]
-pub fn required_depth(value: &Value, key: Key) -> Result<u8, LineFault>
+pub fn required_depth(value: &JsonValue<'_>, key: Key) -> Result<u8, LineFault>
     ensures { Gives result (required depth_from key (view value.now)) }
 {
     let Some(found) = at(value, key) else {
@@ -114,7 +117,7 @@ pub fn required_depth(value: &Value, key: Key) -> Result<u8, LineFault>
 }
 
 #[tactic(auto, unfolding(crate::specs::Fields::optional))]
-pub fn optional_capacity(value: &Value, key: Key) -> Result<Option<Mbps>, LineFault>
+pub fn optional_capacity(value: &JsonValue<'_>, key: Key) -> Result<Option<Mbps>, LineFault>
     ensures { Gives result (optional capacity_from key (view value.now)) }
 {
     match at(value, key) {
@@ -128,7 +131,7 @@ pub fn optional_capacity(value: &Value, key: Key) -> Result<Option<Mbps>, LineFa
 
 /// When a schedule starts or ends.
 #[tactic(auto, unfolding(crate::specs::Fields::optional))]
-pub fn optional_time(value: &Value, key: Key) -> Result<Option<Second>, LineFault>
+pub fn optional_time(value: &JsonValue<'_>, key: Key) -> Result<Option<Second>, LineFault>
     ensures { Gives result (optional time_from key (view value.now)) }
 {
     match at(value, key) {

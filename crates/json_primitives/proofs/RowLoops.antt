@@ -2,8 +2,8 @@
 use Rattle.std.proofs.Common.{◌≡◌, ◌<◌, ◌≤◌, ◌+◌, ℕ, zero, suc, List, [], ◌∷◌, ◌++◌, map, drop, length, get_or, Option, Some, None, option_map, option_and_then, Result, Ok, Err, refl, sym, ap, ◌∙◌, subst, arith}
 use Rattle.std.specs.List.{AllByRecursion}
 use Rattle.serde_json.specs.Data.{Data}
-use Rattle.serde_json.specs.View.{view, items_view}
-use Rattle.serde_json.specs.declared.value.Value.{Value}
+use Rattle.json_fields.specs.Values.{view, items_view}
+use Rattle.json_fields.specs.declared.value.JsonValue.{JsonValue}
 use Rattle.json_fields.specs.Faults.{Fails}
 use Rattle.json_fields.specs.Fields.{formed}
 use Rattle.json_fields.specs.RowFields.{row_of, each_from, list_fault}
@@ -82,12 +82,12 @@ onto_row front row None = refl
 onto_row front row (Some rows) = ap (λ z. Some z) (sym (appended front row rows))
 
 -- the items from a place on
-behind : {A : Type 0} (form : Data → Result A LineFault) (vs : List Value) (i : ℕ) (v : Value) → i < length vs → v ≡ get_or vs i v → each_from form (items_view (drop i vs)) ≡ option_and_then (λ row. option_map (λ rows. row ∷ rows) (each_from form (items_view (drop (suc i) vs)))) (row_of (form (view v)))
+behind : {A : Type 0} (form : Data → Result A LineFault) (vs : List JsonValue) (i : ℕ) (v : JsonValue) → i < length vs → v ≡ get_or vs i v → each_from form (items_view (drop i vs)) ≡ option_and_then (λ row. option_map (λ rows. row ∷ rows) (each_from form (items_view (drop (suc i) vs)))) (row_of (form (view v)))
 unfolding each_from
 behind form vs i v low is = ap (λ z. each_from form (items_view z)) (next vs i v low ∙ ap (λ z. z ∷ drop (suc i) vs) (sym is))
 
 -- a row more is read
-pub onto_next : {A : Type 0} (form : Data → Result A LineFault) (vs : List Value) (i : ℕ) (v : Value) (row : A) (front new : List A) → i < length vs → v ≡ get_or vs i v → form (view v) ≡ Ok row → new ≡ front ++ row ∷ []
+pub onto_next : {A : Type 0} (form : Data → Result A LineFault) (vs : List JsonValue) (i : ℕ) (v : JsonValue) (row : A) (front new : List A) → i < length vs → v ≡ get_or vs i v → form (view v) ≡ Ok row → new ≡ front ++ row ∷ []
     → onto front (each_from form (items_view (drop i vs))) ≡ each_from form (items_view vs) → onto new (each_from form (items_view (drop (i + 1) vs))) ≡ each_from form (items_view vs)
 onto_next form vs i v row front new low is read pushed done =
     let one : i + 1 ≡ suc i = omega arith in
@@ -97,7 +97,7 @@ onto_next form vs i v row front new low is read pushed done =
     subst Q (sym one) (ap (λ z. onto z rest) pushed ∙ sym (onto_row front row rest) ∙ sym (ap (onto front) front_is) ∙ done)
 
 -- an item that is no row
-onto_refused : {A : Type 0} (form : Data → Result A LineFault) (vs : List Value) (i : ℕ) (v : Value) (fault : LineFault) (front : List A) → i < length vs → v ≡ get_or vs i v → form (view v) ≡ Err fault
+onto_refused : {A : Type 0} (form : Data → Result A LineFault) (vs : List JsonValue) (i : ℕ) (v : JsonValue) (fault : LineFault) (front : List A) → i < length vs → v ≡ get_or vs i v → form (view v) ≡ Err fault
     → onto front (each_from form (items_view (drop i vs))) ≡ each_from form (items_view vs) → each_from form (items_view vs) ≡ None
 unfolding onto
 onto_refused form vs i v fault front low is refused done =
@@ -105,7 +105,7 @@ onto_refused form vs i v fault front low is refused done =
     sym done ∙ ap (onto front) (behind form vs i v low is ∙ ap (λ r. option_and_then (λ row. option_map (λ rows. row ∷ rows) rest) (row_of r)) refused)
 
 -- and makes the list's key bad, unless memory ran out
-pub onto_bad : {A : Type 0} (form : Data → Result A LineFault) (vs : List Value) (i : ℕ) (v : Value) (key : Key) (fault answer : LineFault) (front : List A) → i < length vs → v ≡ get_or vs i v → Fails fault (form (view v)) → answer ≡ list_fault key fault
+pub onto_bad : {A : Type 0} (form : Data → Result A LineFault) (vs : List JsonValue) (i : ℕ) (v : JsonValue) (key : Key) (fault answer : LineFault) (front : List A) → i < length vs → v ≡ get_or vs i v → Fails fault (form (view v)) → answer ≡ list_fault key fault
     → onto front (each_from form (items_view (drop i vs))) ≡ each_from form (items_view vs) → Fails answer (formed key (each_from form (items_view vs)))
 onto_bad form vs i v key fault answer front low is fails listed done =
     let F : LineFault → Type 0 = λ f. Fails f (formed key (each_from form (items_view vs))) in
@@ -124,7 +124,7 @@ onto_bad form vs i v key fault answer front low is fails listed done =
     by_fault (LineFault.Missing k) e = bad (LineFault.Missing k) e
 
 -- no item is left
-pub onto_all : {A : Type 0} (form : Data → Result A LineFault) (vs : List Value) (i : ℕ) (key : Key) (front : List A) → length vs ≤ i → onto front (each_from form (items_view (drop i vs))) ≡ each_from form (items_view vs) → formed key (each_from form (items_view vs)) ≡ Ok front
+pub onto_all : {A : Type 0} (form : Data → Result A LineFault) (vs : List JsonValue) (i : ℕ) (key : Key) (front : List A) → length vs ≤ i → onto front (each_from form (items_view (drop i vs))) ≡ each_from form (items_view vs) → formed key (each_from form (items_view vs)) ≡ Ok front
 unfolding onto each_from
 onto_all form vs i key front past done =
     ap (formed key) (sym done ∙ ap (λ z. onto front (each_from form (items_view z))) (none_left vs i past) ∙ ap (λ z. Some z) (with_none front))

@@ -8,6 +8,7 @@ pub mod RowLines
 pub mod Rows
 pub mod Lines
 pub mod Spelling
+pub mod Inputs
 pub mod Payload
 pub mod Valid
 pub mod ValidRows

@@ -1,11 +1,12 @@
 //! From a parcel to the bytes of its line.
 
-ghost use Rattle.std.specs.Prelude.{◌≡◌, OnOk, IfOk, Ok};
+ghost use Rattle.std.specs.Prelude.{◌≡◌, ◌++◌, OnOk, IfOk, Ok};
 ghost use Rattle.serde_json.specs.Data.{no_members};
-ghost use Rattle.nsi_primitive.specs.Printable.{IsPrintable, IsPrintableParcel};
+ghost use Rattle.nsi_primitive.specs.Printable.{IsPrintable, IsPrintableInput, IsPrintableParcel};
 ghost use Rattle.nsi_primitive.specs.declared.message.Parcel.{Parcel};
 ghost use Rattle.json_fields.specs.Objects.{with_fields};
 ghost use Rattle.json_fields.specs.Written.{members_of};
+ghost use Rattle.json_primitives.specs.Inputs.{input_spelling, IsInputAgain};
 ghost use Rattle.json_primitives.specs.Lines.{object_of};
 ghost use Rattle.json_primitives.specs.Spelling.{spelling_in, spelling, parcel_spelling_in, parcel_spelling, fields_of, body_fields, told_fields, header_fields, ack_fields};
 ghost use Rattle.json_primitives.specs.Valid.{IsValidHeader, IsValidIdentity, IsValidTold, IsValidBody, IsValid};
@@ -18,19 +19,13 @@ mod rows;
 use answers::{put_confirmation, put_error, put_listed, put_refusal};
 use json_fields::{JsonObject, Key, TimeForm};
 use notifications::{put_delivery, put_fault, put_plane, put_timeout};
-use nsi_primitive::{Body, Header, Identity, Kind, Message, Parcel};
+use nsi_primitive::{Body, Header, Identity, Input, Kind, Message, Parcel};
 use requests::{put_range, put_reserve};
 use rows::rows_in;
 use std::alloc::{AllocError, Global};
 
-/// Writes a parcel as compact JSON, without a line's end.
-pub fn print_line(alloc: Global, parcel: &Parcel) -> Result<Vec<u8>, AllocError>
-    requires { IsPrintableParcel parcel.now }
-    ensures spelled { IfOk result (λ b. b.items ≡ parcel_spelling parcel.now) }
-    ensures again { IfOk result (λ b. object_of b.items ≡ Ok parcel.now) }
-{
-    print_line_in(alloc, TimeForm::DateTime, parcel)
-}
+/// Most lines are shorter.
+const USUAL_LENGTH: usize = 512;
 
 /// Writes a message as compact JSON, without a line's end.
 pub fn print_message(alloc: Global, message: &Message) -> Result<Vec<u8>, AllocError>
@@ -63,10 +58,51 @@ pub fn print_message_in(
     ensures spelled { IfOk result (λ b. b.items ≡ spelling_in form message.now) }
     ensures again { IfOk result (λ b. object_of b.items ≡ Ok (Parcel.Message message.now)) }
 {
+    let mut text = Vec::with_capacity(alloc, USUAL_LENGTH)?;
+    push_message_in(alloc, form, message, &mut text)?;
+    Ok(text)
+}
+
+/// Puts a message behind a text, with its times in this form.
+fn push_message_in(
+    alloc: Global,
+    form: TimeForm,
+    message: &Message,
+    text: &mut Vec<u8>,
+) -> Result<(), AllocError>
+    requires { IsPrintable message.now }
+    ensures put { OnOk result
+        (text.new.items ≡ text.old.items ++ spelling_in form message.now) }
+    ensures again { OnOk result
+        (object_of (spelling_in form message.now) ≡ Ok (Parcel.Message message.now)) }
+{
     let object = object_of(alloc, form, message)?;
     match rows_in(alloc, form, &message.body)? {
-        None => object.print(alloc),
-        Some((key, rows)) => object.print_with(alloc, key, &rows),
+        None => object.spell(alloc, text),
+        Some((key, rows)) => object.spell_with(alloc, text, key, &rows),
+    }
+}
+
+/// Puts a message behind a text as compact JSON, without a line's end.
+pub fn push_message(alloc: Global, message: &Message, text: &mut Vec<u8>) -> Result<(), AllocError>
+    requires { IsPrintable message.now }
+    ensures put { OnOk result (text.new.items ≡ text.old.items ++ spelling message.now) }
+{
+    push_message_in(alloc, TimeForm::DateTime, message, text)
+}
+
+/// Writes the parcel that an input takes as compact JSON, without a line's end, and nothing where it takes none.
+pub fn print_input(alloc: Global, input: &Input) -> Result<Vec<u8>, AllocError>
+    requires { IsPrintableInput input.now }
+    ensures spelled { IfOk result (λ b. b.items ≡ input_spelling input.now) }
+    ensures again { OnOk result (IsInputAgain input.now) }
+{
+    match input {
+        Input::Got(message) => print_message(alloc, message),
+        Input::Acked(identity) => print_ack(alloc, identity),
+        Input::Ask { .. } | Input::Work { .. } | Input::Tick | Input::Force { .. } => {
+            Ok(Vec::new(alloc))
+        }
     }
 }
 
@@ -77,6 +113,15 @@ pub fn print_ack(alloc: Global, identity: &Identity) -> Result<Vec<u8>, AllocErr
 {
     let object = ack_of(alloc, identity)?;
     object.print(alloc)
+}
+
+/// Puts an acknowledgement of a message of this identity behind a text, without a line's end.
+pub fn push_ack(alloc: Global, identity: &Identity, text: &mut Vec<u8>) -> Result<(), AllocError>
+    ensures put { OnOk result
+        (text.new.items ≡ text.old.items ++ parcel_spelling (Parcel.Ack identity.now)) }
+{
+    let object = ack_of(alloc, identity)?;
+    object.spell(alloc, text)
 }
 
 #[tactic(auto, unfolding(json_fields::specs::Objects::with_fields))]

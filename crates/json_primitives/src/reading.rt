@@ -1,7 +1,7 @@
 //! From the bytes of a line to a parcel.
 
 ghost use Rattle.std.specs.Prelude.{IfOk, Some};
-ghost use Rattle.serde_json.specs.View.{view};
+ghost use Rattle.json_fields.specs.Values.{view};
 ghost use Rattle.nsi_primitive.specs.Printable.{IsPrintable, IsPrintableParcel};
 ghost use Rattle.json_fields.specs.Faults.{Gives};
 ghost use Rattle.json_primitives.specs.Lines.{line_of, object_of, parcel_from, of_text, of_kind, as_parcel, ack_from};
@@ -20,14 +20,14 @@ use connected::{
     provision_confirmation_from, provision_from, recursive_from, release_confirmation_from,
     release_from, response_from, terminate_confirmation_from, terminate_from,
 };
+use json::Scratch;
 use json_fields::reading::{at, read_json, required_id, required_kind, required_name};
-use json_fields::{Key, LineFault};
+use json_fields::{JsonValue, Key, LineFault};
 use notifications::{delivery_from, fault_from, plane_from, timeout_from};
 use nsi_primitive::{Identity, Kind, Message, Parcel};
 use queries::{notifications_from, results_from, summary_from};
 use requests::reserve_from;
 use rows::{notice_rows_from, outcome_rows_from, recursive_rows_from, summary_rows_from};
-use serde_json::Value;
 use std::alloc::Global;
 
 /// The bytes of the longest line, without its end.
@@ -50,13 +50,14 @@ pub fn read_object(alloc: Global, bytes: &[u8]) -> Result<Parcel, LineFault>
     ensures gives { Gives result (object_of bytes.now) }
     ensures printable { IfOk result IsPrintableParcel }
 {
-    match read_json(alloc, bytes) {
+    let mut scratch = Scratch::new(alloc);
+    match read_json(alloc, bytes, &mut scratch) {
         Ok(value) => parcel_from(alloc, &value),
         Err(fault) => Err(fault),
     }
 }
 
-fn parcel_from(alloc: Global, value: &Value) -> Result<Parcel, LineFault>
+fn parcel_from(alloc: Global, value: &JsonValue<'_>) -> Result<Parcel, LineFault>
     ensures gives { Gives result (parcel_from (view value.now)) }
     ensures printable { IfOk result IsPrintableParcel }
 {
@@ -72,7 +73,7 @@ fn parcel_from(alloc: Global, value: &Value) -> Result<Parcel, LineFault>
     }
 }
 
-fn of_name(alloc: Global, value: &Value, name: &[u8]) -> Result<Parcel, LineFault>
+fn of_name(alloc: Global, value: &JsonValue<'_>, name: &[u8]) -> Result<Parcel, LineFault>
     ensures gives { Gives result (of_text (view value.now) (Some name.now)) }
     ensures printable { IfOk result IsPrintableParcel }
 {
@@ -83,7 +84,7 @@ fn of_name(alloc: Global, value: &Value, name: &[u8]) -> Result<Parcel, LineFaul
     }
 }
 
-fn as_parcel(alloc: Global, value: &Value, kind: Kind) -> Result<Parcel, LineFault>
+fn as_parcel(alloc: Global, value: &JsonValue<'_>, kind: Kind) -> Result<Parcel, LineFault>
     ensures gives { Gives result (as_parcel (of_kind (view value.now) kind)) }
     ensures printable { IfOk result IsPrintableParcel }
 {
@@ -93,7 +94,7 @@ fn as_parcel(alloc: Global, value: &Value, kind: Kind) -> Result<Parcel, LineFau
 
 /// An acknowledgement has the header of the message that it is for, and that message's kind.
 #[tactic(auto, unfolding(crate::specs::Lines::ack_from))]
-fn ack_from(alloc: Global, value: &Value) -> Result<Parcel, LineFault>
+fn ack_from(alloc: Global, value: &JsonValue<'_>) -> Result<Parcel, LineFault>
     ensures gives { Gives result (ack_from (view value.now)) }
     ensures printable { IfOk result IsPrintableParcel }
 {
@@ -109,7 +110,7 @@ fn ack_from(alloc: Global, value: &Value) -> Result<Parcel, LineFault>
     }))
 }
 
-fn of_kind(alloc: Global, value: &Value, kind: Kind) -> Result<Message, LineFault>
+fn of_kind(alloc: Global, value: &JsonValue<'_>, kind: Kind) -> Result<Message, LineFault>
     ensures gives { Gives result (of_kind (view value.now) kind) }
     ensures printable { IfOk result IsPrintable }
 {

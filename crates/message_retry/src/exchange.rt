@@ -1,6 +1,9 @@
 //! By what a request is known, with its agents as places of names.
 
 ghost use Rattle.std.specs.Prelude.{◌≡◌, Some, IfOk};
+ghost use Rattle.std.specs.Hash as fed;
+ghost use Rattle.std.specs.Cmp.Rules.{hashing};
+ghost use Rattle.std.proofs.Common.{rules};
 ghost use Rattle.message_retry.specs.Names.{Keeps};
 ghost use Rattle.message_retry.specs.Exchanges.{exchange_of};
 
@@ -8,13 +11,25 @@ use crate::names::Names;
 use nsi_base::Name;
 use nsi_primitive::{Header, Id};
 use std::alloc::{AllocError, Global};
+use std::hash::{Hash, Hasher};
 
 /// By which a request is known. It owns nothing, so that a look-up takes no memory.
-#[derive(Clone, Copy, Debug, PartialEq, Eq, Hash)]
+#[derive(Clone, Copy, Debug, PartialEq, Eq)]
 pub struct Exchange {
     requester: usize,
     provider: usize,
     correlation: u128,
+}
+
+/// An id tells most requests apart, so the places of their agents aren't hashed.
+impl Hash for Exchange {
+    ghost hash_input = { λ e. fed.u128 e.correlation };
+
+    ghost respects_eq = { Prim.search (hashing, rules) };
+
+    fn hash<H: Hasher>(&self, state: &mut H) {
+        self.correlation.hash(state);
+    }
 }
 
 impl Exchange {

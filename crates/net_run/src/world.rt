@@ -37,22 +37,33 @@ use std::alloc::{AllocError, Global};
 use std::thread::Threads;
 use stopped_play::laws::runs;
 use stp_topology::Topology;
+use trace_text::SpelledEvent;
 
 /// Puts a restart with no entry behind for each time that an agent's journal was made anew.
-fn push_restarts(events: &mut Vec<Event>, agent: AgentNo, times: u64) -> Result<(), AllocError>
+fn push_restarts(
+    events: &mut Vec<SpelledEvent>,
+    agent: AgentNo,
+    times: u64,
+) -> Result<(), AllocError>
     ensures { OnOk result (events.new.items ≡ events.old.items ++ restart_events times agent 0) }
 {
+    let alloc = *events.allocator();
     for _ in 0..times {
-        events.push(Event {
+        let event = Event {
             agent,
             what: Happening::Restart { count: 0 },
-        })?;
+        };
+        events.push(SpelledEvent::bare(alloc, event))?;
     }
     Ok(())
 }
 
 /// The restarts of all, in the agents' order.
-fn restarts_of(alloc: Global, topology: &Topology, tries: &[u64]) -> Result<Vec<Event>, AllocError>
+fn restarts_of(
+    alloc: Global,
+    topology: &Topology,
+    tries: &[u64],
+) -> Result<Vec<SpelledEvent>, AllocError>
     requires { length tries.now ≡ length topology.now.agents }
     ensures { IfOk result (λ events. events.items ≡ restarts_from 0 tries.now) }
 {
@@ -69,7 +80,7 @@ fn tell_restarts<K: Sink>(
     play: &Play<'_>,
     tries: &[u64],
     out: &mut K,
-) -> Result<Vec<Event>, RunFault>
+) -> Result<Vec<SpelledEvent>, RunFault>
     requires { length tries.now ≡ length play.now.topology.now.agents }
     ensures made { IfOk result (λ made. made.items ≡ restarts_from 0 tries.now) }
     ensures few { OnOk result (length (restarts_from 0 tries.now) ≤ play.now.options.limit) }

@@ -6,7 +6,7 @@ pub mod Serves
 pub mod Written
 pub mod Begun
 pub mod Provided
-pub mod Batches
+pub mod Replayed
 pub mod Started
 pub mod Stepping
 pub mod TopologyLines

@@ -1,7 +1,6 @@
 //! The command `provide`: the first provider of a topology serves lines, each answered behind the sync of what it made.
 #![tactic(auto)]
 
-mod batch;
 mod command;
 mod declaring;
 mod output;

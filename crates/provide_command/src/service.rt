@@ -6,7 +6,6 @@ ghost use Rattle.stp_topology.specs.Sound.{IsProvider};
 ghost use Rattle.provide_command.specs.Receiving.{IsTimely, IsTimelyEntry};
 ghost use Rattle.provide_command.specs.Lines.{entered, answered, serve, lines_of_messages};
 
-use crate::batch::{Batch, take_batch};
 use crate::payload::payload;
 use crate::receiving::{Received, receive};
 use crate::replay::replay;
@@ -15,6 +14,7 @@ use json_primitives::print_message;
 use nsi_base::AgentNo;
 use nsi_primitive::{Entry, Message};
 use provider_agent::Provider;
+use provider_run::{Taken, take_with_works};
 use std::alloc::{AllocError, Global};
 use std::marker::Model;
 use stp_topology::Topology;
@@ -132,12 +132,12 @@ impl Service {
         if self.provider.taken() >= most - self.others {
             return Ok(None);
         }
-        let batch = take_batch(alloc, &mut self.provider, &self.topology, entry)?;
+        let taken = take_with_works(alloc, &mut self.provider, &self.topology, entry)?;
         if self.provider.taken() >= most - self.others {
             return Ok(None);
         }
         self.others += 1;
-        let Batch { entries, messages } = batch;
+        let Taken { entries, messages } = taken;
         let text = lines_of_messages(alloc, &messages)?;
         Ok(Some(Answer { entries, text }))
     }

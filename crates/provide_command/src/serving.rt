@@ -17,7 +17,7 @@ ghost use Rattle.provide_command.specs.Halts.{HasHaltCause, HasHaltCounts, Count
 use crate::output::{Fault, Halt, write_text};
 use crate::service::{Answer, Service};
 use crate::status::Ending;
-use journal_entry::{Journal, JournalFault, keep};
+use journal_entry::{Batch, Journal, JournalFault, keep};
 use line_reader::{LineReader, Next, ReadError};
 use nsi_outside::{Sink, Source};
 use nsi_primitive::Entry;
@@ -47,7 +47,10 @@ fn keep_all<J: Journal>(alloc: Global, journal: &mut J, entries: &[Entry]) -> Re
     if count == 0 {
         return Ok(());
     }
-    match keep(alloc, journal, entries) {
+    let Ok(batch) = Batch::of(alloc, entries) else {
+        return Err(Halt::Outside(Fault::NoMemory));
+    };
+    match keep(alloc, journal, &batch) {
         Ok(()) => Ok(()),
         Err(JournalFault::NoMemory) => Err(Halt::Outside(Fault::NoMemory)),
         Err(JournalFault::DiskFault | JournalFault::Stopped) => Err(Halt::Disk),

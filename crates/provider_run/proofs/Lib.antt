@@ -2,4 +2,5 @@ pub mod Working
 pub mod WorkRuns
 pub mod Idle
 pub mod UnderWay
+pub mod Entries
 mod Rows

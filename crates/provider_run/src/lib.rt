@@ -3,4 +3,4 @@
 
 pub mod works;
 
-pub use works::{Run, take_with_works};
+pub use works::{Taken, take_with_works};

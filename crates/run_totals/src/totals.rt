@@ -8,6 +8,7 @@ ghost use Rattle.run_totals.specs.Totals.{AreWithin, IsOf, kind_in, kind_got, is
 
 use nsi_primitive::{Event, Happening, Input, Kind};
 use stp_topology::{AgentKind, Topology};
+use trace_text::SpelledEvent;
 
 /// How many events there are, and in how many of them a requester got an answer to a reservation.
 #[derive(Clone, Copy, Debug, PartialEq, Eq)]
@@ -64,7 +65,7 @@ impl Totals {
     }
 
     /// Those of further events of the agents of a topology.
-    pub fn and_more(self, topology: &Topology, events: &[Event]) -> Self
+    pub fn and_more(self, topology: &Topology, events: &[SpelledEvent]) -> Self
         requires few { self.events + length events.now ≤ 2 ^ 63 }
         requires within { AreWithin self }
         requires agents { All (IsOf topology.now) events.now }
@@ -73,7 +74,7 @@ impl Totals {
     {
         let mut totals = self;
         for event in events {
-            totals = totals.and_one(kind_got(topology, event));
+            totals = totals.and_one(kind_got(topology, event.event()));
         }
         totals
     }

@@ -8,7 +8,7 @@ ghost use Rattle.shared_provider.specs.Book.{counted};
 ghost use Rattle.shared_provider.specs.Sound.{Keeps, LeavesThese, LeavesOneOf, HasFailed};
 
 use crate::reply::BookFault;
-use journal_entry::{Journal, JournalFault};
+use journal_entry::{Batch, Journal, JournalFault};
 use nsi_primitive::Entry;
 use std::alloc::Global;
 use std::slice;
@@ -44,7 +44,10 @@ pub fn append<J: Journal>(alloc: Global, journal: &mut J, entry: &Entry) -> Resu
         J.history journal.new ≡ J.history journal.old }
     ensures same { IsErrOf result BookFault.NoMemory → J.kept journal.new ≡ J.kept journal.old }
 {
-    match journal.append(alloc, slice::from_ref(entry)) {
+    let Ok(batch) = Batch::of(alloc, slice::from_ref(entry)) else {
+        return Err(BookFault::NoMemory);
+    };
+    match journal.append(alloc, &batch) {
         Ok(()) => Ok(()),
         Err(fault) => Err(book_fault(fault)),
     }

@@ -1,8 +1,8 @@
 //! What happened in a run, as text: a line for each event.
 #![tactic(auto)]
 
-mod merging;
 mod printing;
+mod spelled;
 
-pub use merging::merge;
-pub use printing::{print_event, print_events, push_event};
+pub use printing::{print_event, print_events, print_spelled, push_event};
+pub use spelled::SpelledEvent;

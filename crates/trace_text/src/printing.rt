@@ -1,16 +1,18 @@
 //! From events to their lines.
 
-ghost use Rattle.std.specs.Prelude.{◌≡◌, ◌++◌, ◌∷◌, All, codes, decimal, IfOk, OnOk};
+ghost use Rattle.std.specs.Prelude.{◌≡◌, ◌<◌, ◌++◌, ◌∷◌, All, codes, decimal, length, IfOk, OnOk};
 ghost use Rattle.nsi_base.specs.Words.{behind};
 ghost use Rattle.nsi_primitive.specs.Ids.{id_text};
 ghost use Rattle.nsi_primitive.specs.Printable.{IsPrintable, IsPrintableAsk, IsPrintableEntry, IsPrintableHappening};
 ghost use Rattle.nsi_primitive.specs.declared.message.Parcel.{Parcel};
 ghost use Rattle.ask_text.specs.Asks.{ask_text};
 ghost use Rattle.json_primitives.specs.Spelling.{spelling, parcel_spelling};
+ghost use Rattle.trace_text.specs.Spelled.{what_spelling};
 ghost use Rattle.trace_text.specs.Lines.{HasLine, answer_text, answer_words, input_verb, input_words, line_of, text_of, verb_of, what_words};
 
+use crate::spelled::SpelledEvent;
 use ask_text::print_ask;
-use json_primitives::{print_ack, print_message};
+use json_primitives::{push_ack as put_ack, push_message as put_message};
 use nsi_primitive::{
     Ask, AskAnswer, Entry, Event, Happening, Id, Identity, Input, Message, print_id,
 };
@@ -29,6 +31,22 @@ pub fn print_events(
     let mut text = Vec::new(alloc);
     for event in events {
         push_event(alloc, topology, event, &mut text)?;
+    }
+    Ok(text)
+}
+
+/// The same of events that have the JSON of what they took by them.
+pub fn print_spelled(
+    alloc: Global,
+    topology: &Topology,
+    events: &[SpelledEvent],
+) -> Result<Vec<u8>, AllocError>
+    requires { All (HasLine topology.now) events.now }
+    ensures spelled { IfOk result (λ bytes. bytes.items ≡ text_of topology.now events.now) }
+{
+    let mut text = Vec::new(alloc);
+    for event in events {
+        push_spelled(alloc, topology, event, &mut text)?;
     }
     Ok(text)
 }
@@ -58,6 +76,44 @@ pub fn push_event(
     text.extend_from_slice(verb(&event.what).as_bytes())?;
     push_word(text, topology.name(event.agent).bytes())?;
     push_what(alloc, text, &event.what)?;
+    text.push(b'\n')?;
+    Ok(())
+}
+
+fn push_spelled(
+    alloc: Global,
+    topology: &Topology,
+    spelled: &SpelledEvent,
+    text: &mut Vec<u8>,
+) -> Result<(), AllocError>
+    requires { HasLine topology.now spelled.now }
+    ensures put { OnOk result
+        (text.new.items ≡ text.old.items ++ line_of topology.now spelled.now) }
+{
+    let line = spelled.line();
+    if line.is_empty() {
+        return push_event(alloc, topology, spelled.event(), text);
+    }
+    push_line(topology, spelled.event(), line, text)
+}
+
+/// The same of an event that took a parcel, whose JSON is this.
+#[tactic(auto, unfolding(crate::specs::Lines::line_of), using(crate::proofs::Words::words_are))]
+fn push_line(
+    topology: &Topology,
+    event: &Event,
+    line: &[u8],
+    text: &mut Vec<u8>,
+) -> Result<(), AllocError>
+    requires has_line { HasLine topology.now event.now }
+    requires some { 0 < length line.now }
+    requires spelled { line.now ≡ what_spelling event.now.what }
+    ensures put { OnOk result
+        (text.new.items ≡ text.old.items ++ line_of topology.now event.now) }
+{
+    text.extend_from_slice(verb(&event.what).as_bytes())?;
+    push_word(text, topology.name(event.agent).bytes())?;
+    push_word(text, line)?;
     text.push(b'\n')?;
     Ok(())
 }
@@ -93,11 +149,11 @@ fn push_word(text: &mut Vec<u8>, word: &[u8]) -> Result<(), AllocError>
     Ok(())
 }
 
-fn push_count(alloc: Global, text: &mut Vec<u8>, n: u64) -> Result<(), AllocError>
+fn push_count(text: &mut Vec<u8>, n: u64) -> Result<(), AllocError>
     ensures { OnOk result (text.new.items ≡ text.old.items ++ (32 ∷ decimal n)) }
 {
-    let digits = n.to_string(alloc)?;
-    push_word(text, digits.as_bytes())
+    let mut digits = itoa::Buffer::new();
+    push_word(text, digits.format(n).as_bytes())
 }
 
 fn push_what(alloc: Global, text: &mut Vec<u8>, what: &Happening) -> Result<(), AllocError>
@@ -106,9 +162,7 @@ fn push_what(alloc: Global, text: &mut Vec<u8>, what: &Happening) -> Result<(), 
 {
     match what {
         Happening::Entry { entry, answer } => push_taken(alloc, text, entry, answer),
-        Happening::Sync { count } | Happening::Restart { count } => {
-            push_count(alloc, text, *count)
-        }
+        Happening::Sync { count } | Happening::Restart { count } => { push_count(text, *count) }
     }
 }
 
@@ -129,11 +183,11 @@ fn push_taken(
         }
         Input::Got(message) => push_message(alloc, text, message),
         Input::Work { number, machine } => {
-            push_count(alloc, text, u64::from(number.get()))?;
+            push_count(text, u64::from(number.get()))?;
             push_word(text, machine.text().as_bytes())
         }
-        Input::Tick => push_count(alloc, text, entry.second.get()),
-        Input::Force { number } => push_count(alloc, text, u64::from(number.get())),
+        Input::Tick => push_count(text, entry.second.get()),
+        Input::Force { number } => push_count(text, u64::from(number.get())),
         Input::Acked(identity) => push_ack(alloc, text, identity),
     }
 }
@@ -184,14 +238,14 @@ fn push_message(alloc: Global, text: &mut Vec<u8>, message: &Message) -> Result<
     requires { IsPrintable message.now }
     ensures { OnOk result (text.new.items ≡ text.old.items ++ (32 ∷ spelling message.now)) }
 {
-    let line = print_message(alloc, message)?;
-    push_word(text, &line)
+    text.push(b' ')?;
+    put_message(alloc, message, text)
 }
 
 fn push_ack(alloc: Global, text: &mut Vec<u8>, identity: &Identity) -> Result<(), AllocError>
     ensures { OnOk result (text.new.items
         ≡ text.old.items ++ (32 ∷ parcel_spelling (Parcel.Ack identity.now))) }
 {
-    let line = print_ack(alloc, identity)?;
-    push_word(text, &line)
+    text.push(b' ')?;
+    put_ack(alloc, identity, text)
 }

@@ -1,10 +1,9 @@
 //! How keys are put to an object.
 
 ghost use Rattle.std.specs.Prelude.{◌≡◌, ◌↔◌, true, IsTrue, OnOk, OnErr, IfOk, IfSome, Some, option_map};
-ghost use Rattle.serde_json.specs.Data.{no_members, put};
+ghost use Rattle.serde_json.specs.Data.{no_members};
 ghost use Rattle.json_fields.specs.Fields.{id_from, name_from, capacity_from, second_from, version_from, hold_from};
-ghost use Rattle.json_fields.specs.Keys.{name_of};
-ghost use Rattle.json_fields.specs.Members.{value_data, place_in, HasKeyAt};
+ghost use Rattle.json_fields.specs.Members.{scalar_of, value_data, place_in, HasKeyAt};
 ghost use Rattle.json_fields.specs.Objects.{digits, words, flag, id_scalar, time_value, directionality_scalar, IsReadBack, IsReadInEachForm};
 ghost use Rattle.json_fields.specs.Plain.{is_plain_value};
 ghost use Rattle.json_fields.specs.Written.{Puts, members_of};
@@ -51,8 +50,7 @@ impl<'a> JsonObject<'a> {
     /// Puts a value at a key, in the place of one that stands there.
     fn put(&mut self, key: Key, value: Written<'a>) -> Result<(), AllocError>
         requires { is_plain_value (value_data value) ≡ true }
-        ensures put { OnOk result
-            (members_of self.new ≡ put (name_of key) (value_data value.entry) (members_of self.old)) }
+        ensures put { OnOk result (Puts key (Some (scalar_of value.entry)) self.old self.new) }
         ensures err { OnErr result (members_of self.new ≡ members_of self.old) }
     {
         let place = place_in(&self.members, key);

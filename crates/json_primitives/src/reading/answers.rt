@@ -1,7 +1,7 @@
 //! The answers, key by key in byte order.
 
 ghost use Rattle.std.specs.Prelude.{◌≡◌, IfOk, None};
-ghost use Rattle.serde_json.specs.View.{view};
+ghost use Rattle.json_fields.specs.Values.{view};
 ghost use Rattle.nsi_primitive.specs.Printable.{IsPrintable, IsPrintableCause};
 ghost use Rattle.json_fields.specs.Faults.{Gives};
 ghost use Rattle.json_primitives.specs.Answers.{confirmation_from, connection_from, plain_from, flow_or_both, lack_from, child_from, error_in, refused_by, refused_from, named, failed_from, commit_failed_from, error_message_from};
@@ -12,10 +12,9 @@ use json_fields::reading::{
     required_count, required_directionality, required_error, required_id, required_name,
     required_plain_error, required_second, required_time, required_version,
 };
-use json_fields::{Key, LineFault};
+use json_fields::{JsonValue, Key, LineFault};
 use nsi_base::Flow;
 use nsi_primitive::{Body, Cause, ErrorName, Exception, Header, Id, Message, ReserveConfirmation};
-use serde_json::Value;
 use std::alloc::Global;
 
 /// Who refused a request and why, and the connection that it was about.
@@ -27,7 +26,7 @@ pub struct Refusal {
 }
 
 #[tactic(auto, unfolding(crate::specs::Answers::confirmation_from))]
-pub fn confirmation_from(alloc: Global, value: &Value) -> Result<Message, LineFault>
+pub fn confirmation_from(alloc: Global, value: &JsonValue<'_>) -> Result<Message, LineFault>
     ensures gives { Gives result (confirmation_from (view value.now)) }
     ensures printable { IfOk result IsPrintable }
 {
@@ -61,7 +60,7 @@ pub fn confirmation_from(alloc: Global, value: &Value) -> Result<Message, LineFa
 }
 
 /// The connection, which an `error` need not name.
-fn connection_from(value: &Value, is_needed: bool) -> Result<Option<Id>, LineFault>
+fn connection_from(value: &JsonValue<'_>, is_needed: bool) -> Result<Option<Id>, LineFault>
     ensures { Gives result (connection_from is_needed (view value.now)) }
 {
     if !is_needed {
@@ -73,7 +72,7 @@ fn connection_from(value: &Value, is_needed: bool) -> Result<Option<Id>, LineFau
 
 /// Without further keys.
 #[tactic(auto, unfolding(crate::specs::Answers::plain_from))]
-fn plain_from(alloc: Global, value: &Value, is_needed: bool) -> Result<Refusal, LineFault>
+fn plain_from(alloc: Global, value: &JsonValue<'_>, is_needed: bool) -> Result<Refusal, LineFault>
     ensures gives { Gives result (plain_from is_needed (view value.now)) }
     ensures printable { IfOk result (λ r. IsPrintableCause r.exception.cause) }
 {
@@ -102,7 +101,7 @@ fn flow_or_both(flow: Option<Flow>) -> Flow
 
 /// With BANDWIDTH.
 #[tactic(auto, unfolding(crate::specs::Answers::lack_from))]
-fn lack_from(alloc: Global, value: &Value, is_needed: bool) -> Result<Refusal, LineFault>
+fn lack_from(alloc: Global, value: &JsonValue<'_>, is_needed: bool) -> Result<Refusal, LineFault>
     ensures gives { Gives result (lack_from is_needed (view value.now)) }
     ensures printable { IfOk result (λ r. IsPrintableCause r.exception.cause) }
 {
@@ -132,7 +131,7 @@ fn lack_from(alloc: Global, value: &Value, is_needed: bool) -> Result<Refusal, L
 
 /// With CHILD.
 #[tactic(auto, unfolding(crate::specs::Answers::child_from))]
-fn child_from(alloc: Global, value: &Value, is_needed: bool) -> Result<Refusal, LineFault>
+fn child_from(alloc: Global, value: &JsonValue<'_>, is_needed: bool) -> Result<Refusal, LineFault>
     ensures gives { Gives result (child_from is_needed (view value.now)) }
     ensures printable { IfOk result (λ r. IsPrintableCause r.exception.cause) }
 {
@@ -155,7 +154,7 @@ fn child_from(alloc: Global, value: &Value, is_needed: bool) -> Result<Refusal, 
 }
 
 /// The error that an object names.
-fn error_in(value: &Value) -> Option<ErrorName>
+fn error_in(value: &JsonValue<'_>) -> Option<ErrorName>
     ensures { result ≡ error_in (view value.now) }
 {
     error_from(at(value, Key::ErrorId)?)
@@ -164,7 +163,7 @@ fn error_in(value: &Value) -> Option<ErrorName>
 /// By the error that is named, which says which further keys there are.
 fn refused_by(
     alloc: Global,
-    value: &Value,
+    value: &JsonValue<'_>,
     is_needed: bool,
     error: Option<ErrorName>,
 ) -> Result<Refusal, LineFault>
@@ -179,7 +178,7 @@ fn refused_by(
 }
 
 #[tactic(auto, unfolding(crate::specs::Answers::refused_from))]
-fn refused_from(alloc: Global, value: &Value, is_needed: bool) -> Result<Refusal, LineFault>
+fn refused_from(alloc: Global, value: &JsonValue<'_>, is_needed: bool) -> Result<Refusal, LineFault>
     ensures gives { Gives result (refused_from is_needed (view value.now)) }
     ensures printable { IfOk result (λ r. IsPrintableCause r.exception.cause) }
 {
@@ -197,7 +196,7 @@ fn named(connection: &Option<Id>) -> Result<Id, LineFault>
 }
 
 #[tactic(auto, unfolding(crate::specs::Answers::failed_from))]
-pub fn failed_from(alloc: Global, value: &Value) -> Result<Message, LineFault>
+pub fn failed_from(alloc: Global, value: &JsonValue<'_>) -> Result<Message, LineFault>
     ensures gives { Gives result (failed_from (view value.now)) }
     ensures printable { IfOk result IsPrintable }
 {
@@ -212,7 +211,7 @@ pub fn failed_from(alloc: Global, value: &Value) -> Result<Message, LineFault>
 }
 
 #[tactic(auto, unfolding(crate::specs::Answers::commit_failed_from))]
-pub fn commit_failed_from(alloc: Global, value: &Value) -> Result<Message, LineFault>
+pub fn commit_failed_from(alloc: Global, value: &JsonValue<'_>) -> Result<Message, LineFault>
     ensures gives { Gives result (commit_failed_from (view value.now)) }
     ensures printable { IfOk result IsPrintable }
 {
@@ -227,7 +226,7 @@ pub fn commit_failed_from(alloc: Global, value: &Value) -> Result<Message, LineF
 }
 
 #[tactic(auto, unfolding(crate::specs::Answers::error_message_from))]
-pub fn error_message_from(alloc: Global, value: &Value) -> Result<Message, LineFault>
+pub fn error_message_from(alloc: Global, value: &JsonValue<'_>) -> Result<Message, LineFault>
     ensures gives { Gives result (error_message_from (view value.now)) }
     ensures printable { IfOk result IsPrintable }
 {

@@ -1,7 +1,7 @@
 //! What says a connection and nothing else, key by key in byte order.
 
 ghost use Rattle.std.specs.Prelude.{IfOk};
-ghost use Rattle.serde_json.specs.View.{view};
+ghost use Rattle.json_fields.specs.Values.{view};
 ghost use Rattle.nsi_primitive.specs.Printable.{IsPrintable};
 ghost use Rattle.json_fields.specs.Faults.{Gives};
 ghost use Rattle.nsi_primitive.specs.declared.message.Body.{Body};
@@ -9,14 +9,13 @@ ghost use Rattle.json_primitives.specs.Connected.{connected_from, about};
 
 use crate::reading::headers::header_from;
 use json_fields::reading::required_id;
-use json_fields::{Key, LineFault};
+use json_fields::{JsonValue, Key, LineFault};
 use nsi_primitive::{Body, Header, Id, Message};
-use serde_json::Value;
 use std::alloc::Global;
 
 /// The connection and the header.
 #[tactic(auto, unfolding(crate::specs::Connected::connected_from))]
-fn connected_from(alloc: Global, value: &Value) -> Result<(Id, Header), LineFault>
+fn connected_from(alloc: Global, value: &JsonValue<'_>) -> Result<(Id, Header), LineFault>
     ensures { Gives result (connected_from (view value.now)) }
 {
     let connection = required_id(value, Key::ConnectionId)?;
@@ -26,7 +25,7 @@ fn connected_from(alloc: Global, value: &Value) -> Result<(Id, Header), LineFaul
 }
 
 #[tactic(auto, unfolding(crate::specs::Connected::about))]
-pub fn response_from(alloc: Global, value: &Value) -> Result<Message, LineFault>
+pub fn response_from(alloc: Global, value: &JsonValue<'_>) -> Result<Message, LineFault>
     ensures gives { Gives result (about Body.ReserveResponse (view value.now)) }
     ensures printable { IfOk result IsPrintable }
 {
@@ -36,7 +35,7 @@ pub fn response_from(alloc: Global, value: &Value) -> Result<Message, LineFault>
 }
 
 #[tactic(auto, unfolding(crate::specs::Connected::about))]
-pub fn commit_from(alloc: Global, value: &Value) -> Result<Message, LineFault>
+pub fn commit_from(alloc: Global, value: &JsonValue<'_>) -> Result<Message, LineFault>
     ensures gives { Gives result (about Body.ReserveCommit (view value.now)) }
     ensures printable { IfOk result IsPrintable }
 {
@@ -46,7 +45,7 @@ pub fn commit_from(alloc: Global, value: &Value) -> Result<Message, LineFault>
 }
 
 #[tactic(auto, unfolding(crate::specs::Connected::about))]
-pub fn commit_confirmation_from(alloc: Global, value: &Value) -> Result<Message, LineFault>
+pub fn commit_confirmation_from(alloc: Global, value: &JsonValue<'_>) -> Result<Message, LineFault>
     ensures gives { Gives result (about Body.ReserveCommitConfirmed (view value.now)) }
     ensures printable { IfOk result IsPrintable }
 {
@@ -56,7 +55,7 @@ pub fn commit_confirmation_from(alloc: Global, value: &Value) -> Result<Message,
 }
 
 #[tactic(auto, unfolding(crate::specs::Connected::about))]
-pub fn abort_from(alloc: Global, value: &Value) -> Result<Message, LineFault>
+pub fn abort_from(alloc: Global, value: &JsonValue<'_>) -> Result<Message, LineFault>
     ensures gives { Gives result (about Body.ReserveAbort (view value.now)) }
     ensures printable { IfOk result IsPrintable }
 {
@@ -66,7 +65,7 @@ pub fn abort_from(alloc: Global, value: &Value) -> Result<Message, LineFault>
 }
 
 #[tactic(auto, unfolding(crate::specs::Connected::about))]
-pub fn abort_confirmation_from(alloc: Global, value: &Value) -> Result<Message, LineFault>
+pub fn abort_confirmation_from(alloc: Global, value: &JsonValue<'_>) -> Result<Message, LineFault>
     ensures gives { Gives result (about Body.ReserveAbortConfirmed (view value.now)) }
     ensures printable { IfOk result IsPrintable }
 {
@@ -76,7 +75,7 @@ pub fn abort_confirmation_from(alloc: Global, value: &Value) -> Result<Message, 
 }
 
 #[tactic(auto, unfolding(crate::specs::Connected::about))]
-pub fn provision_from(alloc: Global, value: &Value) -> Result<Message, LineFault>
+pub fn provision_from(alloc: Global, value: &JsonValue<'_>) -> Result<Message, LineFault>
     ensures gives { Gives result (about Body.Provision (view value.now)) }
     ensures printable { IfOk result IsPrintable }
 {
@@ -86,7 +85,10 @@ pub fn provision_from(alloc: Global, value: &Value) -> Result<Message, LineFault
 }
 
 #[tactic(auto, unfolding(crate::specs::Connected::about))]
-pub fn provision_confirmation_from(alloc: Global, value: &Value) -> Result<Message, LineFault>
+pub fn provision_confirmation_from(
+    alloc: Global,
+    value: &JsonValue<'_>,
+) -> Result<Message, LineFault>
     ensures gives { Gives result (about Body.ProvisionConfirmed (view value.now)) }
     ensures printable { IfOk result IsPrintable }
 {
@@ -96,7 +98,7 @@ pub fn provision_confirmation_from(alloc: Global, value: &Value) -> Result<Messa
 }
 
 #[tactic(auto, unfolding(crate::specs::Connected::about))]
-pub fn release_from(alloc: Global, value: &Value) -> Result<Message, LineFault>
+pub fn release_from(alloc: Global, value: &JsonValue<'_>) -> Result<Message, LineFault>
     ensures gives { Gives result (about Body.Release (view value.now)) }
     ensures printable { IfOk result IsPrintable }
 {
@@ -106,7 +108,7 @@ pub fn release_from(alloc: Global, value: &Value) -> Result<Message, LineFault>
 }
 
 #[tactic(auto, unfolding(crate::specs::Connected::about))]
-pub fn release_confirmation_from(alloc: Global, value: &Value) -> Result<Message, LineFault>
+pub fn release_confirmation_from(alloc: Global, value: &JsonValue<'_>) -> Result<Message, LineFault>
     ensures gives { Gives result (about Body.ReleaseConfirmed (view value.now)) }
     ensures printable { IfOk result IsPrintable }
 {
@@ -116,7 +118,7 @@ pub fn release_confirmation_from(alloc: Global, value: &Value) -> Result<Message
 }
 
 #[tactic(auto, unfolding(crate::specs::Connected::about))]
-pub fn terminate_from(alloc: Global, value: &Value) -> Result<Message, LineFault>
+pub fn terminate_from(alloc: Global, value: &JsonValue<'_>) -> Result<Message, LineFault>
     ensures gives { Gives result (about Body.Terminate (view value.now)) }
     ensures printable { IfOk result IsPrintable }
 {
@@ -126,7 +128,10 @@ pub fn terminate_from(alloc: Global, value: &Value) -> Result<Message, LineFault
 }
 
 #[tactic(auto, unfolding(crate::specs::Connected::about))]
-pub fn terminate_confirmation_from(alloc: Global, value: &Value) -> Result<Message, LineFault>
+pub fn terminate_confirmation_from(
+    alloc: Global,
+    value: &JsonValue<'_>,
+) -> Result<Message, LineFault>
     ensures gives { Gives result (about Body.TerminateConfirmed (view value.now)) }
     ensures printable { IfOk result IsPrintable }
 {
@@ -136,7 +141,7 @@ pub fn terminate_confirmation_from(alloc: Global, value: &Value) -> Result<Messa
 }
 
 #[tactic(auto, unfolding(crate::specs::Connected::about))]
-pub fn recursive_from(alloc: Global, value: &Value) -> Result<Message, LineFault>
+pub fn recursive_from(alloc: Global, value: &JsonValue<'_>) -> Result<Message, LineFault>
     ensures gives { Gives result (about Body.QueryRecursive (view value.now)) }
     ensures printable { IfOk result IsPrintable }
 {

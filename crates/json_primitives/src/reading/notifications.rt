@@ -1,7 +1,7 @@
 //! The notifications, key by key in byte order.
 
 ghost use Rattle.std.specs.Prelude.{IfOk};
-ghost use Rattle.serde_json.specs.View.{view};
+ghost use Rattle.json_fields.specs.Values.{view};
 ghost use Rattle.nsi_primitive.specs.Printable.{IsPrintable};
 ghost use Rattle.json_fields.specs.Faults.{Gives};
 ghost use Rattle.json_primitives.specs.Notifications.{timeout_from, fault_from, plane_from, delivery_from};
@@ -11,13 +11,12 @@ use json_fields::reading::{
     required_count, required_event, required_flag, required_hold, required_id, required_name,
     required_second, required_version,
 };
-use json_fields::{Key, LineFault};
+use json_fields::{JsonValue, Key, LineFault};
 use nsi_primitive::{Body, DeliveryTimeout, FaultNotice, HoldTimeout, Message, PlaneNotice};
-use serde_json::Value;
 use std::alloc::Global;
 
 #[tactic(auto, unfolding(crate::specs::Notifications::timeout_from))]
-pub fn timeout_from(alloc: Global, value: &Value) -> Result<Message, LineFault>
+pub fn timeout_from(alloc: Global, value: &JsonValue<'_>) -> Result<Message, LineFault>
     ensures gives { Gives result (timeout_from (view value.now)) }
     ensures printable { IfOk result IsPrintable }
 {
@@ -41,7 +40,7 @@ pub fn timeout_from(alloc: Global, value: &Value) -> Result<Message, LineFault>
 }
 
 #[tactic(auto, unfolding(crate::specs::Notifications::fault_from))]
-pub fn fault_from(alloc: Global, value: &Value) -> Result<Message, LineFault>
+pub fn fault_from(alloc: Global, value: &JsonValue<'_>) -> Result<Message, LineFault>
     ensures gives { Gives result (fault_from (view value.now)) }
     ensures printable { IfOk result IsPrintable }
 {
@@ -65,7 +64,7 @@ pub fn fault_from(alloc: Global, value: &Value) -> Result<Message, LineFault>
 }
 
 #[tactic(auto, unfolding(crate::specs::Notifications::plane_from))]
-pub fn plane_from(alloc: Global, value: &Value) -> Result<Message, LineFault>
+pub fn plane_from(alloc: Global, value: &JsonValue<'_>) -> Result<Message, LineFault>
     ensures gives { Gives result (plane_from (view value.now)) }
     ensures printable { IfOk result IsPrintable }
 {
@@ -89,7 +88,7 @@ pub fn plane_from(alloc: Global, value: &Value) -> Result<Message, LineFault>
 }
 
 #[tactic(auto, unfolding(crate::specs::Notifications::delivery_from))]
-pub fn delivery_from(alloc: Global, value: &Value) -> Result<Message, LineFault>
+pub fn delivery_from(alloc: Global, value: &JsonValue<'_>) -> Result<Message, LineFault>
     ensures gives { Gives result (delivery_from (view value.now)) }
     ensures printable { IfOk result IsPrintable }
 {

@@ -1,21 +1,20 @@
 //! The queries, key by key in byte order.
 
 ghost use Rattle.std.specs.Prelude.{IfOk};
-ghost use Rattle.serde_json.specs.View.{view};
+ghost use Rattle.json_fields.specs.Values.{view};
 ghost use Rattle.nsi_primitive.specs.Printable.{IsPrintable};
 ghost use Rattle.json_fields.specs.Faults.{Gives};
 ghost use Rattle.json_primitives.specs.Queries.{summary_from, ranged_from, notifications_from, results_from};
 
 use crate::reading::headers::header_from;
 use json_fields::reading::{optional_count, optional_id, required_id};
-use json_fields::{Key, LineFault};
+use json_fields::{JsonValue, Key, LineFault};
 use nsi_primitive::{Body, Header, Message, NumberRange};
-use serde_json::Value;
 use std::alloc::Global;
 
 /// Of one connection, or of all.
 #[tactic(auto, unfolding(crate::specs::Queries::summary_from))]
-pub fn summary_from(alloc: Global, value: &Value) -> Result<Message, LineFault>
+pub fn summary_from(alloc: Global, value: &JsonValue<'_>) -> Result<Message, LineFault>
     ensures gives { Gives result (summary_from (view value.now)) }
     ensures printable { IfOk result IsPrintable }
 {
@@ -27,7 +26,7 @@ pub fn summary_from(alloc: Global, value: &Value) -> Result<Message, LineFault>
 }
 
 #[tactic(auto, unfolding(crate::specs::Queries::notifications_from))]
-pub fn notifications_from(alloc: Global, value: &Value) -> Result<Message, LineFault>
+pub fn notifications_from(alloc: Global, value: &JsonValue<'_>) -> Result<Message, LineFault>
     ensures gives { Gives result (notifications_from (view value.now)) }
     ensures printable { IfOk result IsPrintable }
 {
@@ -42,7 +41,7 @@ pub fn notifications_from(alloc: Global, value: &Value) -> Result<Message, LineF
 }
 
 #[tactic(auto, unfolding(crate::specs::Queries::results_from))]
-pub fn results_from(alloc: Global, value: &Value) -> Result<Message, LineFault>
+pub fn results_from(alloc: Global, value: &JsonValue<'_>) -> Result<Message, LineFault>
     ensures gives { Gives result (results_from (view value.now)) }
     ensures printable { IfOk result IsPrintable }
 {
@@ -55,7 +54,7 @@ pub fn results_from(alloc: Global, value: &Value) -> Result<Message, LineFault>
 #[tactic(auto, unfolding(crate::specs::Queries::ranged_from))]
 fn ranged_from(
     alloc: Global,
-    value: &Value,
+    value: &JsonValue<'_>,
     end_key: Key,
     start_key: Key,
 ) -> Result<(NumberRange, Header), LineFault>

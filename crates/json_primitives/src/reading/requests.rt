@@ -1,7 +1,7 @@
 //! The reserve, key by key in byte order.
 
 ghost use Rattle.std.specs.Prelude.{◌≡◌, false, IfOk, IfNone, IsSome};
-ghost use Rattle.serde_json.specs.View.{view};
+ghost use Rattle.json_fields.specs.Values.{view};
 ghost use Rattle.nsi_primitive.specs.Printable.{IsPrintable, AreApart};
 ghost use Rattle.json_fields.specs.Faults.{Gives};
 ghost use Rattle.json_primitives.specs.Requests.{reserve_from, point_from, is_one_point};
@@ -12,15 +12,14 @@ use json_fields::reading::{
     optional_text, optional_version, required_capacity, required_id, required_name, required_time,
 };
 use json_fields::row_fields::optional_time;
-use json_fields::{Key, LineFault};
+use json_fields::{JsonValue, Key, LineFault};
 use nsi_base::Name;
 use nsi_primitive::{Body, Id, Message, ReserveRequest};
-use serde_json::Value;
 use std::alloc::Global;
 
 /// A first reserve, or with a connection a modification.
 #[tactic(auto, unfolding(crate::specs::Requests::reserve_from))]
-pub fn reserve_from(alloc: Global, value: &Value) -> Result<Message, LineFault>
+pub fn reserve_from(alloc: Global, value: &JsonValue<'_>) -> Result<Message, LineFault>
     ensures gives { Gives result (reserve_from (view value.now)) }
     ensures printable { IfOk result IsPrintable }
 {
@@ -60,7 +59,7 @@ pub fn reserve_from(alloc: Global, value: &Value) -> Result<Message, LineFault>
 /// A point, which a reserve has to name where it names no connection.
 fn point_from(
     alloc: Global,
-    value: &Value,
+    value: &JsonValue<'_>,
     key: Key,
     connection: &Option<Id>,
 ) -> Result<Option<Name>, LineFault>

@@ -2,7 +2,7 @@
 
 ghost use Rattle.std.specs.Prelude.{IfOk};
 ghost use Rattle.std.specs.List.{All};
-ghost use Rattle.serde_json.specs.View.{view, items_view};
+ghost use Rattle.json_fields.specs.Values.{view, items_view};
 ghost use Rattle.nsi_primitive.specs.Printable.{IsPrintable, IsShort};
 ghost use Rattle.json_fields.specs.Faults.{Gives};
 ghost use Rattle.json_fields.specs.Fields.{formed};
@@ -18,15 +18,14 @@ use json_fields::row_fields::{
     list_fault, optional_capacity, optional_time, required_depth, required_items, required_lsm,
     required_psm, required_rsm,
 };
-use json_fields::{Key, LineFault};
+use json_fields::{JsonValue, Key, LineFault};
 use nsi_base::List;
 use nsi_primitive::{Body, Message, Notice, Outcome, RecursiveRow, SummaryRow};
-use serde_json::Value;
 use std::alloc::Global;
 
 /// The answer to a querySummary.
 #[tactic(auto, unfolding(crate::specs::RowLines::summary_rows_from))]
-pub fn summary_rows_from(alloc: Global, value: &Value) -> Result<Message, LineFault>
+pub fn summary_rows_from(alloc: Global, value: &JsonValue<'_>) -> Result<Message, LineFault>
     ensures gives { Gives result (summary_rows_from (view value.now)) }
     ensures printable { IfOk result IsPrintable }
 {
@@ -44,7 +43,7 @@ pub fn summary_rows_from(alloc: Global, value: &Value) -> Result<Message, LineFa
 
 /// The answer to a queryRecursive.
 #[tactic(auto, unfolding(crate::specs::RowLines::recursive_rows_from))]
-pub fn recursive_rows_from(alloc: Global, value: &Value) -> Result<Message, LineFault>
+pub fn recursive_rows_from(alloc: Global, value: &JsonValue<'_>) -> Result<Message, LineFault>
     ensures gives { Gives result (recursive_rows_from (view value.now)) }
     ensures printable { IfOk result IsPrintable }
 {
@@ -64,7 +63,7 @@ pub fn recursive_rows_from(alloc: Global, value: &Value) -> Result<Message, Line
 
 /// The answer to a queryNotification.
 #[tactic(auto, unfolding(crate::specs::RowLines::notice_rows_from))]
-pub fn notice_rows_from(alloc: Global, value: &Value) -> Result<Message, LineFault>
+pub fn notice_rows_from(alloc: Global, value: &JsonValue<'_>) -> Result<Message, LineFault>
     ensures gives { Gives result (notice_rows_from (view value.now)) }
     ensures printable { IfOk result IsPrintable }
 {
@@ -84,7 +83,7 @@ pub fn notice_rows_from(alloc: Global, value: &Value) -> Result<Message, LineFau
 
 /// The answer to a queryResult.
 #[tactic(auto, unfolding(crate::specs::RowLines::outcome_rows_from))]
-pub fn outcome_rows_from(alloc: Global, value: &Value) -> Result<Message, LineFault>
+pub fn outcome_rows_from(alloc: Global, value: &JsonValue<'_>) -> Result<Message, LineFault>
     ensures gives { Gives result (outcome_rows_from (view value.now)) }
     ensures printable { IfOk result IsPrintable }
 {
@@ -103,7 +102,7 @@ pub fn outcome_rows_from(alloc: Global, value: &Value) -> Result<Message, LineFa
 }
 
 /// The rows of a list: one that isn't of its form makes the whole list bad.
-fn summary_rows(alloc: Global, items: &[Value]) -> Result<List<SummaryRow>, LineFault>
+fn summary_rows(alloc: Global, items: &[JsonValue<'_>]) -> Result<List<SummaryRow>, LineFault>
     ensures gives { Gives result
         (formed Key.Reservations (each_from summary_row_from (items_view items.now))) }
     ensures short { IfOk result (λ rows.
@@ -123,7 +122,7 @@ fn summary_rows(alloc: Global, items: &[Value]) -> Result<List<SummaryRow>, Line
 }
 
 /// The rows of a list: one that isn't of its form makes the whole list bad.
-fn recursive_rows(alloc: Global, items: &[Value]) -> Result<List<RecursiveRow>, LineFault>
+fn recursive_rows(alloc: Global, items: &[JsonValue<'_>]) -> Result<List<RecursiveRow>, LineFault>
     ensures gives { Gives result
         (formed Key.Reservations (each_from recursive_row_from (items_view items.now))) }
 {
@@ -141,7 +140,7 @@ fn recursive_rows(alloc: Global, items: &[Value]) -> Result<List<RecursiveRow>, 
 }
 
 /// The rows of a list: one that isn't of its form makes the whole list bad.
-fn notices(alloc: Global, items: &[Value]) -> Result<List<Notice>, LineFault>
+fn notices(alloc: Global, items: &[JsonValue<'_>]) -> Result<List<Notice>, LineFault>
     ensures gives { Gives result
         (formed Key.Notifications (each_from notice_from (items_view items.now))) }
 {
@@ -159,7 +158,7 @@ fn notices(alloc: Global, items: &[Value]) -> Result<List<Notice>, LineFault>
 }
 
 /// The rows of a list: one that isn't of its form makes the whole list bad.
-fn outcomes(alloc: Global, items: &[Value]) -> Result<List<Outcome>, LineFault>
+fn outcomes(alloc: Global, items: &[JsonValue<'_>]) -> Result<List<Outcome>, LineFault>
     ensures gives { Gives result
         (formed Key.Results (each_from outcome_from (items_view items.now))) }
 {
@@ -177,7 +176,7 @@ fn outcomes(alloc: Global, items: &[Value]) -> Result<List<Outcome>, LineFault>
 }
 
 #[tactic(auto, unfolding(crate::specs::RowLines::summary_row_from))]
-fn summary_row_from(alloc: Global, value: &Value) -> Result<SummaryRow, LineFault>
+fn summary_row_from(alloc: Global, value: &JsonValue<'_>) -> Result<SummaryRow, LineFault>
     ensures gives { Gives result (summary_row_from (view value.now)) }
     ensures short { IfOk result (λ r. IsShort 256 r.description × IsShort 128 r.global) }
 {
@@ -214,7 +213,7 @@ fn summary_row_from(alloc: Global, value: &Value) -> Result<SummaryRow, LineFaul
 }
 
 #[tactic(auto, unfolding(crate::specs::RowLines::recursive_row_from))]
-fn recursive_row_from(alloc: Global, value: &Value) -> Result<RecursiveRow, LineFault>
+fn recursive_row_from(alloc: Global, value: &JsonValue<'_>) -> Result<RecursiveRow, LineFault>
     ensures { Gives result (recursive_row_from (view value.now)) }
 {
     let connection = required_id(value, Key::ConnectionId)?;
@@ -236,7 +235,7 @@ fn recursive_row_from(alloc: Global, value: &Value) -> Result<RecursiveRow, Line
 }
 
 #[tactic(auto, unfolding(crate::specs::RowLines::notice_from))]
-fn notice_from(value: &Value) -> Result<Notice, LineFault>
+fn notice_from(value: &JsonValue<'_>) -> Result<Notice, LineFault>
     ensures { Gives result (notice_from (view value.now)) }
 {
     let correlation = required_id(value, Key::CorrelationId)?;
@@ -252,7 +251,7 @@ fn notice_from(value: &Value) -> Result<Notice, LineFault>
 }
 
 #[tactic(auto, unfolding(crate::specs::RowLines::outcome_from))]
-fn outcome_from(value: &Value) -> Result<Outcome, LineFault>
+fn outcome_from(value: &JsonValue<'_>) -> Result<Outcome, LineFault>
     ensures { Gives result (outcome_from (view value.now)) }
 {
     let correlation = required_id(value, Key::CorrelationId)?;

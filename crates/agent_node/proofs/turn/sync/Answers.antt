@@ -7,8 +7,8 @@ use Rattle.agent_node.proofs.Making.{made_none, made_long, made_failed, made_syn
 use Rattle.agent_node.proofs.Stopping.{IsCut, is_cut, counted_more, counted_as}
 use Rattle.agent_node.proofs.turn.sync.Goals as goal
 
-pub returns-then-is_empty-clause-made : goal.returns-then-is_empty-clause-made
-returns-then-is_empty-clause-made g c =
+pub returns-then-len-eq0-clause-made : goal.returns-then-is_empty-clause-made
+returns-then-len-eq0-clause-made g c =
     let s = c.args.core.now.seat in
     let none : (length s.fresh == 0) ≡ true = search rules in
     made_none c.args.room c.args.core.now (g.J.Journal.meter c.args.journal.now) (g.J.Journal.kept c.args.journal.now) (no_entries s.fresh none) (g.met.J.Journal.none_waits c.args.journal.now c.requires.none)

@@ -3,7 +3,7 @@ use Rattle.std.proofs.lemmas.List.{drop_all}
 use Rattle.provider_agent.specs.Setting.{own_stp}
 use Rattle.provider_agent.specs.State.{Standing}
 use Rattle.provider_run.proofs.UnderWay.{standing_is}
-use Rattle.provide_command.proofs.Batches.{drop_is, replayed_more, none_left}
+use Rattle.provide_command.proofs.Replayed.{drop_is, replayed_more, none_left}
 use Rattle.provide_command.proofs.Serves.{taken_one}
 use Rattle.provide_command.proofs.replay.replay.Goals as goal
 

@@ -1,11 +1,5 @@
-use Rattle.disk_journal.proofs.Ready.{crash_still, crash_held}
+use Rattle.disk_journal.proofs.Ready.{crash_held}
 use Rattle.disk_journal.proofs.journal.DiskJournalJournal.append.Goals as goal
-
-pub returns-in_err-payload-clause-any_moment : goal.returns-in_err-payload-clause-any_moment
-returns-in_err-payload-clause-any_moment g c =
-    let j = c.args.self.now in
-    let o = g.D.Disk.history j.batches.disk in
-    crash_held o o j.batches.gate j.batches.next j.count j.more c.requires.ready.1 (crash_still o (g.D.Disk.meter j.batches.disk) j.batches.gate j.batches.next j.batches.longest c.requires.ready.0)
 
 pub returns-in_err-hold-clause-any_moment : goal.returns-in_err-hold-clause-any_moment
 returns-in_err-hold-clause-any_moment g c =

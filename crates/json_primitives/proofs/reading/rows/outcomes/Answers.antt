@@ -1,5 +1,5 @@
 use Rattle.std.proofs.Common.{arith}
-use Rattle.serde_json.specs.View.{items_view}
+use Rattle.json_fields.specs.Values.{items_view}
 use Rattle.json_fields.specs.RowFields.{each_from}
 use Rattle.json_fields.specs.declared.key.Key.{Key}
 use Rattle.json_primitives.specs.RowLines.{outcome_from}

@@ -3,7 +3,7 @@ use Rattle.std.proofs.lemmas.List.Elements.{All-push}
 use Rattle.std.specs.List.{All}
 use Rattle.nsi_primitive.specs.Printable.{IsShort}
 use Rattle.nsi_primitive.specs.declared.message.SummaryRow.{SummaryRow}
-use Rattle.serde_json.specs.View.{items_view}
+use Rattle.json_fields.specs.Values.{items_view}
 use Rattle.json_fields.specs.RowFields.{each_from}
 use Rattle.json_fields.specs.declared.key.Key.{Key}
 use Rattle.json_primitives.specs.RowLines.{summary_row_from}

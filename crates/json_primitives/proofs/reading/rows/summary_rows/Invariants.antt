@@ -1,7 +1,7 @@
 use Rattle.std.proofs.Common.{◌≡◌, drop}
 use Rattle.std.specs.List.{All}
 use Rattle.nsi_primitive.specs.Printable.{IsShort}
-use Rattle.serde_json.specs.View.{items_view}
+use Rattle.json_fields.specs.Values.{items_view}
 use Rattle.json_fields.specs.RowFields.{each_from}
 use Rattle.json_primitives.specs.RowLines.{summary_row_from}
 use Rattle.json_primitives.proofs.RowLoops.{onto}
