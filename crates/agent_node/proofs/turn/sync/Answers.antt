@@ -7,7 +7,7 @@ use Rattle.agent_node.proofs.Making.{made_none, made_long, made_failed, made_syn
 use Rattle.agent_node.proofs.Stopping.{IsCut, is_cut, counted_more, counted_as}
 use Rattle.agent_node.proofs.turn.sync.Goals as goal
 
-pub returns-then-len-eq0-clause-made : goal.returns-then-is_empty-clause-made
+pub returns-then-len-eq0-clause-made : goal.returns-then-len-eq0-clause-made
 returns-then-len-eq0-clause-made g c =
     let s = c.args.core.now.seat in
     let none : (length s.fresh == 0) ≡ true = search rules in
