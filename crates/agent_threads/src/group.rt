@@ -79,7 +79,8 @@ fn drain_one<'t, J: Journal + Drop>(
     ensures printable { OnOk result (All IsPrintableEvent events.new.items) }
     ensures agent { IsUnstopped node.old node.new }
 {
-    node.move_events(events)
+    node.move_events(events)?;
+    Ok(())
 }
 
 /// Takes away what has happened, in the agents' order.
